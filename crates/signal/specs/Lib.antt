@@ -1,0 +1,4 @@
+pub mod Signal
+pub mod Payload
+pub mod Twos
+pub mod Raw
