@@ -7,7 +7,7 @@ use native.Mathlib.Nat.{mul-suc, add-comm, div-add-mod', mod-lt, div-one, zero-l
 use native.Mathlib.Omega.{arith}
 use lib.Arith.{digits-lt, digits-div, digits-mod, lt-one}
 use lib.ListN.{length, getD, drop, set}
-use lib.Seq.{drop-cons, set-at, append-snoc}
+use lib.Seq.{drop-cons, drop-length, set-at, append-snoc}
 use lib.Bits.{bitOr, or-shifted}
 use lib.Pow.{pow-pos, pow-add, shr-lt, shr-shr, shl-exact}
 use Rattle.signal.specs.Payload.{numberOf, bytesOf, Bytes}
@@ -59,7 +59,7 @@ bytes-snoc (suc k) n =
     ∙ ap (λ (x : ℕ). bytesOf k (n / 256) ++ (x % 256 ∷ []))
     (shr-shr n 8 (8 * k) ∙ ap (λ (x : ℕ). n / 2 ^ x) (add-comm 8 (8 * k) ∙ sym (mul-suc 8 k))))
 
--- a turn of `store_number`
+-- a turn of `store`
 pub stored-more : (buf : List ℕ) (n i : ℕ) → i < length buf
     → set (bytesOf i n ++ drop i buf) i (n / 2 ^ (8 * i) % 256) ≡ bytesOf (suc i) n ++ drop (suc i) buf
 stored-more buf n i h =
@@ -68,10 +68,15 @@ stored-more buf n i h =
     ∙ sym (append-snoc (bytesOf i n) (n / 2 ^ (8 * i) % 256) (drop (suc i) buf))
     ∙ ap (λ (l : List ℕ). l ++ drop (suc i) buf) (sym (bytes-snoc i n))
 
--- a turn of `payload_number`: the bytes from i on make a number of k bytes more than those from i + 1 on
+-- n is the number of the bytes from i on, and a number of as many bytes
 abbrev pub Gathered : List ℕ → ℕ → ℕ → Type 0
 Gathered bs i n = (n ≡ numberOf (drop i bs)) × (n < 2 ^ (8 * (length bs - i)))
 
+pub gathered-none : (bs : List ℕ) → Gathered bs (length bs) 0
+unfolding numberOf
+gathered-none bs = (sym (ap numberOf (drop-length bs)), pow-pos (8 * (length bs - length bs)))
+
+-- a turn of `number`
 pub gathered-more : (bs : List ℕ) (i n : ℕ) → i < length bs → length bs ≤ 8 → getD bs i 0 < 256 → Gathered bs (suc i) n
     → Gathered bs i (bitOr (n * 2 ^ 8 % 2 ^ 64) (getD bs i 0))
 unfolding numberOf

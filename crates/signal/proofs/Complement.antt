@@ -1,19 +1,19 @@
--- The laws of two's complement in w bits, and what the code of `size`, `signed` and `unsigned` computes.
+-- The laws of two's complement in w bits, and what the code of `size`, `to_signed`, `of_signed` and `fits` computes.
 -- Assumes nothing.
 use mathlib.Core.Path.{_≡_, refl, sym, ap, _∙_, subst}
-use mathlib.Core.Bool.{Bool, true, false, cond}
+use mathlib.Core.Bool.{Bool, true, false, cond, not}
 use mathlib.Core.Logic.{_⊎_, inl, inr}
-use Prim.Native.Nat.{ℕ, zero, suc, _+_, _-_, _*_, _/_, _%_, _^_, _≤_, _<_}
-use native.Mathlib.Nat.{two-pow-succ, div-lt-iff-lt-mul, one-mul, lt-of-lt-of-le}
+use Prim.Native.Nat.{ℕ, suc, _+_, _-_, _/_, _^_, _≤_, _<_}
+use native.Mathlib.Nat.{two-pow-succ, div-lt-iff-lt-mul, div-eq-of-lt, one-mul, lt-of-lt-of-le}
 use native.Mathlib.Omega.{arith}
 use lib.IntN.{ℤ, pos, negsuc, subℕ}
-use lib.Signed.{mag, ltZ}
-use lib.Dec.{ltb}
+use lib.Signed.{mag, nonNeg, ltZ}
+use lib.Dec.{eqb, ltb}
 use lib.Pow.{pow-pos, pow-mono}
-use borrow.Author.Tests.{lt-ltb, le-ltb, ltb-true, ltb-false}
+use borrow.Author.Tests.{lt-ltb, le-ltb, ltb-true, ltb-false, eq-eqb, ne-eqb}
 use mir.Syntax.{w64}
 use mir.Val.{toZ, ofZ, SFits}
-use mir.Facts.{toZ-pos, toZ-neg}
+use mir.Facts.{toZ-pos, toZ-ofZ}
 use Rattle.signal.specs.Twos.{toSigned, ofSigned, InSigned}
 
 pub halves : (w : ℕ) → 1 ≤ w → 2 ^ w ≡ 2 ^ (w - 1) + 2 ^ (w - 1)
@@ -94,24 +94,47 @@ shr-some-le v k ne = go (half-of (2 ^ k) v)
         absurd (ne (omega arith))
     go (inr l) = l
 
+-- the test whether it leaves nothing
+pub shr-test : (v k : ℕ) → eqb (v / 2 ^ k) 0 ≡ ltb v (2 ^ k)
+shr-test v k = go (half-of (2 ^ k) v)
+  where
+    go : (v < 2 ^ k) ⊎ (2 ^ k ≤ v) → eqb (v / 2 ^ k) 0 ≡ ltb v (2 ^ k)
+    go (inl l) = eq-eqb (v / 2 ^ k) 0 (div-eq-of-lt l) ∙ sym (lt-ltb v (2 ^ k) l)
+    go (inr l) = ne-eqb (v / 2 ^ k) 0 (λ e. let h : v < 2 ^ k = shr-zero-lt v k e in omega arith) ∙ sym (le-ltb v (2 ^ k) l)
+
 -- a half of w bits fits a half of 64
 pub half-64 : (w v : ℕ) → w ≤ 64 → v < 2 ^ (w - 1) → v < 2 ^ 63
 half-64 w v h l = lt-of-lt-of-le l (pow-mono {j = 63} (omega arith))
 
+-- the test `z < 0`
+sign : (z : ℤ) (b : Bool) → ltZ z (pos 0) ≡ b → nonNeg z ≡ not b
+sign (pos n) true e = let l : n < 0 = ltb-true n 0 e in absurd (omega arith)
+sign (pos n) false e = refl
+sign (negsuc n) true e = refl
+sign (negsuc n) false e = absurd (let z : _≡_ {A = ℕ} 0 1 = cc in omega arith)
+
+pub tested : (z : ℤ) (b : Bool) → SFits w64 z → ltZ (toZ w64 (ofZ w64 z)) (pos 0) ≡ b → nonNeg z ≡ not b
+tested z b f e = sign z b (sym (ap (λ (x : ℤ). ltZ x (pos 0)) (toZ-ofZ f)) ∙ e)
+
 -- `!z` of a negative z, and z of another
-pub negative-size : (z : ℤ) → SFits w64 z → ltZ (toZ w64 (ofZ w64 z)) (pos 0) ≡ true → toZ w64 ((2 ^ 64 - 1) - ofZ w64 z) ≡ pos (mag z)
-negative-size (pos n) f t =
-    let no : ltb n 0 ≡ true = sym (ap (λ (x : ℤ). ltZ x (pos 0)) (toZ-pos w64 (f .sfits))) ∙ t in
-    let l : n < 0 = ltb-true n 0 no in
-    absurd (omega arith)
+pub negative-size : (z : ℤ) → SFits w64 z → nonNeg z ≡ false → toZ w64 ((2 ^ 64 - 1) - ofZ w64 z) ≡ pos (mag z)
+negative-size (pos n) f t = absurd (let z : _≡_ {A = ℕ} 0 1 = cc in omega arith)
 negative-size (negsuc n) f t =
     let l : n < 2 ^ 63 = f .sfits in
     let e : (2 ^ 64 - 1) - (2 ^ 64 - suc n) ≡ n = omega arith in
     ap (toZ w64) e ∙ toZ-pos w64 l
 
-pub other-size : (z : ℤ) → SFits w64 z → ltZ (toZ w64 (ofZ w64 z)) (pos 0) ≡ false → toZ w64 (ofZ w64 z) ≡ pos (mag z)
+pub other-size : (z : ℤ) → SFits w64 z → nonNeg z ≡ true → toZ w64 (ofZ w64 z) ≡ pos (mag z)
 other-size (pos n) f t = toZ-pos w64 (f .sfits)
-other-size (negsuc n) f t =
-    let no : true ≡ false = sym (ap (λ (x : ℤ). ltZ x (pos 0)) (toZ-neg w64 n (f .sfits))) ∙ t in
-    let z : _≡_ {A = ℕ} 0 1 = cc in
-    absurd (omega arith)
+other-size (negsuc n) f t = absurd (let z : _≡_ {A = ℕ} 0 1 = cc in omega arith)
+
+-- the bits of a negative z, and those of another
+pub negative-bits : (w : ℕ) (z : ℤ) → nonNeg z ≡ false → 2 ^ w - 1 - mag z ≡ ofSigned w z
+unfolding ofSigned
+negative-bits w (pos n) t = absurd (let z : _≡_ {A = ℕ} 0 1 = cc in omega arith)
+negative-bits w (negsuc n) t = omega arith
+
+pub other-bits : (w : ℕ) (z : ℤ) → nonNeg z ≡ true → mag z ≡ ofSigned w z
+unfolding ofSigned
+other-bits w (pos n) t = refl
+other-bits w (negsuc n) t = absurd (let z : _≡_ {A = ℕ} 0 1 = cc in omega arith)

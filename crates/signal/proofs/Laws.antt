@@ -1,14 +1,18 @@
 -- The laws of a signal's getting and putting, once over start and width.
 -- Assumes nothing.
-use mathlib.Core.Path.{_≡_, refl, sym, ap, ap₂, _∙_, subst}
+use mathlib.Core.Path.{_≡_, sym, ap, ap₂, _∙_, subst}
+use mathlib.Core.Bool.{Bool, false, cond, _&&_}
 use mathlib.Core.Logic.{_⊎_, inl, inr}
 use Prim.Native.Nat.{ℕ, zero, suc, _+_, _-_, _*_, _/_, _%_, _^_, _≤_, _<_}
-use native.Mathlib.Nat.{mod-lt, mul-comm, mul-assoc, add-mul, add-comm, sub-add-cancel, add-sub-of-le, mod-eq-of-lt, lt-of-lt-of-le, le-refl, le-of-eq, le-trans}
+use native.Mathlib.Nat.{mod-lt, mul-comm, mul-assoc, add-mul, sub-add-cancel, add-sub-of-le, lt-of-lt-of-le, zero-div, zero-mod, div-eq-of-lt}
 use native.Mathlib.Numerals.{one-add}
 use native.Mathlib.Omega.{arith}
 use lib.Arith.{digits-lt, lt-one}
-use lib.Pow.{pow-pos, pow-add, shr-shr, shr-lt, split, high, low, field, mod-mod-pow, recompose}
-use Rattle.signal.specs.Signal.{getBits, putBits}
+use lib.Dec.{ltb}
+use lib.Pow.{pow-pos, pow-add, pow-mono, shr-shr, shr-lt, split, high, low, field, mod-mod-pow, recompose}
+use borrow.Author.Tests.{lt-ltb, le-ltb, le-leb, lt-leb}
+use Rattle.signal.specs.Signal.{getBits, putBits, covers}
+use Rattle.signal.proofs.Complement.{half-of}
 
 -- ---- what a getting looks at
 
@@ -30,6 +34,20 @@ get-of-mod n m s w h =
 pub get-of-div : (n k s w : ℕ) → getBits (n / 2 ^ k) s w ≡ getBits n (k + s) w
 unfolding getBits
 get-of-div n k s w = ap (λ (x : ℕ). x % 2 ^ w) (shr-shr n k s)
+
+-- a part of a part is a part of the whole
+pub get-get : (n s w s′ w′ : ℕ) → s′ + w′ ≤ w → getBits (getBits n s w) s′ w′ ≡ getBits n (s + s′) w′
+unfolding getBits
+get-get n s w s′ w′ h = get-of-mod (n / 2 ^ s) w s′ w′ h ∙ get-of-div n s s′ w′
+
+pub get-zero : (s w : ℕ) → getBits 0 s w ≡ 0
+unfolding getBits
+get-zero s w = ap (λ (x : ℕ). x % 2 ^ w) (zero-div (2 ^ s)) ∙ zero-mod (2 ^ w)
+
+-- above a number's own bits stands 0
+pub bit-out : (n k i : ℕ) → n < 2 ^ k → k ≤ i → getBits n i 1 ≡ 0
+unfolding getBits
+bit-out n k i h l = ap (λ (x : ℕ). x % 2 ^ 1) (div-eq-of-lt (lt-of-lt-of-le h (pow-mono l)))
 
 -- ---- what a putting leaves
 
@@ -112,3 +130,33 @@ same-bits (suc k) a b ha hb e =
     sym (recompose 1 k (subst (λ (x : ℕ). a < 2 ^ x) (sym (one-add k)) ha))
     ∙ ap₂ (λ (x y : ℕ). x * 2 ^ k + y) (e k (omega arith)) below
     ∙ recompose 1 k (subst (λ (x : ℕ). b < 2 ^ x) (sym (one-add k)) hb)
+
+-- ---- bit by bit
+
+-- the bit of a number with a signal put
+pub bit-put : (n s w v i : ℕ) → v < 2 ^ w → getBits (putBits n s w v) i 1 ≡ cond (covers s w i) (getBits v (i - s) 1) (getBits n i 1)
+bit-put n s w v i hv = from (half-of s i)
+  where
+    goal : Bool → Type 0
+    goal b = getBits (putBits n s w v) i 1 ≡ cond b (getBits v (i - s) 1) (getBits n i 1)
+
+    to : s ≤ i → (i < s + w) ⊎ (s + w ≤ i) → goal (covers s w i)
+    to h (inl l) =
+        let e : s + (i - s) ≡ i = omega arith in
+        subst goal (sym (ap₂ (λ (x y : Bool). x && y) (le-leb s i h) (lt-ltb i (s + w) l)))
+        (ap (λ (x : ℕ). getBits (putBits n s w v) x 1) (sym e)
+        ∙ sym (get-get (putBits n s w v) s w (i - s) 1 (omega arith))
+        ∙ ap (λ (x : ℕ). getBits x (i - s) 1) (get-put n s w v hv))
+    to h (inr l) =
+        subst goal (sym (ap₂ (λ (x y : Bool). x && y) (le-leb s i h) (le-ltb i (s + w) l)))
+        (get-put-apart n s w v i 1 hv (inr l))
+
+    from : (i < s) ⊎ (s ≤ i) → goal (covers s w i)
+    from (inl l) =
+        subst goal (sym (ap (λ (x : Bool). x && ltb i (s + w)) (lt-leb s i l)))
+        (get-put-apart n s w v i 1 hv (inl (omega arith)))
+    from (inr l) = to l (half-of (s + w) i)
+
+-- a bit that is not the signal's stays
+pub bit-kept : (n s w v i : ℕ) → v < 2 ^ w → covers s w i ≡ false → getBits (putBits n s w v) i 1 ≡ getBits n i 1
+bit-kept n s w v i hv e = bit-put n s w v i hv ∙ ap (λ (b : Bool). cond b (getBits v (i - s) 1) (getBits n i 1)) e

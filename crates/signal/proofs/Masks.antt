@@ -1,10 +1,10 @@
 -- What the shifts and masks of `mask`, `get` and `put` compute, in plain arithmetic.
 -- Assumes nothing.
-use mathlib.Core.Path.{_≡_, refl, sym, ap, ap₂, _∙_, subst}
-use Prim.Native.Nat.{ℕ, zero, suc, _+_, _-_, _*_, _/_, _%_, _^_, _≤_, _<_}
-use native.Mathlib.Nat.{mod-lt, zero-mul, zero-add, add-comm, sub-add-cancel, lt-of-lt-of-le, le-refl, le-add-left, add-assoc}
+use mathlib.Core.Path.{_≡_, sym, ap, ap₂, _∙_, subst}
+use Prim.Native.Nat.{ℕ, zero, _+_, _-_, _*_, _/_, _%_, _^_, _≤_, _<_}
+use native.Mathlib.Nat.{mod-lt, zero-mul, zero-add, add-comm, lt-of-lt-of-le, le-add-left, add-assoc}
 use native.Mathlib.Omega.{arith}
-use lib.Pow.{pow-pos, pow-add, pow-mono, shl-exact, shl-lt, shr-mod, split, high, low, mod-mod-pow, ones-lt, ones-split}
+use lib.Pow.{pow-pos, pow-mono, shl-exact, shl-lt, shr-mod, split, high, mod-mod-pow, ones-lt, ones-split}
 use lib.Bits.{bitAnd, bitOr, and-mask, and-block, or-block, or-zero-r, or-shifted-r}
 use Rattle.signal.specs.Signal.{getBits, putBits}
 

@@ -15,6 +15,10 @@ putBits n s w v = n / 2 ^ (s + w) * 2 ^ (s + w) + v * 2 ^ s + n % 2 ^ s
 abbrev pub inWord : ℕ → ℕ → Bool
 inWord s w = leb 1 w && leb (s + w) 64
 
+-- bit i is one of the signal's
+abbrev pub covers : ℕ → ℕ → ℕ → Bool
+covers s w i = leb s i && ltb i (s + w)
+
 -- ---- the answers of `get` and `put`, for every start and width
 
 -- a signal that lies outside has no bits

@@ -160,11 +160,7 @@ pub fn bits(z: i64, signed: bool, width: u32) -> u64
     if !fits(z, signed, width) {
         return 0;
     }
-    if signed {
-        of_signed(z, width)
-    } else {
-        size(z)
-    }
+    if signed { of_signed(z, width) } else { size(z) }
 }
 
 // The whole number that the bits v of a signal carry, or 0 where they carry none.
@@ -180,9 +176,5 @@ pub fn whole(v: u64, signed: bool, width: u32) -> i64
     if signed {
         return to_signed(v, width);
     }
-    if v < 0x8000000000000000 {
-        v as i64
-    } else {
-        0
-    }
+    if v < 0x8000000000000000 { v as i64 } else { 0 }
 }

@@ -1,0 +1,71 @@
+-- What the total answers `getOf`, `putOf`, `take 8` and `storedIn` are within their range.
+-- Assumes nothing.
+use mathlib.Core.Path.{_≡_, refl, sym, ap, ap₂, _∙_}
+use mathlib.Core.Bool.{Bool, true, false, cond, not, _&&_, and-false}
+use mathlib.Core.Logic.{_⊎_, inl, inr}
+use mathlib.Core.List.{List, _++_, append-nil}
+use Prim.Native.Nat.{ℕ, suc, _+_, _-_, _^_, _≤_, _<_}
+use native.Mathlib.Nat.{le-refl}
+use native.Mathlib.Omega.{arith}
+use lib.Dec.{leb}
+use lib.ListN.{length, take, drop}
+use lib.Seq.{take-all, drop-length}
+use borrow.Author.Tests.{lt-ltb, le-leb, lt-leb, leb-true, not-false}
+use Rattle.signal.specs.Signal.{getBits, putBits, inWord, getOf, putOf}
+use Rattle.signal.specs.Payload.{numberOf, bytesOf, storedIn}
+use Rattle.signal.proofs.Complement.{half-of}
+
+both-true : (a b : Bool) → a && b ≡ true → (a ≡ true) × (b ≡ true)
+both-true true b e = (refl, e)
+both-true false b e = absurd (let z : _≡_ {A = ℕ} 0 1 = cc in omega arith)
+
+-- ---- signals
+
+pub word-yes : (s w : ℕ) → 1 ≤ w → s + w ≤ 64 → inWord s w ≡ true
+word-yes s w o h = ap₂ (λ (x y : Bool). x && y) (le-leb 1 w o) (le-leb (s + w) 64 h)
+
+pub word-no : (s w : ℕ) → 64 < s + w → inWord s w ≡ false
+word-no s w h = ap (λ (x : Bool). leb 1 w && x) (lt-leb (s + w) 64 h) ∙ and-false (leb 1 w)
+
+-- after the test `!in_word(s, w)`, where b is what `in_word` answered
+pub word-found : (s w : ℕ) (b : Bool) → b ≡ inWord s w → not b ≡ false → (1 ≤ w) × (s + w ≤ 64)
+word-found s w b e t =
+    let p = both-true (leb 1 w) (leb (s + w) 64) (sym e ∙ not-false b t) in
+    (leb-true 1 w (p .0), leb-true (s + w) 64 (p .1))
+
+-- `in_word`'s last test, which cannot wrap
+pub word-room : (s w : ℕ) → 1 ≤ w → w ≤ 64 → leb s (64 - w) ≡ inWord s w
+word-room s w o h = go (half-of (suc (64 - w)) s)
+  where
+    go : (s < suc (64 - w)) ⊎ (suc (64 - w) ≤ s) → leb s (64 - w) ≡ inWord s w
+    go (inl l) = le-leb s (64 - w) (omega arith) ∙ sym (word-yes s w o (omega arith))
+    go (inr l) = lt-leb s (64 - w) (omega arith) ∙ sym (word-no s w (omega arith))
+
+pub get-in : (n s w : ℕ) → 1 ≤ w → s + w ≤ 64 → getOf n s w ≡ getBits n s w
+unfolding getOf
+get-in n s w o h = ap (λ (b : Bool). cond b (getBits n s w) 0) (word-yes s w o h)
+
+pub put-in : (n s w v : ℕ) → 1 ≤ w → s + w ≤ 64 → v < 2 ^ w → putOf n s w v ≡ putBits n s w v
+unfolding putOf
+put-in n s w v o h l =
+    ap₂ (λ (a b : Bool). cond (a && b) (putBits n s w v) n) (word-yes s w o h) (lt-ltb v (2 ^ w) l)
+
+-- ---- bytes
+
+pub number-in : (bs : List ℕ) → length bs ≤ 8 → numberOf (take 8 bs) ≡ numberOf bs
+number-in bs h = ap numberOf (take-all 8 bs h)
+
+pub stored-in : (k n : ℕ) (buf : List ℕ) → k ≤ length buf → storedIn k n buf ≡ bytesOf k n ++ drop k buf
+unfolding storedIn
+stored-in k n buf h = ap (λ (b : Bool). cond b (bytesOf k n ++ drop k buf) buf) (le-leb k (length buf) h)
+
+pub stored-not : (k n : ℕ) (buf : List ℕ) → length buf < k → storedIn k n buf ≡ buf
+unfolding storedIn
+stored-not k n buf h = ap (λ (b : Bool). cond b (bytesOf k n ++ drop k buf) buf) (lt-leb k (length buf) h)
+
+-- a buffer that is filled
+pub stored-all : (bs : List ℕ) (n : ℕ) → storedIn (length bs) n bs ≡ bytesOf (length bs) n
+stored-all bs n =
+    stored-in (length bs) n bs (le-refl (length bs))
+    ∙ ap (λ (l : List ℕ). bytesOf (length bs) n ++ l) (drop-length bs)
+    ∙ append-nil (bytesOf (length bs) n)
