@@ -1,0 +1,4 @@
+pub mod Labels
+pub mod Fields
+pub mod Read
+pub mod Write

@@ -1,0 +1,102 @@
+-- Reading: 01, "A message is read into one of nine kinds, each with its own fields".
+use Prim.Native.Nat.{ℕ}
+use mathlib.Core.Bool.{Bool, cond}
+use mathlib.Core.List.{List}
+use lib.Dec.{eqb}
+use lib.ListN.{getD}
+use lib.IntN.{ℤ, pos}
+use Rattle.pages.specs.declared.Judged.{Judged}
+use Rattle.pages.specs.declared.Judged.the-variants as judged
+use Rattle.pages.specs.Judge.{judgeOf}
+use Rattle.pages.specs.Raws as pages
+use Rattle.messages.specs.declared.PowerModulesStatus.{PowerModulesStatus}
+use Rattle.messages.specs.declared.DcPowerParameters.{DcPowerParameters}
+use Rattle.messages.specs.declared.ControllerStatus.{ControllerStatus}
+use Rattle.messages.specs.declared.NewChargeSession.{NewChargeSession}
+use Rattle.messages.specs.declared.ChargeStatusChange.{ChargeStatusChange}
+use Rattle.messages.specs.declared.DcPowerControl.{DcPowerControl}
+use Rattle.messages.specs.declared.ChargeSessionFinished.{ChargeSessionFinished}
+use Rattle.messages.specs.declared.EmergencyStop.{EmergencyStop}
+use Rattle.messages.specs.declared.EvId.{EvId}
+use Rattle.messages.specs.declared.Message.{Message}
+use Rattle.messages.specs.declared.Message.the-variants.{Status, Parameters, Controller, Session, Change, Control, Finished, Stop, Id}
+use Rattle.messages.specs.declared.Reading.{Reading}
+use Rattle.messages.specs.declared.Reading.the-variants.{Accepted, Refused}
+use Rattle.messages.specs.Labels as label
+use Rattle.messages.specs.Fields.{naturalOf, byteOf, wordOf, shortOf, celsiusOf, kilohmsOf, flagOf}
+
+-- the raw number at each place of a list, and 0 past its end
+abbrev pub at : List ℤ → ℕ → ℤ
+at zs j = getD zs j (pos 0)
+
+-- ---- each kind, of its signals' raw numbers in the table's order
+
+abbrev pub statusOf : (ℕ → ℤ) → PowerModulesStatus
+statusOf f =
+    record {
+      voltage = wordOf (f 0);
+      current = shortOf (f 1);
+      modules = celsiusOf (f 2);
+      enclosure = celsiusOf (f 3);
+      enable = label.enableOf (naturalOf (f 4));
+      insulation = kilohmsOf (f 5);
+    }
+
+abbrev pub parametersOf : (ℕ → ℤ) → DcPowerParameters
+parametersOf f = record { voltage = wordOf (f 0); charge = wordOf (f 1); discharge = wordOf (f 2); target = shortOf (f 3) }
+
+abbrev pub controllerOf : (ℕ → ℤ) → ControllerStatus
+controllerOf f = record { state = label.stateOf (naturalOf (f 0)) }
+
+abbrev pub sessionOf : (ℕ → ℤ) → NewChargeSession
+sessionOf f = record { protocol = label.protocolOf (naturalOf (f 0)); plug = label.plugOf (naturalOf (f 1)) }
+
+abbrev pub changeOf : (ℕ → ℤ) → ChargeStatusChange
+changeOf f = record { status = label.statusOf (naturalOf (f 0)) }
+
+abbrev pub controlOf : (ℕ → ℤ) → DcPowerControl
+controlOf f =
+    record {
+      target = wordOf (f 0);
+      max = shortOf (f 1);
+      min = shortOf (f 2);
+      function = label.functionOf (naturalOf (f 3));
+      reserved = flagOf (f 4);
+      mode = label.modeOf (naturalOf (f 5));
+      contactors = label.contactorsOf (naturalOf (f 6));
+      lowering = label.loweringOf (naturalOf (f 7));
+    }
+
+abbrev pub finishedOf : (ℕ → ℤ) → ChargeSessionFinished
+finishedOf f = record { state = label.endOf (naturalOf (f 0)) }
+
+abbrev pub stopOf : (ℕ → ℤ) → EmergencyStop
+stopOf f = record { origin = label.originOf (naturalOf (f 0)) }
+
+abbrev pub idOf : (ℕ → ℤ) → EvId
+idOf f = record { byte0 = byteOf (f 0); byte1 = byteOf (f 1); byte2 = byteOf (f 2); byte3 = byteOf (f 3); byte4 = byteOf (f 4); byte5 = byteOf (f 5) }
+
+-- the message of a kind; for a number that is no kind, the last one
+unfoldable pub builtOf : ℕ → (ℕ → ℤ) → Message
+builtOf k f =
+    cond (eqb k 0) (Status (statusOf f))
+    (cond (eqb k 1) (Parameters (parametersOf f))
+    (cond (eqb k 2) (Controller (controllerOf f))
+    (cond (eqb k 3) (Session (sessionOf f))
+    (cond (eqb k 4) (Change (changeOf f))
+    (cond (eqb k 5) (Control (controlOf f))
+    (cond (eqb k 6) (Finished (finishedOf f))
+    (cond (eqb k 7) (Stop (stopOf f))
+    (Id (idOf f)))))))))
+
+-- ---- the message of a payload number, and of a frame
+
+unfoldable pub messageOf : ℕ → ℕ → Message
+messageOf k n = builtOf k (at (pages.rawsOf k n))
+
+abbrev pub readingOf : Judged → Reading
+readingOf (judged.Frame k n) = Accepted (messageOf k n)
+readingOf (judged.Refused w) = Refused w
+
+unfoldable pub readOf : ℕ → Bool → List ℕ → Reading
+readOf m extended bs = readingOf (judgeOf m extended bs)

@@ -1,0 +1,104 @@
+-- Writing: 01, "Writing a message gives 7 or 8."
+use Prim.Native.Nat.{ℕ}
+use mathlib.Core.Bool.{Bool, true, false, cond}
+use mathlib.Core.List.{List, [], _∷_}
+use lib.IntN.{ℤ, pos}
+use Rattle.pages.specs.declared.Refusal.the-variants.{NoRawNumber}
+use Rattle.pages.specs.declared.Written.{Written}
+use Rattle.pages.specs.declared.Written.the-variants.{Refused}
+use Rattle.pages.specs.Raws as pages
+use Rattle.messages.specs.declared.PowerModulesStatus.{PowerModulesStatus}
+use Rattle.messages.specs.declared.DcPowerParameters.{DcPowerParameters}
+use Rattle.messages.specs.declared.ControllerStatus.{ControllerStatus}
+use Rattle.messages.specs.declared.NewChargeSession.{NewChargeSession}
+use Rattle.messages.specs.declared.ChargeStatusChange.{ChargeStatusChange}
+use Rattle.messages.specs.declared.DcPowerControl.{DcPowerControl}
+use Rattle.messages.specs.declared.ChargeSessionFinished.{ChargeSessionFinished}
+use Rattle.messages.specs.declared.EmergencyStop.{EmergencyStop}
+use Rattle.messages.specs.declared.EvId.{EvId}
+use Rattle.messages.specs.declared.Message.{Message}
+use Rattle.messages.specs.declared.Message.the-variants.{Status, Parameters, Controller, Session, Change, Control, Finished, Stop, Id}
+use Rattle.messages.specs.Labels.{enableNumber, stateNumber, protocolNumber, plugNumber, statusNumber, functionNumber, modeNumber, contactorsNumber, loweringNumber, endNumber, originNumber}
+use Rattle.messages.specs.Fields.{celsiusRaw, hasKilohms, kilohmsRaw, flagRaw}
+
+-- ---- the raw number of each signal, in the table's order
+
+abbrev pub oneRaw : ℤ → List ℤ
+oneRaw z = z ∷ []
+
+abbrev pub statusRaws : PowerModulesStatus → List ℤ
+statusRaws m = pos (m .voltage) ∷ m .current ∷ celsiusRaw (m .modules) ∷ celsiusRaw (m .enclosure) ∷ pos (enableNumber (m .enable)) ∷ kilohmsRaw (m .insulation) ∷ []
+
+abbrev pub parametersRaws : DcPowerParameters → List ℤ
+parametersRaws m = pos (m .voltage) ∷ pos (m .charge) ∷ pos (m .discharge) ∷ m .target ∷ []
+
+abbrev pub stateRaws : ControllerStatus → List ℤ
+stateRaws m = oneRaw (pos (stateNumber (m .state)))
+
+abbrev pub sessionRaws : NewChargeSession → List ℤ
+sessionRaws m = pos (protocolNumber (m .protocol)) ∷ pos (plugNumber (m .plug)) ∷ []
+
+abbrev pub changeRaws : ChargeStatusChange → List ℤ
+changeRaws m = oneRaw (pos (statusNumber (m .status)))
+
+abbrev pub controlRaws : DcPowerControl → List ℤ
+controlRaws m =
+    pos (m .target) ∷ m .max ∷ m .min ∷ pos (functionNumber (m .function)) ∷ flagRaw (m .reserved)
+    ∷ pos (modeNumber (m .mode)) ∷ pos (contactorsNumber (m .contactors)) ∷ pos (loweringNumber (m .lowering)) ∷ []
+
+abbrev pub finishedRaws : ChargeSessionFinished → List ℤ
+finishedRaws m = oneRaw (pos (endNumber (m .state)))
+
+abbrev pub stopRaws : EmergencyStop → List ℤ
+stopRaws m = oneRaw (pos (originNumber (m .origin)))
+
+abbrev pub idRaws : EvId → List ℤ
+idRaws m = pos (m .byte0) ∷ pos (m .byte1) ∷ pos (m .byte2) ∷ pos (m .byte3) ∷ pos (m .byte4) ∷ pos (m .byte5) ∷ []
+
+unfoldable pub rawsOf : Message → List ℤ
+rawsOf (Status m) = statusRaws m
+rawsOf (Parameters m) = parametersRaws m
+rawsOf (Controller m) = stateRaws m
+rawsOf (Session m) = sessionRaws m
+rawsOf (Change m) = changeRaws m
+rawsOf (Control m) = controlRaws m
+rawsOf (Finished m) = finishedRaws m
+rawsOf (Stop m) = stopRaws m
+rawsOf (Id m) = idRaws m
+
+-- each value has a raw number
+unfoldable pub hasRaws : Message → Bool
+hasRaws (Status m) = hasKilohms (m .insulation)
+hasRaws (Parameters m) = true
+hasRaws (Controller m) = true
+hasRaws (Session m) = true
+hasRaws (Change m) = true
+hasRaws (Control m) = true
+hasRaws (Finished m) = true
+hasRaws (Stop m) = true
+hasRaws (Id m) = true
+
+-- the kinds, numbered in the table's order
+unfoldable pub kindOf : Message → ℕ
+kindOf (Status m) = 0
+kindOf (Parameters m) = 1
+kindOf (Controller m) = 2
+kindOf (Session m) = 3
+kindOf (Change m) = 4
+kindOf (Control m) = 5
+kindOf (Finished m) = 6
+kindOf (Stop m) = 7
+kindOf (Id m) = 8
+
+-- ---- the answer, and the buffer afterwards
+
+-- the numbers as `write_raws` of pages takes them
+abbrev pub padded : Message → List ℤ
+padded m = pages.pad pages.signalCount (rawsOf m)
+
+-- 7 for a value without a raw number, and for one that does not fit; then 8
+unfoldable pub writeOf : Message → List ℕ → Written
+writeOf m buf = cond (hasRaws m) (pages.writeRawsOf (kindOf m) (padded m) buf) (Refused NoRawNumber)
+
+unfoldable pub bufferAfter : Message → List ℕ → List ℕ
+bufferAfter m buf = cond (hasRaws m) (pages.bufferAfter (kindOf m) (padded m) buf) buf

@@ -1,0 +1,44 @@
+-- What reading a frame answers: 01, "Reading gives 3 to 6", the lowest that applies.
+use Prim.Native.Nat.{ℕ, zero, suc, _*_}
+use mathlib.Core.Bool.{Bool, true, false, cond, not, _&&_, _||_}
+use mathlib.Core.List.{List, [], _∷_}
+use lib.Dec.{eqb}
+use lib.ListN.{length, getD}
+use Rattle.signal.specs.Signal.{getBits, putBits}
+use Rattle.signal.specs.Payload.{numberOf}
+use Rattle.pages.specs.declared.Row.{Row}
+use Rattle.pages.specs.declared.Found.{Found}
+use Rattle.pages.specs.declared.Found.the-variants.{At, Nothing}
+use Rattle.pages.specs.declared.Judged.{Judged}
+use Rattle.pages.specs.declared.Judged.the-variants.{Frame, Refused}
+use Rattle.pages.specs.declared.Refusal.the-variants.{UnknownIdentifier, WrongLength, NoLabel, UncoveredBit}
+use Rattle.pages.specs.Table.{rows, noRow, rowsOf, firstAt, hasId, lowest, bitsAt, covered, takes}
+
+-- 5: "a label signal holds a number without a label"
+unfoldable pub unlabelled : ℕ → List Row → Bool
+unlabelled n [] = false
+unlabelled n (r ∷ rs) = not (takes (r .labels) (bitsAt n r)) || unlabelled n rs
+
+-- 6: "a bit that no signal covers is 1", of the k lowest bits
+unfoldable pub strayBelow : ℕ → ℕ → List Row → Bool
+strayBelow zero n rs = false
+strayBelow (suc k) n rs = (not (covered rs k) && eqb (getBits n k 1) 1) || strayBelow k n rs
+
+-- 5 before 6
+unfoldable pub judgedNumber : ℕ → ℕ → ℕ → Judged
+judgedNumber k bits n =
+    cond (unlabelled n (rowsOf k)) (Refused NoLabel)
+    (cond (strayBelow bits n (rowsOf k)) (Refused UncoveredBit)
+    (Frame k n))
+
+-- 4 before them, for a message of the table
+abbrev pub judgedRow : Row → List ℕ → Judged
+judgedRow r bs = cond (eqb (length bs) (r .bytes)) (judgedNumber (r .kind) (8 * length bs) (numberOf bs)) (Refused WrongLength)
+
+abbrev pub judgedAt : List ℕ → Found → Judged
+judgedAt bs (At i) = judgedRow (getD rows i noRow) bs
+judgedAt bs Nothing = Refused UnknownIdentifier
+
+-- 3 first: "identifier not in the table, or standard"
+unfoldable pub judgeOf : ℕ → Bool → List ℕ → Judged
+judgeOf m extended bs = cond extended (judgedAt bs (firstAt (hasId m) 0 rows)) (Refused UnknownIdentifier)

@@ -1,0 +1,34 @@
+-- 01, "Numbers given back": the number of each refusal.
+use Prim.Native.Nat.{ℕ}
+use Rattle.pages.specs.declared.Refusal.{Refusal}
+use Rattle.pages.specs.declared.Refusal.the-variants.{ChannelFree, Earlier, UnknownIdentifier, WrongLength, NoLabel, UncoveredBit, NoRawNumber, ShortBuffer, NoSuchPost, NoSuchChannel, ChannelTaken, LimitOutside, NoSignal, NotSetUp}
+
+abbrev pub numberOf : Refusal → ℕ
+-- channel above 31, or held by no post
+numberOf ChannelFree = 1
+-- time earlier than that post's latest accepted frame or tick
+numberOf Earlier = 2
+-- identifier not in the table, or standard
+numberOf UnknownIdentifier = 3
+-- length differs from the table's
+numberOf WrongLength = 4
+-- a label signal holds a number without a label
+numberOf NoLabel = 5
+-- a bit that no signal covers is 1
+numberOf UncoveredBit = 6
+-- a value to be written has no raw number, or a raw number does not fit its signal
+numberOf NoRawNumber = 7
+-- lent buffer shorter than the message
+numberOf ShortBuffer = 8
+-- post number above 7
+numberOf NoSuchPost = 9
+-- channel above 31 at set-up
+numberOf NoSuchChannel = 10
+-- channel held by another post
+numberOf ChannelTaken = 11
+-- a post limit outside its range
+numberOf LimitOutside = 12
+-- no signal of the message starts at that bit
+numberOf NoSignal = 13
+-- post not set up
+numberOf NotSetUp = 14

@@ -1,0 +1,38 @@
+-- Inner steps: what the loops over a message's rows compute. The promises of Judge, Raws and Change do not speak of them.
+use Prim.Native.Nat.{ℕ}
+use mathlib.Core.Bool.{Bool, true, false, cond, not}
+use mathlib.Core.List.{List, [], _∷_}
+use lib.Dec.{eqb}
+use lib.IntN.{ℤ}
+use Rattle.signal.specs.Signal.{putBits}
+use Rattle.pages.specs.declared.Row.{Row}
+use Rattle.pages.specs.declared.Found.{Found}
+use Rattle.pages.specs.declared.Judged.{Judged}
+use Rattle.pages.specs.declared.Judged.the-variants.{Frame, Refused}
+use Rattle.pages.specs.declared.Refusal.the-variants.{NoLabel, UncoveredBit}
+use Rattle.pages.specs.declared.Offence.{Offence}
+use Rattle.pages.specs.declared.Offence.the-variants.{Start, Nothing}
+use Rattle.pages.specs.declared.Packed.{Packed}
+use Rattle.pages.specs.declared.Packed.the-variants as packed
+use Rattle.pages.specs.Table.{rows, firstAt, isSignal, lowest, bitsAt, takes}
+use Rattle.pages.specs.Raws.{allTake, packedOn}
+
+-- the first signal that holds a number without a label
+unfoldable pub offenceOf : ℕ → List Row → Offence
+offenceOf n [] = Nothing
+offenceOf n (r ∷ rs) = cond (takes (r .labels) (bitsAt n r)) (offenceOf n rs) (Start (r .start))
+
+-- n with 0 in every signal
+unfoldable pub cleared : List Row → ℕ → ℕ
+cleared [] n = n
+cleared (r ∷ rs) n = cleared rs (putBits n (lowest r) (r .width) 0)
+
+abbrev pub judgedBy : ℕ → ℕ → Offence → ℕ → Judged
+judgedBy k n (Start s) rest = Refused NoLabel
+judgedBy k n Nothing rest = cond (eqb rest 0) (Frame k n) (Refused UncoveredBit)
+
+unfoldable pub packOf : List Row → List ℤ → Packed
+packOf rs zs = cond (allTake rs zs) (packed.Number (packedOn 0 rs zs)) packed.Refused
+
+abbrev pub signalFound : ℕ → ℕ → Found
+signalFound k s = firstAt (isSignal k s) 0 rows

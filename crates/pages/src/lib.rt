@@ -1,0 +1,178 @@
+// The maker's pages: one constant table of rows, and what it says of a frame: reading it to kind and payload number, its signals'
+// raw whole numbers, writing those, and changing one signal in place. Every public function takes any input.
+ghost use mathlib.Core.Path.{_≡_};
+ghost use Rattle.pages.specs.Refusals.{numberOf};
+ghost use Rattle.pages.specs.Table.{identifierOf, lengthOf};
+ghost use Rattle.pages.specs.Judge.{judgeOf};
+ghost use Rattle.pages.specs.Raws.{rawsOf, writeRawsOf, bufferAfter};
+ghost use Rattle.pages.specs.Change.{changeOf, bytesAfter};
+
+mod table; // table.rt: the rows, and the searches over them
+mod signals; // signals.rt: the loops over one message's rows
+
+use signals::change_number;
+use signals::judge_number;
+use signals::pack;
+
+// 01, "Numbers given back": a case for each number, in their order (`numberOf` in specs/).
+pub enum Refusal {
+    ChannelFree,
+    Earlier,
+    UnknownIdentifier,
+    WrongLength,
+    NoLabel,
+    UncoveredBit,
+    NoRawNumber,
+    ShortBuffer,
+    NoSuchPost,
+    NoSuchChannel,
+    ChannelTaken,
+    LimitOutside,
+    NoSignal,
+    NotSetUp,
+}
+
+// 01: "a row holds message, start, width, signedness and labels or none". The message is its kind, its identifier and its length in bytes;
+// bit n of labels says that the raw number n has a label, and 0 that the signal has none.
+pub struct Row {
+    pub kind: usize,
+    pub id: u32,
+    pub bytes: usize,
+    pub start: u32,
+    pub width: u32,
+    pub signed: bool,
+    pub labels: u64,
+}
+
+pub enum Found {
+    At(usize),
+    Nothing,
+}
+
+// The start of the first signal that holds a number without a label.
+enum Offence {
+    Start(u32),
+    Nothing,
+}
+
+// The payload number of raw numbers that all fit and have their labels.
+enum Packed {
+    Number(u64),
+    Refused,
+}
+
+// The reader's answer: kind and payload number of the frame, or its refusal.
+pub enum Judged {
+    Frame(usize, u64),
+    Refused(Refusal),
+}
+
+// An accepted writing answers the identifier and the number of bytes.
+pub enum Written {
+    Wrote(u32, usize),
+    Refused(Refusal),
+}
+
+pub fn refusal_number(w: Refusal) -> u32
+    ensures { λ r. ⌜ r ≡ numberOf w ⌝ }
+{
+    match w {
+        Refusal::ChannelFree => 1,
+        Refusal::Earlier => 2,
+        Refusal::UnknownIdentifier => 3,
+        Refusal::WrongLength => 4,
+        Refusal::NoLabel => 5,
+        Refusal::UncoveredBit => 6,
+        Refusal::NoRawNumber => 7,
+        Refusal::ShortBuffer => 8,
+        Refusal::NoSuchPost => 9,
+        Refusal::NoSuchChannel => 10,
+        Refusal::ChannelTaken => 11,
+        Refusal::LimitOutside => 12,
+        Refusal::NoSignal => 13,
+        Refusal::NotSetUp => 14,
+    }
+}
+
+// The identifier of a kind's frames, and their length in bytes; 0 for a number that is no kind.
+pub fn identifier_of(kind: usize) -> u32
+    ensures { λ r. ⌜ r ≡ identifierOf kind ⌝ }
+{
+    let Found::At(i) = table::first_of_kind(kind) else {
+        return 0;
+    };
+    table::row_at(i).id
+}
+
+pub fn length_of(kind: usize) -> usize
+    ensures { λ r. ⌜ r ≡ lengthOf kind ⌝ }
+{
+    let Found::At(i) = table::first_of_kind(kind) else {
+        return 0;
+    };
+    table::row_at(i).bytes
+}
+
+// 01: "Reading gives 3 to 6", in this order.
+pub fn judge(id: u32, extended: bool, bytes: &[u8]) -> Judged
+    ensures { λ r. ⌜ r ≡ judgeOf id extended (now (bytes .entry)) ⌝ }
+{
+    if !extended {
+        return Judged::Refused(Refusal::UnknownIdentifier);
+    }
+    let Found::At(i) = table::first_with_id(id) else {
+        return Judged::Refused(Refusal::UnknownIdentifier);
+    };
+    let r = table::row_at(i);
+    if bytes.len() != r.bytes {
+        return Judged::Refused(Refusal::WrongLength);
+    }
+    judge_number(i, r.kind, signal::number(bytes))
+}
+
+// The raw whole number of each of a kind's signals, in the table's order, and 0 behind them.
+pub fn raws_of(kind: usize, number: u64) -> [i64; 8]
+    ensures { λ r. ⌜ r ≡ rawsOf kind number ⌝ }
+{
+    let Found::At(i) = table::first_of_kind(kind) else {
+        return [0; 8];
+    };
+    signals::unpack(i, kind, number)
+}
+
+// The frame of a kind whose signals have these raw numbers: 7, then 8. Numbers behind the kind's signals are passed over.
+pub fn write_raws(kind: usize, raws: [i64; 8], buf: &mut [u8]) -> Written
+    ensures { λ r. ⌜ (r ≡ writeRawsOf kind raws (now (buf .entry))) × (now (buf .exit) ≡ bufferAfter kind raws (now (buf .entry))) ⌝ }
+{
+    let Found::At(i) = table::first_of_kind(kind) else {
+        return Written::Refused(Refusal::NoRawNumber);
+    };
+    let r = table::row_at(i);
+    let Packed::Number(n) = pack(i, kind, raws) else {
+        return Written::Refused(Refusal::NoRawNumber);
+    };
+    if buf.len() < r.bytes {
+        return Written::Refused(Refusal::ShortBuffer);
+    }
+    signal::store(buf, n, r.bytes);
+    Written::Wrote(r.id, r.bytes)
+}
+
+// 01: "first the frame's own 3 to 6, then 13, then 7, then 5 for the new label". An accepted change answers kind and payload number of
+// the changed frame.
+pub fn change(id: u32, extended: bool, bytes: &mut [u8], start: u32, raw: i64) -> Judged
+    ensures { λ r. ⌜ (r ≡ changeOf id extended (now (bytes .entry)) start raw)
+        × (now (bytes .exit) ≡ bytesAfter (now (bytes .entry)) (changeOf id extended (now (bytes .entry)) start raw)) ⌝ }
+{
+    let read = judge(id, extended, bytes);
+    let Judged::Frame(kind, n) = read else {
+        return read;
+    };
+    let changed = change_number(kind, n, start, raw);
+    let Judged::Frame(_, m) = changed else {
+        return changed;
+    };
+    let len = bytes.len();
+    signal::store(bytes, m, len);
+    changed
+}

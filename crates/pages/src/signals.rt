@@ -1,0 +1,199 @@
+// The loops over the rows of one message, which stand together from its first row on, and what they do at a row.
+ghost use mathlib.Core.Path.{_≡_};
+ghost use mathlib.Core.Bool.{true};
+ghost use lib.ListN.{drop};
+ghost use Rattle.pages.specs.Table.{rows, Fine, block, lowest, bitsAt, takes};
+ghost use Rattle.pages.specs.Raws.{signalCount, wholeAt, wholesOf, pad, rowTakes, putRaw};
+ghost use Rattle.pages.specs.Change.{changedRow, changedAt};
+ghost use Rattle.pages.specs.Steps.{offenceOf, cleared, judgedBy, packOf, signalFound};
+use crate::Found;
+use crate::Judged;
+use crate::Offence;
+use crate::Packed;
+use crate::Refusal;
+use crate::Row;
+use crate::table::ROW_COUNT;
+use crate::table::row_at;
+use crate::table::signal_at;
+
+// 01: "A signal with start s and width w has its lowest bit at s."
+fn lowest_bit(r: Row) -> u32
+    ensures { λ b. ⌜ b ≡ lowest r ⌝ }
+{
+    r.start
+}
+
+fn signal_bits(r: Row, n: u64) -> u64
+    requires { ⌜ Fine r ⌝ }
+    ensures { λ v. ⌜ v ≡ bitsAt n r ⌝ }
+{
+    signal::get(n, lowest_bit(r), r.width)
+}
+
+// Whether a signal with these labels, or with none, may hold the number.
+fn label_holds(labels: u64, bits: u64) -> bool
+    ensures { λ r. ⌜ r ≡ takes labels bits ⌝ }
+{
+    if labels == 0 {
+        return true;
+    }
+    if 64 <= bits {
+        return false;
+    }
+    (labels >> bits) % 2 == 1
+}
+
+fn offence(at: usize, kind: usize, n: u64) -> Offence
+    ensures { λ r. ⌜ r ≡ offenceOf n (block kind (drop at rows)) ⌝ }
+{
+    let mut i = at;
+    'rows: loop {
+        if ROW_COUNT <= i {
+            break 'rows Offence::Nothing;
+        }
+        let r = row_at(i);
+        if r.kind != kind {
+            break 'rows Offence::Nothing;
+        }
+        if !label_holds(r.labels, signal_bits(r, n)) {
+            break 'rows Offence::Start(r.start);
+        }
+        i += 1;
+    }
+}
+
+// n with every signal of the message cleared: what is left stands where no signal is.
+fn leftover(at: usize, kind: usize, n: u64) -> u64
+    ensures { λ r. ⌜ r ≡ cleared (block kind (drop at rows)) n ⌝ }
+{
+    let mut rest = n;
+    let mut i = at;
+    'rows: loop {
+        if ROW_COUNT <= i {
+            break 'rows rest;
+        }
+        let r = row_at(i);
+        if r.kind != kind {
+            break 'rows rest;
+        }
+        rest = signal::put(rest, lowest_bit(r), r.width, 0);
+        i += 1;
+    }
+}
+
+// 5, then 6, of a frame with the right length.
+pub fn judge_number(at: usize, kind: usize, n: u64) -> Judged
+    ensures { λ r. ⌜ r ≡ judgedBy kind n (offenceOf n (block kind (drop at rows))) (cleared (block kind (drop at rows)) n) ⌝ }
+{
+    let Offence::Nothing = offence(at, kind, n) else {
+        return Judged::Refused(Refusal::NoLabel);
+    };
+    if leftover(at, kind, n) != 0 {
+        return Judged::Refused(Refusal::UncoveredBit);
+    }
+    Judged::Frame(kind, n)
+}
+
+fn signal_whole(r: Row, n: u64) -> i64
+    requires { ⌜ Fine r ⌝ }
+    ensures { λ z. ⌜ z ≡ wholeAt n r ⌝ }
+{
+    signal::whole(signal_bits(r, n), r.signed, r.width)
+}
+
+pub fn unpack(at: usize, kind: usize, n: u64) -> [i64; 8]
+    ensures { λ r. ⌜ r ≡ pad signalCount (wholesOf n (block kind (drop at rows))) ⌝ }
+{
+    let mut raws = [0i64; 8];
+    let mut j: usize = 0;
+    let mut i = at;
+    'rows: loop {
+        if ROW_COUNT <= i {
+            break 'rows raws;
+        }
+        if 8 <= j {
+            break 'rows raws;
+        }
+        let r = row_at(i);
+        if r.kind != kind {
+            break 'rows raws;
+        }
+        raws[j] = signal_whole(r, n);
+        j += 1;
+        i += 1;
+    }
+}
+
+// Whether a signal takes the raw number: it fits, and has a label where the signal has labels.
+fn row_takes(r: Row, z: i64) -> bool
+    requires { ⌜ Fine r ⌝ }
+    ensures { λ b. ⌜ b ≡ rowTakes r z ⌝ }
+{
+    if !signal::fits(z, r.signed, r.width) {
+        return false;
+    }
+    label_holds(r.labels, signal::bits(z, r.signed, r.width))
+}
+
+fn put_raw(r: Row, n: u64, z: i64) -> u64
+    requires { ⌜ Fine r × (rowTakes r z ≡ true) ⌝ }
+    ensures { λ m. ⌜ m ≡ putRaw r n z ⌝ }
+{
+    signal::put(
+        n,
+        lowest_bit(r),
+        r.width,
+        signal::bits(z, r.signed, r.width),
+    )
+}
+
+pub fn pack(at: usize, kind: usize, raws: [i64; 8]) -> Packed
+    ensures { λ r. ⌜ r ≡ packOf (block kind (drop at rows)) raws ⌝ }
+{
+    let mut n: u64 = 0;
+    let mut j: usize = 0;
+    let mut i = at;
+    'rows: loop {
+        if ROW_COUNT <= i {
+            break 'rows Packed::Number(n);
+        }
+        let r = row_at(i);
+        if r.kind != kind {
+            break 'rows Packed::Number(n);
+        }
+        if 8 <= j {
+            break 'rows Packed::Refused;
+        }
+        let z = raws[j];
+        if !row_takes(r, z) {
+            break 'rows Packed::Refused;
+        }
+        n = put_raw(r, n, z);
+        j += 1;
+        i += 1;
+    }
+}
+
+// 7, then 5 for the new label.
+fn change_row(r: Row, kind: usize, n: u64, z: i64) -> Judged
+    requires { ⌜ Fine r ⌝ }
+    ensures { λ a. ⌜ a ≡ changedRow r kind n z ⌝ }
+{
+    if !signal::fits(z, r.signed, r.width) {
+        return Judged::Refused(Refusal::NoRawNumber);
+    }
+    if !label_holds(r.labels, signal::bits(z, r.signed, r.width)) {
+        return Judged::Refused(Refusal::NoLabel);
+    }
+    Judged::Frame(kind, put_raw(r, n, z))
+}
+
+// 13 before them.
+pub fn change_number(kind: usize, n: u64, start: u32, z: i64) -> Judged
+    ensures { λ r. ⌜ r ≡ changedAt kind n z (signalFound kind start) ⌝ }
+{
+    let Found::At(i) = signal_at(kind, start) else {
+        return Judged::Refused(Refusal::NoSignal);
+    };
+    change_row(row_at(i), kind, n, z)
+}
