@@ -67,7 +67,7 @@ rawsOf (Stop m) = stopRaws m
 rawsOf (Id m) = idRaws m
 
 -- each value has a raw number
-unfoldable pub hasRaws : Message → Bool
+abbrev pub hasRaws : Message → Bool
 hasRaws (Status m) = hasKilohms (m .insulation)
 hasRaws (Parameters m) = true
 hasRaws (Controller m) = true
@@ -79,7 +79,7 @@ hasRaws (Stop m) = true
 hasRaws (Id m) = true
 
 -- the kinds, numbered in the table's order
-unfoldable pub kindOf : Message → ℕ
+abbrev pub kindOf : Message → ℕ
 kindOf (Status m) = 0
 kindOf (Parameters m) = 1
 kindOf (Controller m) = 2

@@ -1,7 +1,6 @@
 // The label of a raw number and the number of a label, as the pages of 000 list them. A raw number without a label is refused before any of
 // these is asked; the last label stands there.
 ghost use mathlib.Core.Path.{_≡_};
-ghost use lib.IntN.{pos};
 ghost use Rattle.messages.specs.Labels.{enableOf, stateOf, protocolOf, plugOf, statusOf, functionOf, modeOf, contactorsOf, loweringOf, endOf, originOf};
 ghost use Rattle.messages.specs.Labels.{enableNumber, stateNumber, protocolNumber, plugNumber, statusNumber, functionNumber, modeNumber, contactorsNumber, loweringNumber, endNumber, originNumber};
 use crate::ChargeStatus;
@@ -25,8 +24,8 @@ pub fn enable_of(x: u64) -> SystemEnable
     }
 }
 
-pub fn enable_number(l: SystemEnable) -> i64
-    ensures { λ r. ⌜ r ≡ pos (enableNumber l) ⌝ }
+pub fn enable_number(l: SystemEnable) -> u8
+    ensures { λ r. ⌜ r ≡ enableNumber l ⌝ }
 {
     match l {
         SystemEnable::NotAllowed => 0,
@@ -55,8 +54,8 @@ pub fn state_of(x: u64) -> ControllerState
     }
 }
 
-pub fn state_number(l: ControllerState) -> i64
-    ensures { λ r. ⌜ r ≡ pos (stateNumber l) ⌝ }
+pub fn state_number(l: ControllerState) -> u8
+    ensures { λ r. ⌜ r ≡ stateNumber l ⌝ }
 {
     match l {
         ControllerState::Initialising => 0,
@@ -91,8 +90,8 @@ pub fn protocol_of(x: u64) -> Protocol
     }
 }
 
-pub fn protocol_number(l: Protocol) -> i64
-    ensures { λ r. ⌜ r ≡ pos (protocolNumber l) ⌝ }
+pub fn protocol_number(l: Protocol) -> u8
+    ensures { λ r. ⌜ r ≡ protocolNumber l ⌝ }
 {
     match l {
         Protocol::CcsDin70121v2012 => 0,
@@ -118,8 +117,8 @@ pub fn plug_of(x: u64) -> Plug
     }
 }
 
-pub fn plug_number(l: Plug) -> i64
-    ensures { λ r. ⌜ r ≡ pos (plugNumber l) ⌝ }
+pub fn plug_number(l: Plug) -> u8
+    ensures { λ r. ⌜ r ≡ plugNumber l ⌝ }
 {
     match l {
         Plug::CcsDcCore => 0,
@@ -139,8 +138,8 @@ pub fn status_of(x: u64) -> ChargeStatus
     }
 }
 
-pub fn status_number(l: ChargeStatus) -> i64
-    ensures { λ r. ⌜ r ≡ pos (statusNumber l) ⌝ }
+pub fn status_number(l: ChargeStatus) -> u8
+    ensures { λ r. ⌜ r ≡ statusNumber l ⌝ }
 {
     match l {
         ChargeStatus::ChargeStopped => 0,
@@ -160,8 +159,8 @@ pub fn function_of(x: u64) -> PowerFunction
     }
 }
 
-pub fn function_number(l: PowerFunction) -> i64
-    ensures { λ r. ⌜ r ≡ pos (functionNumber l) ⌝ }
+pub fn function_number(l: PowerFunction) -> u8
+    ensures { λ r. ⌜ r ≡ functionNumber l ⌝ }
 {
     match l {
         PowerFunction::Off => 0,
@@ -181,8 +180,8 @@ pub fn mode_of(x: u64) -> SetpointsMode
     }
 }
 
-pub fn mode_number(l: SetpointsMode) -> i64
-    ensures { λ r. ⌜ r ≡ pos (modeNumber l) ⌝ }
+pub fn mode_number(l: SetpointsMode) -> u8
+    ensures { λ r. ⌜ r ≡ modeNumber l ⌝ }
 {
     match l {
         SetpointsMode::TargetMode => 0,
@@ -199,8 +198,8 @@ pub fn contactors_of(x: u64) -> OutputContactors
     }
 }
 
-pub fn contactors_number(l: OutputContactors) -> i64
-    ensures { λ r. ⌜ r ≡ pos (contactorsNumber l) ⌝ }
+pub fn contactors_number(l: OutputContactors) -> u8
+    ensures { λ r. ⌜ r ≡ contactorsNumber l ⌝ }
 {
     match l {
         OutputContactors::Open => 0,
@@ -217,8 +216,8 @@ pub fn lowering_of(x: u64) -> LowerOutput
     }
 }
 
-pub fn lowering_number(l: LowerOutput) -> i64
-    ensures { λ r. ⌜ r ≡ pos (loweringNumber l) ⌝ }
+pub fn lowering_number(l: LowerOutput) -> u8
+    ensures { λ r. ⌜ r ≡ loweringNumber l ⌝ }
 {
     match l {
         LowerOutput::NoLowering => 0,
@@ -235,8 +234,8 @@ pub fn end_of(x: u64) -> SessionEnd
     }
 }
 
-pub fn end_number(l: SessionEnd) -> i64
-    ensures { λ r. ⌜ r ≡ pos (endNumber l) ⌝ }
+pub fn end_number(l: SessionEnd) -> u8
+    ensures { λ r. ⌜ r ≡ endNumber l ⌝ }
 {
     match l {
         SessionEnd::CleanStop => 0,
@@ -253,8 +252,8 @@ pub fn origin_of(x: u64) -> StopOrigin
     }
 }
 
-pub fn origin_number(l: StopOrigin) -> i64
-    ensures { λ r. ⌜ r ≡ pos (originNumber l) ⌝ }
+pub fn origin_number(l: StopOrigin) -> u8
+    ensures { λ r. ⌜ r ≡ originNumber l ⌝ }
 {
     match l {
         StopOrigin::Evse => 1,

@@ -20,7 +20,7 @@ fn status_raws(m: PowerModulesStatus) -> [i64; 8]
         short_raw(m.current),
         celsius_raw(m.modules),
         celsius_raw(m.enclosure),
-        enable_number(enable),
+        byte_raw(enable_number(enable)),
         kilohms_raw(m.insulation),
         0,
         0,
@@ -48,8 +48,8 @@ fn session_raws(m: NewChargeSession) -> [i64; 8]
     let protocol = m.protocol;
     let plug = m.plug;
     [
-        protocol_number(protocol),
-        plug_number(plug),
+        byte_raw(protocol_number(protocol)),
+        byte_raw(plug_number(plug)),
         0,
         0,
         0,
@@ -70,11 +70,11 @@ fn control_raws(m: DcPowerControl) -> [i64; 8]
         word_raw(m.target),
         short_raw(m.max),
         short_raw(m.min),
-        function_number(function),
+        byte_raw(function_number(function)),
         flag_raw(m.reserved),
-        mode_number(mode),
-        contactors_number(contactors),
-        lowering_number(lowering),
+        byte_raw(mode_number(mode)),
+        byte_raw(contactors_number(contactors)),
+        byte_raw(lowering_number(lowering)),
     ]
 }
 
@@ -104,28 +104,28 @@ fn state_raws(m: ControllerStatus) -> [i64; 8]
     ensures { λ r. ⌜ r ≡ pad signalCount (stateRaws m) ⌝ }
 {
     let state = m.state;
-    one_raw(state_number(state))
+    one_raw(byte_raw(state_number(state)))
 }
 
 fn change_raws(m: ChargeStatusChange) -> [i64; 8]
     ensures { λ r. ⌜ r ≡ pad signalCount (changeRaws m) ⌝ }
 {
     let status = m.status;
-    one_raw(status_number(status))
+    one_raw(byte_raw(status_number(status)))
 }
 
 fn finished_raws(m: ChargeSessionFinished) -> [i64; 8]
     ensures { λ r. ⌜ r ≡ pad signalCount (finishedRaws m) ⌝ }
 {
     let state = m.state;
-    one_raw(end_number(state))
+    one_raw(byte_raw(end_number(state)))
 }
 
 fn stop_raws(m: EmergencyStop) -> [i64; 8]
     ensures { λ r. ⌜ r ≡ pad signalCount (stopRaws m) ⌝ }
 {
     let origin = m.origin;
-    one_raw(origin_number(origin))
+    one_raw(byte_raw(origin_number(origin)))
 }
 
 pub fn raws(m: Message) -> [i64; 8]
