@@ -2,3 +2,4 @@ pub mod Labels
 pub mod Fields
 pub mod Read
 pub mod Write
+pub mod Parts

@@ -11,7 +11,7 @@ use crate::fields::word;
 use crate::labels::*;
 use crate::*;
 
-fn status(f: [i64; 8]) -> PowerModulesStatus
+pub fn status(f: [i64; 8]) -> PowerModulesStatus
     ensures { λ r. ⌜ r ≡ statusOf (at f) ⌝ }
 {
     PowerModulesStatus {
@@ -24,7 +24,7 @@ fn status(f: [i64; 8]) -> PowerModulesStatus
     }
 }
 
-fn parameters(f: [i64; 8]) -> DcPowerParameters
+pub fn parameters(f: [i64; 8]) -> DcPowerParameters
     ensures { λ r. ⌜ r ≡ parametersOf (at f) ⌝ }
 {
     DcPowerParameters {
@@ -35,7 +35,7 @@ fn parameters(f: [i64; 8]) -> DcPowerParameters
     }
 }
 
-fn session(f: [i64; 8]) -> NewChargeSession
+pub fn session(f: [i64; 8]) -> NewChargeSession
     ensures { λ r. ⌜ r ≡ sessionOf (at f) ⌝ }
 {
     NewChargeSession {
@@ -44,7 +44,7 @@ fn session(f: [i64; 8]) -> NewChargeSession
     }
 }
 
-fn control(f: [i64; 8]) -> DcPowerControl
+pub fn control(f: [i64; 8]) -> DcPowerControl
     ensures { λ r. ⌜ r ≡ controlOf (at f) ⌝ }
 {
     DcPowerControl {

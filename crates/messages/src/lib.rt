@@ -2,6 +2,7 @@
 ghost use mathlib.Core.Path.{_≡_};
 ghost use Rattle.messages.specs.Read.{messageOf, readOf};
 ghost use Rattle.messages.specs.Write.{kindOf, writeOf, bufferAfter};
+ghost use Rattle.messages.specs.Parts.{statusIn, parametersIn, sessionIn, controlIn};
 
 mod labels; // labels.rt: labels and their numbers
 mod fields; // fields.rt: a field's value and its raw number
@@ -176,6 +177,38 @@ pub fn message_of(kind: usize, number: u64) -> Message
     ensures { λ r. ⌜ r ≡ messageOf kind number ⌝ }
 {
     build::built(kind, pages::raws_of(kind, number))
+}
+
+// The fields of a payload number of the kinds that the session watch's rules name.
+pub const STATUS: usize = 0;
+pub const PARAMETERS: usize = 1;
+pub const CONTROLLER: usize = 2;
+pub const SESSION: usize = 3;
+pub const CONTROL: usize = 5;
+pub const FINISHED: usize = 6;
+
+pub fn status_in(number: u64) -> PowerModulesStatus
+    ensures { λ r. ⌜ r ≡ statusIn number ⌝ }
+{
+    build::status(pages::raws_of(STATUS, number))
+}
+
+pub fn parameters_in(number: u64) -> DcPowerParameters
+    ensures { λ r. ⌜ r ≡ parametersIn number ⌝ }
+{
+    build::parameters(pages::raws_of(PARAMETERS, number))
+}
+
+pub fn session_in(number: u64) -> NewChargeSession
+    ensures { λ r. ⌜ r ≡ sessionIn number ⌝ }
+{
+    build::session(pages::raws_of(SESSION, number))
+}
+
+pub fn control_in(number: u64) -> DcPowerControl
+    ensures { λ r. ⌜ r ≡ controlIn number ⌝ }
+{
+    build::control(pages::raws_of(CONTROL, number))
 }
 
 // 01: "A message is read into one of nine kinds, each with its own fields".

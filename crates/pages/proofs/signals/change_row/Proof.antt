@@ -1,40 +1,69 @@
+-- `pages::signals::change_row` meets its contract: at a fine row `fits` and `bits` answer for the row's signal.
+use mathlib.Core.Path.{_≡_, sym, ap, _∙_}
+use mathlib.Core.Bool.{true}
+use mir.Facts.{toZ-ofZ}
+use borrow.Author.Tests.{not-true, not-false}
 use borrow.Author.Needs.{needs}
+use Rattle.signal.specs.Raw.{fitsIn, bitsIn}
+use Rattle.pages.specs.declared.Judged.the-variants.{Frame}
+use Rattle.pages.specs.Table.{takes}
+use Rattle.pages.specs.Raws.{rowTakes, putRaw}
+use Rattle.pages.proofs.AtRow.{fits-row, bits-row}
 use Rattle.pages.proofs.signals.change_row.Statement.{statement}
 use Rattle.pages.proofs.signals.change_row.Tie as tie
-use Rattle.pages.proofs.signals.change_row.Reads as reads
-use Rattle.pages.proofs.signals.change_row.Lts as lts
-use Rattle.pages.proofs.signals.label_holds.Reads as label-holds-reads
-use Rattle.pages.proofs.signals.put_raw.Reads as put-raw-reads
-use Rattle.signal.proofs.bits.Reads as bits-reads
-use Rattle.signal.proofs.fits.Reads as fits-reads
 
--- src/signals.rt:182:9
 fits-requires : tie.Need-fits-requires
 fits-requires c κs = search needs
 
--- src/signals.rt:183:9
-returns : tie.Need-returns
-returns c = ?
+answered : (c : tie.After-fits2) → (let a = c .before .args in fitsIn (a .r .signed) (a .r .width) (a .z) ≡ c .fits2 .result)
+answered c = let s = c .before in sym (c .fits2 .ensures ∙ fits-row (s .args .r) (s .pre) (s .args .z) (s .fits .z))
 
--- src/signals.rt:185:31
+fitting : (c : tie.Else1) → (let a = c .before .before .args in fitsIn (a .r .signed) (a .r .width) (a .z) ≡ true)
+fitting c = answered (c .before) ∙ not-false (c .before .fits2 .result) (c .if1 .left)
+
+labelled : (c : tie.After-label-holds) → (
+    let a = c .before .before .before .before .args in
+    takes (a .r .labels) (bitsIn (a .r .signed) (a .r .width) (a .z)) ≡ c .label-holds .result)
+labelled c =
+    let b = c .before in
+    let s = b .before .before .before in
+    sym
+    (c .label-holds .ensures
+    ∙ ap (takes (s .args .r .labels))
+    (b .bits .ensures ∙ bits-row (s .args .r) (s .pre) (s .args .z) (s .fits .z) (fitting (b .before))))
+
+returns : tie.Need-returns
+returns c = rw (answered (c .before), not-true (c .before .fits2 .result) (c .if1 .taken))
+
 bits-requires : tie.Need-bits-requires
 bits-requires c κs = search needs
 
--- src/signals.rt:185:9
 label-holds-requires : tie.Need-label-holds-requires
 label-holds-requires c κs = search needs
 
--- src/signals.rt:186:9
 returns-2 : tie.Need-returns-2
-returns-2 c = ?
+returns-2 c =
+    let t = c .before in
+    rw (fitting (t .before .before), labelled t, not-true (t .label-holds .result) (c .if2 .taken))
 
--- src/signals.rt:188:25
+held : (c : tie.Else2) → (let a = c .before .before .before .before .before .args in rowTakes (a .r) (a .z) ≡ true)
+held c =
+    let t = c .before in
+    rw (fitting (t .before .before), labelled t, not-false (t .label-holds .result) (c .if2 .left))
+
 put-raw-requires : tie.Need-put-raw-requires
-put-raw-requires c κs = ?
+put-raw-requires c κs =
+    let s = c .before .before .before .before .before in
+    (s .pre, ap (rowTakes (s .args .r)) (toZ-ofZ (s .fits .z)) ∙ held c)
 
--- src/signals.rt:178:1
 returns-3 : tie.Need-returns-3
-returns-3 c = ?
+returns-3 c =
+    let q = c .before in
+    let t = q .before in
+    let s = t .before .before .before .before in
+    let a = s .args in
+    rw (fitting (t .before .before), labelled t, not-false (t .label-holds .result) (q .if2 .left))
+    (ap (Frame (a .kind)) (c .put-raw .ensures ∙ ap (putRaw (a .r) (a .n)) (toZ-ofZ (s .fits .z))))
 
 pub change-row-spec : {M : Type 1} → statement M
 change-row-spec =

@@ -1,24 +1,26 @@
+-- `pages::signals::label_holds` meets its contract: a mask of 64 bits has no bit from 64 on.
+use Prim.Native.Nat.{_<_, _^_}
+use native.Mathlib.Nat.{lt-of-lt-of-le, div-eq-of-lt}
+use lib.Pow.{pow-mono}
+use borrow.Author.Tests.{ne-eqb}
 use borrow.Author.Needs.{needs}
 use Rattle.pages.proofs.signals.label_holds.Statement.{statement}
 use Rattle.pages.proofs.signals.label_holds.Tie as tie
-use Rattle.pages.proofs.signals.label_holds.Reads as reads
-use Rattle.pages.proofs.signals.label_holds.Lts as lts
 
--- src/signals.rt:38:9
 returns : tie.Need-returns
-returns c = ?
+returns c = rw (c .if1 .taken)
 
--- src/signals.rt:41:9
 returns-2 : tie.Need-returns-2
-returns-2 c = ?
+returns-2 c =
+    let s = c .before .before in
+    let small : s .args .labels < 2 ^ s .args .bits = lt-of-lt-of-le (s .fits .labels .fits) (pow-mono (c .if2 .taken)) in
+    rw (ne-eqb (s .args .labels) 0 (c .before .if1 .left), div-eq-of-lt small)
 
--- src/signals.rt:43:6
 shr-result : tie.Need-shr-result
 shr-result c = search needs
 
--- src/signals.rt:34:1
 returns-3 : tie.Need-returns-3
-returns-3 c = ?
+returns-3 c = rw (ne-eqb (c .before .before .args .labels) 0 (c .before .if1 .left))
 
 pub label-holds-spec : {M : Type 1} → statement M
 label-holds-spec = tie.close (tie.spec returns returns-2 shr-result returns-3)

@@ -1,27 +1,27 @@
+-- `pages::signals::put_raw` meets its contract: the bits of a number that the row takes fit the row's signal.
+use mathlib.Core.Path.{_∙_}
 use borrow.Author.Needs.{needs}
+use Rattle.pages.proofs.AtRow.{put-raw-row}
 use Rattle.pages.proofs.signals.put_raw.Statement.{statement}
 use Rattle.pages.proofs.signals.put_raw.Tie as tie
-use Rattle.pages.proofs.signals.put_raw.Reads as reads
-use Rattle.pages.proofs.signals.put_raw.Lts as lts
-use Rattle.pages.proofs.signals.lowest_bit.Reads as lowest-bit-reads
-use Rattle.signal.proofs.bits.Reads as bits-reads
-use Rattle.signal.proofs.put.Reads as put-reads
 
--- src/signals.rt:144:9
 lowest-bit-requires : tie.Need-lowest-bit-requires
 lowest-bit-requires c κs = search needs
 
--- src/signals.rt:146:9
 bits-requires : tie.Need-bits-requires
 bits-requires c κs = search needs
 
--- src/signals.rt:142:5
 put-requires : tie.Need-put-requires
 put-requires c κs = search needs
 
--- src/signals.rt:138:1
 returns : tie.Need-returns
-returns c = ?
+returns c =
+    let b = c .before in
+    let l = b .before in
+    let s = l .before in
+    c .put .ensures
+    ∙ put-raw-row (s .args .r) (s .pre .0) (s .args .z) (s .fits .z) (s .args .n) (l .lowest-bit .result) (b .bits .result)
+    (l .lowest-bit .ensures) (b .bits .ensures) (s .pre .1)
 
 pub put-raw-spec : {M : Type 1} → statement M
 put-raw-spec = tie.close (tie.spec lowest-bit-requires bits-requires put-requires returns)

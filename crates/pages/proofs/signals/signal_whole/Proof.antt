@@ -1,22 +1,30 @@
+-- `pages::signals::signal_whole` meets its contract: a fine row's bits carry a number that an i64 holds.
+use mathlib.Core.Path.{ap, _∙_}
+use mir.Syntax.{w64}
+use mir.Facts.{toZ-ofZ}
 use borrow.Author.Needs.{needs}
+use Rattle.signal.specs.Raw.{wholeOf}
+use Rattle.signal.proofs.Laws.{get-lt}
+use Rattle.signal.proofs.RawLaws.{whole-in}
+use Rattle.pages.specs.Table.{lowest, bitsAt}
 use Rattle.pages.proofs.signals.signal_whole.Statement.{statement}
 use Rattle.pages.proofs.signals.signal_whole.Tie as tie
-use Rattle.pages.proofs.signals.signal_whole.Reads as reads
-use Rattle.pages.proofs.signals.signal_whole.Lts as lts
-use Rattle.pages.proofs.signals.signal_bits.Reads as signal-bits-reads
-use Rattle.signal.proofs.whole.Reads as whole-reads
 
--- src/signals.rt:101:19
 signal-bits-requires : tie.Need-signal-bits-requires
 signal-bits-requires c κs = search needs
 
--- src/signals.rt:101:5
 whole-requires : tie.Need-whole-requires
 whole-requires c κs = search needs
 
--- src/signals.rt:97:1
 returns : tie.Need-returns
-returns c = ?
+returns c =
+    let s = c .before .before in
+    let r = s .args .r in
+    let n = s .args .n in
+    toZ-ofZ {w = w64} (record { sfits = c .whole .ok })
+    ∙ c .whole .ensures
+    ∙ ap (wholeOf (r .signed) (r .width)) (c .before .signal-bits .ensures)
+    ∙ whole-in (r .signed) (r .width) (bitsAt n r) (s .pre .0) (s .pre .1) (get-lt n (lowest r) (r .width))
 
 pub signal-whole-spec : {M : Type 1} → statement M
 signal-whole-spec = tie.close (tie.spec signal-bits-requires whole-requires returns)

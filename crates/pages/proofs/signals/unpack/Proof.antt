@@ -1,63 +1,113 @@
+-- `pages::signals::unpack` meets its contract. The loop's invariant: the numbers of the message's rows from row `i` on, stored in `raws` from
+-- place `j` on, make the answer. The measure is what is left of the table.
+use mathlib.Core.Path.{_≡_, refl, sym, ap, _∙_}
+use mathlib.Core.List.{List, [], _∷_}
+use Prim.Native.Nat.{ℕ, zero, suc, _-_, _≤_}
+use native.Mathlib.Numerals.{add-one}
+use native.Mathlib.Omega.{arith}
+use lib.IntN.{ℤ}
+use lib.ListN.{length, drop, set, length-set}
+use lib.Seq.{sets, set-out}
+use mir.Val.{toZ, ofZ}
+use mir.Syntax.{w64}
+use mir.Facts.{toZ-ofZ}
+use Rattle.pages.specs.declared.Row.{Row}
+use Rattle.pages.specs.Table.{rows, rowCount, block}
+use Rattle.pages.specs.Raws.{signalCount, wholeAt, wholesOf, pad}
+use Rattle.pages.proofs.Walk.{block-in, block-out, block-end}
 use Rattle.pages.proofs.signals.unpack.Statement.{statement}
 use Rattle.pages.proofs.signals.unpack.Tie as tie
-use Rattle.pages.proofs.signals.unpack.Reads as reads
-use Rattle.pages.proofs.signals.unpack.Lts as lts
-use Rattle.pages.proofs.signals.signal_whole.Reads as signal-whole-reads
-use Rattle.pages.proofs.table.row_at.Reads as row-at-reads
 
 abbrev Inv-rows : tie.InvT-rows
-Inv-rows at kind n raws₀ j₀ i₀ raws j i = ?
+Inv-rows at kind n raws₀ j₀ i₀ raws j i =
+    (length raws ≡ signalCount)
+    × (sets raws j (wholesOf n (block kind (drop i rows))) ≡ pad signalCount (wholesOf n (block kind (drop at rows))))
 
 abbrev μ-rows : tie.MeasureT-rows
-μ-rows at kind n raws₀ j₀ i₀ raws j i = ?
+μ-rows at kind n raws₀ j₀ i₀ raws j i = rowCount - i
 
--- src/signals.rt:110:5
+-- ---- stores from a place on
+
+sets-suc : (y : ℤ) (a : List ℤ) (j : ℕ) (zs : List ℤ) → sets (y ∷ a) (suc j) zs ≡ y ∷ sets a j zs
+sets-suc y a j [] = refl
+sets-suc y a j (z ∷ zs) = sets-suc y (set a j z) (suc j) zs
+
+-- past the end nothing is stored
+sets-out : (a : List ℤ) (j : ℕ) (zs : List ℤ) → length a ≤ j → sets a j zs ≡ a
+sets-out a j [] h = refl
+sets-out a j (z ∷ zs) h = ap (λ (l : List ℤ). sets l (suc j) zs) (set-out a j z h) ∙ sets-out a (suc j) zs (omega arith)
+
+sets-pad : (k : ℕ) (zs : List ℤ) → sets (pad k []) 0 zs ≡ pad k zs
+unfolding pad
+sets-pad zero zs = sets-out [] 0 zs (omega arith)
+sets-pad (suc k) [] = refl
+sets-pad (suc k) (z ∷ zs) = sets-suc z (pad k []) 0 zs ∙ ap (λ (l : List ℤ). z ∷ l) (sets-pad k zs)
+
+-- ---- the needs
+
 rows-holds : tie.Need-rows-holds Inv-rows μ-rows
-rows-holds c = ?
+unfolding pad
+rows-holds c = (refl, sets-pad signalCount (wholesOf (c .args .n) (block (c .args .kind) (drop (c .args .at) rows))))
 
--- src/signals.rt:117:13
 row-at-requires : tie.Need-row-at-requires Inv-rows μ-rows
-row-at-requires c κs = ?
+row-at-requires c κs = omega arith
 
--- src/signals.rt:121:19
 signal-whole-requires : tie.Need-signal-whole-requires Inv-rows μ-rows
-signal-whole-requires c κs = ?
+signal-whole-requires c κs = c .before .before .row-at .ensures .1
 
--- src/signals.rt:121:9
 mul-raws : tie.Need-mul-raws Inv-rows μ-rows
-mul-raws c = ?
+mul-raws c = omega arith
 
--- src/signals.rt:121:9
 array-set-from-raws : tie.Need-array-set-from-raws Inv-rows μ-rows
-array-set-from-raws c = ?
+array-set-from-raws c = omega arith
 
--- src/signals.rt:122:9
 add-j : tie.Need-add-j Inv-rows μ-rows
-add-j c = ?
+add-j c = omega arith
 
--- src/signals.rt:123:9
 add-i : tie.Need-add-i Inv-rows μ-rows
-add-i c = ?
+add-i c = omega arith
 
--- src/signals.rt:110:5
 rows-less : tie.Need-rows-less Inv-rows μ-rows
-rows-less c = ?
+rows-less c = omega arith
 
--- src/signals.rt:110:5
 rows-again : tie.Need-rows-again Inv-rows μ-rows
-rows-again c = ?
+unfolding wholesOf
+rows-again c =
+    let q = c .before in
+    let k = q .before .before in
+    let a = k .before .before .before in
+    let g = a .before .args in
+    let w = c .signal-whole .result in
+    let e = block-in (g .kind) (a .rows .i) (k .row-at .result) (omega arith) (k .row-at .ensures .0) (q .if3 .left) in
+    let z : toZ w64 (ofZ w64 w) ≡ wholeAt (g .n) (k .row-at .result)
+    = toZ-ofZ {w = w64} (record { sfits = c .signal-whole .ok }) ∙ c .signal-whole .ensures in (
+      length-set (a .rows .raws) (a .rows .j) (toZ w64 (ofZ w64 w)) ∙ a .rows .inv .0,
+      rw (add-one (a .rows .j), z) (rw e at (a .rows .inv .1)),
+    )
 
--- src/signals.rt:104:1
 returns : tie.Need-returns Inv-rows μ-rows
-returns c = ?
+unfolding wholesOf
+returns c =
+    let a = c .before in
+    let g = a .before .args in
+    sym (ap (λ (l : List Row). sets (a .rows .raws) (a .rows .j) (wholesOf (g .n) l)) (block-end (g .kind) (a .rows .i) (c .if1 .taken)))
+    ∙ a .rows .inv .1
 
--- src/signals.rt:104:1
 returns-2 : tie.Need-returns-2 Inv-rows μ-rows
-returns-2 c = ?
+returns-2 c =
+    let a = c .before .before in
+    let g = a .before .args in
+    let h : length (a .rows .raws) ≤ a .rows .j = omega (arith, a .rows .inv .0, c .if2 .taken) in
+    sym (sets-out (a .rows .raws) (a .rows .j) (wholesOf (g .n) (block (g .kind) (drop (a .rows .i) rows))) h) ∙ a .rows .inv .1
 
--- src/signals.rt:104:1
 returns-3 : tie.Need-returns-3 Inv-rows μ-rows
-returns-3 c = ?
+unfolding wholesOf
+returns-3 c =
+    let k = c .before .before in
+    let a = k .before .before .before in
+    let g = a .before .args in
+    let e = block-out (g .kind) (a .rows .i) (k .row-at .result) (omega arith) (k .row-at .ensures .0) (c .if3 .taken) in
+    sym (ap (λ (l : List Row). sets (a .rows .raws) (a .rows .j) (wholesOf (g .n) l)) e) ∙ a .rows .inv .1
 
 pub unpack-spec : {M : Type 1} → statement M
 unpack-spec =

@@ -1,42 +1,55 @@
+-- `pages::table::first_of_kind` meets its contract. The loop's invariant: the search from row `i` on finds what the search of the whole table does.
+-- The measure is what is left of the table.
+use mathlib.Core.Path.{_≡_, refl, _∙_}
+use Prim.Native.Nat.{_-_}
+use native.Mathlib.Omega.{arith}
+use lib.ListN.{drop}
+use borrow.Author.Tests.{eq-eqb, ne-eqb}
+use Rattle.pages.specs.Table.{rows, rowCount, firstAt, hasKind}
+use Rattle.pages.proofs.Walk.{found-here, found-later, found-none}
 use Rattle.pages.proofs.table.first_of_kind.Statement.{statement}
 use Rattle.pages.proofs.table.first_of_kind.Tie as tie
-use Rattle.pages.proofs.table.first_of_kind.Reads as reads
-use Rattle.pages.proofs.table.first_of_kind.Lts as lts
-use Rattle.pages.proofs.table.row_at.Reads as row-at-reads
 
 abbrev Inv-rows : tie.InvT-rows
-Inv-rows kind i₀ i = ?
+Inv-rows kind i₀ i = firstAt (hasKind kind) i (drop i rows) ≡ firstAt (hasKind kind) 0 rows
 
 abbrev μ-rows : tie.MeasureT-rows
-μ-rows kind i₀ i = ?
+μ-rows kind i₀ i = rowCount - i
 
--- src/table.rt:320:5
 rows-holds : tie.Need-rows-holds Inv-rows μ-rows
-rows-holds c = ?
+rows-holds c = refl
 
--- src/table.rt:324:12
 row-at-requires : tie.Need-row-at-requires Inv-rows μ-rows
-row-at-requires c κs = ?
+row-at-requires c κs = omega arith
 
--- src/table.rt:327:9
 add-i : tie.Need-add-i Inv-rows μ-rows
-add-i c = ?
+add-i c = omega arith
 
--- src/table.rt:320:5
 rows-less : tie.Need-rows-less Inv-rows μ-rows
-rows-less c = ?
+rows-less c = omega arith
 
--- src/table.rt:320:5
 rows-again : tie.Need-rows-again Inv-rows μ-rows
-rows-again c = ?
+rows-again c =
+    let k = c .before .before in
+    let a = k .before .before in
+    let r = k .row-at .result in
+    found-later (hasKind (a .before .args .kind)) (a .rows .i) r (omega arith) (k .row-at .ensures .0)
+    (ne-eqb (r .kind) (a .before .args .kind) (c .if2 .left))
+    ∙ a .rows .inv
 
--- src/table.rt:316:1
 returns : tie.Need-returns Inv-rows μ-rows
-returns c = ?
+returns c =
+    let a = c .before in
+    found-none (hasKind (a .before .args .kind)) (a .rows .i) (c .if1 .taken) ∙ a .rows .inv
 
--- src/table.rt:316:1
 returns-2 : tie.Need-returns-2 Inv-rows μ-rows
-returns-2 c = ?
+returns-2 c =
+    let k = c .before .before in
+    let a = k .before .before in
+    let r = k .row-at .result in
+    found-here (hasKind (a .before .args .kind)) (a .rows .i) r (omega arith) (k .row-at .ensures .0)
+    (eq-eqb (r .kind) (a .before .args .kind) (c .if2 .taken))
+    ∙ a .rows .inv
 
 pub first-of-kind-spec : {M : Type 1} → statement M
 first-of-kind-spec =

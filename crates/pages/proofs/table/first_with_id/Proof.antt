@@ -1,42 +1,55 @@
+-- `pages::table::first_with_id` meets its contract. The loop's invariant: the search from row `i` on finds what the search of the whole table does.
+-- The measure is what is left of the table.
+use mathlib.Core.Path.{_≡_, refl, _∙_}
+use Prim.Native.Nat.{_-_}
+use native.Mathlib.Omega.{arith}
+use lib.ListN.{drop}
+use borrow.Author.Tests.{eq-eqb, ne-eqb}
+use Rattle.pages.specs.Table.{rows, rowCount, firstAt, hasId}
+use Rattle.pages.proofs.Walk.{found-here, found-later, found-none}
 use Rattle.pages.proofs.table.first_with_id.Statement.{statement}
 use Rattle.pages.proofs.table.first_with_id.Tie as tie
-use Rattle.pages.proofs.table.first_with_id.Reads as reads
-use Rattle.pages.proofs.table.first_with_id.Lts as lts
-use Rattle.pages.proofs.table.row_at.Reads as row-at-reads
 
 abbrev Inv-rows : tie.InvT-rows
-Inv-rows id i₀ i = ?
+Inv-rows id i₀ i = firstAt (hasId id) i (drop i rows) ≡ firstAt (hasId id) 0 rows
 
 abbrev μ-rows : tie.MeasureT-rows
-μ-rows id i₀ i = ?
+μ-rows id i₀ i = rowCount - i
 
--- src/table.rt:305:5
 rows-holds : tie.Need-rows-holds Inv-rows μ-rows
-rows-holds c = ?
+rows-holds c = refl
 
--- src/table.rt:309:12
 row-at-requires : tie.Need-row-at-requires Inv-rows μ-rows
-row-at-requires c κs = ?
+row-at-requires c κs = omega arith
 
--- src/table.rt:312:9
 add-i : tie.Need-add-i Inv-rows μ-rows
-add-i c = ?
+add-i c = omega arith
 
--- src/table.rt:305:5
 rows-less : tie.Need-rows-less Inv-rows μ-rows
-rows-less c = ?
+rows-less c = omega arith
 
--- src/table.rt:305:5
 rows-again : tie.Need-rows-again Inv-rows μ-rows
-rows-again c = ?
+rows-again c =
+    let k = c .before .before in
+    let a = k .before .before in
+    let r = k .row-at .result in
+    found-later (hasId (a .before .args .id)) (a .rows .i) r (omega arith) (k .row-at .ensures .0)
+    (ne-eqb (r .id) (a .before .args .id) (c .if2 .left))
+    ∙ a .rows .inv
 
--- src/table.rt:301:1
 returns : tie.Need-returns Inv-rows μ-rows
-returns c = ?
+returns c =
+    let a = c .before in
+    found-none (hasId (a .before .args .id)) (a .rows .i) (c .if1 .taken) ∙ a .rows .inv
 
--- src/table.rt:301:1
 returns-2 : tie.Need-returns-2 Inv-rows μ-rows
-returns-2 c = ?
+returns-2 c =
+    let k = c .before .before in
+    let a = k .before .before in
+    let r = k .row-at .result in
+    found-here (hasId (a .before .args .id)) (a .rows .i) r (omega arith) (k .row-at .ensures .0)
+    (eq-eqb (r .id) (a .before .args .id) (c .if2 .taken))
+    ∙ a .rows .inv
 
 pub first-with-id-spec : {M : Type 1} → statement M
 first-with-id-spec =

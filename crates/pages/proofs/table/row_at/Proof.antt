@@ -1,12 +1,10 @@
 -- `pages::table::row_at` meets its contract: the constant is the table of the definitions, and each of its rows is fine.
 use mathlib.Core.Path.{refl}
 use Rattle.pages.specs.Table.{rows}
-use Rattle.pages.proofs.Walk.{row-fine}
+use Rattle.pages.proofs.Rules.{row-fine}
 use borrow.Author.Needs.{needs}
 use Rattle.pages.proofs.table.row_at.Statement.{statement}
 use Rattle.pages.proofs.table.row_at.Tie as tie
-use Rattle.pages.proofs.table.row_at.Reads as reads
-use Rattle.pages.proofs.table.row_at.Lts as lts
 
 mul-result : tie.Need-mul-result
 mul-result c = search needs

@@ -1,54 +1,88 @@
+-- `pages::table::signal_at` meets its contract. The loop's invariant: the search from row `i` on finds what the search of the whole table does.
+-- The measure is what is left of the table.
+use mathlib.Core.Path.{_≡_, refl, ap, _∙_}
+use mathlib.Core.Bool.{Bool, true, false, _&&_, and-false}
+use Prim.Native.Nat.{ℕ, _+_, _-_}
+use native.Mathlib.Omega.{arith}
+use lib.ListN.{drop}
+use borrow.Author.Tests.{eq-eqb, ne-eqb}
+use Rattle.pages.specs.declared.Row.{Row}
+use Rattle.pages.specs.declared.Found.the-variants.{At}
+use Rattle.pages.specs.Table.{rows, rowCount, firstAt, hasKind, isSignal}
+use Rattle.pages.proofs.Walk.{found-here, found-later, found-none}
 use Rattle.pages.proofs.table.signal_at.Statement.{statement}
 use Rattle.pages.proofs.table.signal_at.Tie as tie
-use Rattle.pages.proofs.table.signal_at.Reads as reads
-use Rattle.pages.proofs.table.signal_at.Lts as lts
-use Rattle.pages.proofs.table.row_at.Reads as row-at-reads
 
 abbrev Inv-rows : tie.InvT-rows
-Inv-rows kind start i₀ i = ?
+Inv-rows kind start i₀ i = firstAt (isSignal kind start) i (drop i rows) ≡ firstAt (isSignal kind start) 0 rows
 
 abbrev μ-rows : tie.MeasureT-rows
-μ-rows kind start i₀ i = ?
+μ-rows kind start i₀ i = rowCount - i
 
--- src/table.rt:336:5
+no-kind : (k s : ℕ) (r : Row) → (r .kind ≡ k → ⊥) → isSignal k s r ≡ false
+no-kind k s r h = rw (ne-eqb (r .kind) k h)
+
+no-start : (k s : ℕ) (r : Row) → (r .start ≡ s → ⊥) → isSignal k s r ≡ false
+no-start k s r h = ap (λ (b : Bool). hasKind k r && b) (ne-eqb (r .start) s h) ∙ and-false (hasKind k r)
+
+the-signal : (k s : ℕ) (r : Row) → r .kind ≡ k → r .start ≡ s → isSignal k s r ≡ true
+the-signal k s r h e = rw (eq-eqb (r .kind) k h, eq-eqb (r .start) s e)
+
 rows-holds : tie.Need-rows-holds Inv-rows μ-rows
-rows-holds c = ?
+rows-holds c = refl
 
--- src/table.rt:340:13
 row-at-requires : tie.Need-row-at-requires Inv-rows μ-rows
-row-at-requires c κs = ?
+row-at-requires c κs = omega arith
 
--- src/table.rt:341:9
 add-i : tie.Need-add-i Inv-rows μ-rows
-add-i c = ?
+add-i c = omega arith
 
--- src/table.rt:336:5
 rows-less : tie.Need-rows-less Inv-rows μ-rows
-rows-less c = ?
+rows-less c = omega arith
 
--- src/table.rt:336:5
 rows-again : tie.Need-rows-again Inv-rows μ-rows
-rows-again c = ?
+rows-again c =
+    let k = c .before .before in
+    let a = k .before .before in
+    let g = a .before .args in
+    let r = k .row-at .result in
+    found-later (isSignal (g .kind) (g .start)) (a .rows .i) r (omega arith) (k .row-at .ensures .0)
+    (no-kind (g .kind) (g .start) r (c .if2 .taken))
+    ∙ a .rows .inv
 
--- src/table.rt:346:35
 sub-t7 : tie.Need-sub-t7 Inv-rows μ-rows
-sub-t7 c = ?
+sub-t7 c = omega arith
 
--- src/table.rt:336:5
 rows-less-2 : tie.Need-rows-less-2 Inv-rows μ-rows
-rows-less-2 c = ?
+rows-less-2 c = omega arith
 
--- src/table.rt:336:5
 rows-again-2 : tie.Need-rows-again-2 Inv-rows μ-rows
-rows-again-2 c = ?
+rows-again-2 c =
+    let k = c .before .before .before .before in
+    let a = k .before .before in
+    let g = a .before .args in
+    let r = k .row-at .result in
+    found-later (isSignal (g .kind) (g .start)) (a .rows .i) r (omega arith) (k .row-at .ensures .0)
+    (no-start (g .kind) (g .start) r (c .if3 .left))
+    ∙ a .rows .inv
 
--- src/table.rt:332:1
 returns : tie.Need-returns Inv-rows μ-rows
-returns c = ?
+returns c =
+    let a = c .before in
+    let g = a .before .args in
+    found-none (isSignal (g .kind) (g .start)) (a .rows .i) (c .if1 .taken) ∙ a .rows .inv
 
--- src/table.rt:332:1
 returns-2 : tie.Need-returns-2 Inv-rows μ-rows
-returns-2 c = ?
+returns-2 c =
+    let k = c .before .before .before .before in
+    let a = k .before .before in
+    let g = a .before .args in
+    let r = k .row-at .result in
+    let back : a .rows .i + 1 - 1 ≡ a .rows .i = omega arith in
+    ap At back
+    ∙ found-here (isSignal (g .kind) (g .start)) (a .rows .i) r (omega arith) (k .row-at .ensures .0)
+    (the-signal (g .kind) (g .start) r (c .before .before .if2 .left) (c .if3 .taken))
+    ∙ a .rows .inv
 
 pub signal-at-spec : {M : Type 1} → statement M
 signal-at-spec =

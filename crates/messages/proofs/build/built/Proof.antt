@@ -1,0 +1,130 @@
+-- `messages::build::built` meets its contract: a key decides the tests of `builtOf`, and each arm's message is that of its kind. Assumes nothing.
+use mir.Syntax.{w64}
+use mir.Facts.{toZ-ofZ}
+use borrow.Author.Needs.{needs, sfits-of}
+use Rattle.messages.specs.Read.{builtOf}
+use Rattle.messages.proofs.Choices.{past}
+use Rattle.messages.proofs.build.built.Statement.{statement}
+use Rattle.messages.proofs.build.built.Tie as tie
+
+status-requires : tie.Need-status-requires
+status-requires c κs = search needs
+
+parameters-requires : tie.Need-parameters-requires
+parameters-requires c κs = search needs
+
+array-copy-out-natural : tie.Need-array-copy-out-natural
+array-copy-out-natural c = search needs
+
+natural-requires : tie.Need-natural-requires
+natural-requires c κs = search needs
+
+state-of-requires : tie.Need-state-of-requires
+state-of-requires c κs = search needs
+
+session-requires : tie.Need-session-requires
+session-requires c κs = search needs
+
+array-copy-out-natural-2 : tie.Need-array-copy-out-natural-2
+array-copy-out-natural-2 c = search needs
+
+natural-requires-2 : tie.Need-natural-requires-2
+natural-requires-2 c κs = search needs
+
+status-of-requires : tie.Need-status-of-requires
+status-of-requires c κs = search needs
+
+control-requires : tie.Need-control-requires
+control-requires c κs = search needs
+
+array-copy-out-natural-3 : tie.Need-array-copy-out-natural-3
+array-copy-out-natural-3 c = search needs
+
+natural-requires-3 : tie.Need-natural-requires-3
+natural-requires-3 c κs = search needs
+
+end-of-requires : tie.Need-end-of-requires
+end-of-requires c κs = search needs
+
+array-copy-out-natural-4 : tie.Need-array-copy-out-natural-4
+array-copy-out-natural-4 c = search needs
+
+natural-requires-4 : tie.Need-natural-requires-4
+natural-requires-4 c κs = search needs
+
+origin-of-requires : tie.Need-origin-of-requires
+origin-of-requires c κs = search needs
+
+ev-id-requires : tie.Need-ev-id-requires
+ev-id-requires c κs = search needs
+
+returns : tie.Need-returns
+unfolding builtOf
+returns c = rw (c .before .match .keys1, c .status .ensures)
+
+returns-2 : tie.Need-returns-2
+unfolding builtOf
+returns-2 c = rw (c .before .match .keys2, c .parameters .ensures)
+
+returns-3 : tie.Need-returns-3
+unfolding builtOf
+returns-3 c =
+    rw (c .before .before .before .match .keys3, c .state-of .ensures, c .before .natural .ensures, toZ-ofZ {w = w64} (sfits-of (c .before .before .natural-arg .given)))
+
+returns-4 : tie.Need-returns-4
+unfolding builtOf
+returns-4 c = rw (c .before .match .keys4, c .session .ensures)
+
+returns-5 : tie.Need-returns-5
+unfolding builtOf
+returns-5 c =
+    rw (c .before .before .before .match .keys5, c .status-of .ensures, c .before .natural2 .ensures, toZ-ofZ {w = w64} (sfits-of (c .before .before .natural-arg2 .given)))
+
+returns-6 : tie.Need-returns-6
+unfolding builtOf
+returns-6 c = rw (c .before .match .keys6, c .control .ensures)
+
+returns-7 : tie.Need-returns-7
+unfolding builtOf
+returns-7 c =
+    rw (c .before .before .before .match .keys7, c .end-of .ensures, c .before .natural3 .ensures, toZ-ofZ {w = w64} (sfits-of (c .before .before .natural-arg3 .given)))
+
+returns-8 : tie.Need-returns-8
+unfolding builtOf
+returns-8 c =
+    rw (c .before .before .before .match .keys8, c .origin-of .ensures, c .before .natural4 .ensures, toZ-ofZ {w = w64} (sfits-of (c .before .before .natural-arg4 .given)))
+
+returns-9 : tie.Need-returns-9
+unfolding builtOf
+returns-9 c = rw (c .ev-id .ensures) (search past depth 12)
+
+pub built-spec : {M : Type 1} → statement M
+built-spec =
+    tie.close
+    (tie.spec
+    status-requires
+    parameters-requires
+    array-copy-out-natural
+    natural-requires
+    state-of-requires
+    session-requires
+    array-copy-out-natural-2
+    natural-requires-2
+    status-of-requires
+    control-requires
+    array-copy-out-natural-3
+    natural-requires-3
+    end-of-requires
+    array-copy-out-natural-4
+    natural-requires-4
+    origin-of-requires
+    ev-id-requires
+    returns
+    returns-2
+    returns-3
+    returns-4
+    returns-5
+    returns-6
+    returns-7
+    returns-8
+    returns-9)

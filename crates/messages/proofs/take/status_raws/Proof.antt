@@ -1,0 +1,67 @@
+-- `messages::take::status_raws` meets its contract: each number is its field's. Assumes nothing.
+use mir.Facts.{toZ-ofZ}
+use borrow.Author.Needs.{needs, sfits-of}
+use Rattle.pages.specs.Raws.{pad}
+use Rattle.messages.proofs.take.status_raws.Statement.{statement}
+use Rattle.messages.proofs.take.status_raws.Tie as tie
+
+word-raw-requires : tie.Need-word-raw-requires
+word-raw-requires c κs = search needs
+
+short-raw-requires : tie.Need-short-raw-requires
+short-raw-requires c κs = search needs
+
+celsius-raw-requires : tie.Need-celsius-raw-requires
+celsius-raw-requires c κs = search needs
+
+celsius-raw-requires-2 : tie.Need-celsius-raw-requires-2
+celsius-raw-requires-2 c κs = search needs
+
+enable-number-requires : tie.Need-enable-number-requires
+enable-number-requires c κs = search needs
+
+byte-raw-requires : tie.Need-byte-raw-requires
+byte-raw-requires c κs = search needs
+
+kilohms-raw-requires : tie.Need-kilohms-raw-requires
+kilohms-raw-requires c κs = search needs
+
+returns : tie.Need-returns
+unfolding pad
+returns c =
+    let b = c .before in
+    let e = b .before in
+    let t = e .before in
+    let m = t .before .before in
+    let a = m .before .before in
+    let v = a .before .before in
+    -- the message's signed fields fit
+    let g = a .before .struct-told .given in
+    simp (toZ-ofZ, sfits-of, v .word-raw .ok, a .short-raw .ok, m .celsius-raw .ok, t .celsius-raw2 .ok, b .byte-raw .ok, c .kilohms-raw .ok)
+    (simp (
+      toZ-ofZ,
+      sfits-of,
+      g .1 .0 .1,
+      g .1 .1 .0 .1,
+      g .1 .1 .1 .0 .1,
+      v .word-raw .ensures,
+      a .short-raw .ensures,
+      m .celsius-raw .ensures,
+      t .celsius-raw2 .ensures,
+      e .enable-number .ensures,
+      b .byte-raw .ensures,
+      c .kilohms-raw .ensures,
+    ))
+
+pub status-raws-spec : {M : Type 1} → statement M
+status-raws-spec =
+    tie.close
+    (tie.spec
+    word-raw-requires
+    short-raw-requires
+    celsius-raw-requires
+    celsius-raw-requires-2
+    enable-number-requires
+    byte-raw-requires
+    kilohms-raw-requires
+    returns)

@@ -1,0 +1,23 @@
+-- `messages::take::stop_raws` meets its contract: the one number is its label's. Assumes nothing.
+use mir.Syntax.{w64}
+use mir.Facts.{toZ-ofZ}
+use borrow.Author.Needs.{needs, sfits-of}
+use Rattle.messages.proofs.take.stop_raws.Statement.{statement}
+use Rattle.messages.proofs.take.stop_raws.Tie as tie
+
+origin-number-requires : tie.Need-origin-number-requires
+origin-number-requires c κs = search needs
+
+byte-raw-requires : tie.Need-byte-raw-requires
+byte-raw-requires c κs = search needs
+
+one-raw-requires : tie.Need-one-raw-requires
+one-raw-requires c κs = search needs
+
+returns : tie.Need-returns
+returns c =
+    rw (c .one-raw .ensures, toZ-ofZ {w = w64} (sfits-of (c .before .byte-raw .ok)), c .before .byte-raw .ensures, c .before .before .origin-number .ensures)
+
+pub stop-raws-spec : {M : Type 1} → statement M
+stop-raws-spec =
+    tie.close (tie.spec origin-number-requires byte-raw-requires one-raw-requires returns)

@@ -1,0 +1,38 @@
+-- The kinds that the session watch names, and the fields of a payload number of each.
+use Prim.Native.Nat.{ℕ}
+use Rattle.pages.specs.Raws.{rawsOf}
+use Rattle.messages.specs.declared.PowerModulesStatus.{PowerModulesStatus}
+use Rattle.messages.specs.declared.DcPowerParameters.{DcPowerParameters}
+use Rattle.messages.specs.declared.NewChargeSession.{NewChargeSession}
+use Rattle.messages.specs.declared.DcPowerControl.{DcPowerControl}
+use Rattle.messages.specs.Read.{at, statusOf, parametersOf, sessionOf, controlOf}
+
+abbrev pub statusKind : ℕ
+statusKind = 0
+
+abbrev pub parametersKind : ℕ
+parametersKind = 1
+
+abbrev pub controllerKind : ℕ
+controllerKind = 2
+
+abbrev pub sessionKind : ℕ
+sessionKind = 3
+
+abbrev pub controlKind : ℕ
+controlKind = 5
+
+abbrev pub finishedKind : ℕ
+finishedKind = 6
+
+unfoldable pub statusIn : ℕ → PowerModulesStatus
+statusIn n = statusOf (at (rawsOf statusKind n))
+
+unfoldable pub parametersIn : ℕ → DcPowerParameters
+parametersIn n = parametersOf (at (rawsOf parametersKind n))
+
+unfoldable pub sessionIn : ℕ → NewChargeSession
+sessionIn n = sessionOf (at (rawsOf sessionKind n))
+
+unfoldable pub controlIn : ℕ → DcPowerControl
+controlIn n = controlOf (at (rawsOf controlKind n))

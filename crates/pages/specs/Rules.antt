@@ -1,0 +1,49 @@
+-- The rules that the table keeps to, as one test that antt computes over all of it (`tableFine`).
+use Prim.Native.Nat.{ℕ, _+_, _*_, _^_, min}
+use mathlib.Core.Bool.{Bool, true, cond, not, _&&_}
+use mathlib.Core.List.{List, [], _∷_}
+use lib.Dec.{eqb, leb, ltb}
+use lib.ListN.{length}
+use Rattle.pages.specs.declared.Row.{Row}
+use Rattle.pages.specs.Table.{rows, rowCount, rowsOf, lowest}
+use Rattle.pages.specs.Raws.{signalCount}
+
+abbrev pub every : (Row → Bool) → List Row → Bool
+every f [] = true
+every f (r ∷ rs) = f r && every f rs
+
+-- the first bit above a row's signal
+abbrev pub above : Row → ℕ
+above r = lowest r + r .width
+
+-- each row: a message of at most 8 bytes; 1 to 63 bits, inside the message's length; each label fits the width and is below 64
+abbrev pub rowFine : Row → Bool
+rowFine r =
+    leb (r .bytes) 8
+    && leb 1 (r .width)
+    && leb (r .width) 63
+    && leb (above r) (8 * r .bytes)
+    && ltb (r .labels) (2 ^ min (2 ^ r .width) 64)
+
+-- two rows of one message, the earlier first: the same identifier and length in each row, in order and apart
+abbrev pub oneMessage : Row → Row → Bool
+oneMessage r q = eqb (r .id) (q .id) && eqb (r .bytes) (q .bytes) && leb (above r) (lowest q)
+
+-- two rows of two messages, the earlier first: kinds go up, so that a message's rows stand together, and identifiers differ
+abbrev pub twoMessages : Row → Row → Bool
+twoMessages r q = ltb (r .kind) (q .kind) && not (eqb (r .id) (q .id))
+
+abbrev pub inTurn : Row → Row → Bool
+inTurn r q = cond (eqb (r .kind) (q .kind)) (oneMessage r q) (twoMessages r q)
+
+-- every row with every later one
+abbrev pub allInTurn : List Row → Bool
+allInTurn [] = true
+allInTurn (r ∷ rs) = every (inTurn r) rs && allInTurn rs
+
+-- its message has no more signals than there is room for
+abbrev pub hasRoom : Row → Bool
+hasRoom r = leb (length (rowsOf (r .kind))) signalCount
+
+unfoldable pub tableFine : Bool
+tableFine = eqb (length rows) rowCount && every rowFine rows && allInTurn rows && every hasRoom rows
