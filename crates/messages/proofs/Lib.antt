@@ -1,2 +1,6 @@
 pub mod Signs
 pub mod Choices
+pub mod Marks
+pub mod FieldLaws
+pub mod Each
+pub mod Trips

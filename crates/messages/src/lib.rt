@@ -181,10 +181,15 @@ pub fn message_of(kind: usize, number: u64) -> Message
 
 // The fields of a payload number of the kinds that the session watch's rules name.
 pub const STATUS: usize = 0;
+
 pub const PARAMETERS: usize = 1;
+
 pub const CONTROLLER: usize = 2;
+
 pub const SESSION: usize = 3;
+
 pub const CONTROL: usize = 5;
+
 pub const FINISHED: usize = 6;
 
 pub fn status_in(number: u64) -> PowerModulesStatus

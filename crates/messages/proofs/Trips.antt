@@ -1,0 +1,220 @@
+-- 01: "Every allowed frame is read to its one message; writing it gives the same bytes, and what is written reads back as itself"
+-- (`read-write`, `write-read`, `one-message`), of every kind at once. A changed frame is read to the message of its number (`change-message`),
+-- and a refused message leaves the buffer whole (`write-refused`). Assumes nothing.
+use mathlib.Core.Path.{_≡_, refl, sym, ap, ap₂, _∙_, subst}
+use mathlib.Core.Bool.{Bool, true, false, cond, _&&_}
+use mathlib.Core.List.{List, _++_}
+use Prim.Native.Nat.{ℕ, _≤_}
+use native.Mathlib.Omega.{arith}
+use lib.Dec.{leb}
+use lib.ListN.{length, take, drop}
+use lib.IntN.{ℤ}
+use lib.Seq.{take-all, take-at, drop-at}
+use borrow.Author.Tests.{le-leb, leb-true, leb-false}
+use Rattle.signal.specs.Payload.{bytesOf, storedIn, Bytes}
+use Rattle.signal.proofs.Bytes.{length-bytes, bytes-are}
+use Rattle.signal.proofs.Totals.{stored-in, stored-not}
+use Rattle.pages.specs.declared.Judged.{Judged}
+use Rattle.pages.specs.declared.Judged.the-variants as judged
+use Rattle.pages.specs.declared.Refusal.{Refusal}
+use Rattle.pages.specs.declared.Refusal.the-variants.{NoRawNumber, ShortBuffer}
+use Rattle.pages.specs.declared.Written.{Written}
+use Rattle.pages.specs.declared.Written.the-variants as written
+use Rattle.pages.specs.Table.{rowsOf, identifierOf, lengthOf}
+use Rattle.pages.specs.Judge.{judgeOf}
+use Rattle.pages.specs.Raws.{signalCount, wholesOf, pad, allTake, packedOn, canWrite}
+use Rattle.pages.specs.Raws as pages
+use Rattle.pages.specs.Change.{changeOf, bytesAfter}
+use Rattle.pages.proofs.Rules.{both-true, few}
+use Rattle.pages.proofs.Trips.{accepted, raws-back, raws-there, wholes-length, all-pad, packed-pad}
+use Rattle.pages.proofs.Changes.{change-read}
+use Rattle.messages.specs.declared.Message.{Message}
+use Rattle.messages.specs.declared.Reading.the-variants.{Accepted}
+use Rattle.messages.specs.Read.{at, builtOf, messageOf, readingOf, readOf}
+use Rattle.messages.specs.Write.{rawsOf, hasRaws, kindOf, padded, writeOf, bufferAfter}
+use Rattle.messages.proofs.Each.{counted, known-kind, allFit, labels-hold, there, Back, back, message-is}
+
+-- ---- reading
+
+pub read-frame : (m : ℕ) (extended : Bool) (bs : List ℕ) (k n : ℕ) → judgeOf m extended bs ≡ judged.Frame k n → readOf m extended bs ≡ Accepted (messageOf k n)
+unfolding readOf
+read-frame m extended bs k n e = ap readingOf e
+
+-- the frame of a message that was read
+frame-read : (m : ℕ) (extended : Bool) (bs : List ℕ) (x : Message) → readOf m extended bs ≡ Accepted x
+    → (k : ℕ) × (n : ℕ) × (judgeOf m extended bs ≡ judged.Frame k n) × (messageOf k n ≡ x)
+unfolding readOf
+frame-read m extended bs x e = go (judgeOf m extended bs) refl e
+  where
+    go : (j : Judged) → judgeOf m extended bs ≡ j → readingOf j ≡ Accepted x → (k : ℕ) × (n : ℕ) × (judgeOf m extended bs ≡ judged.Frame k n) × (messageOf k n ≡ x)
+    go (judged.Frame k n) q e = (k, n, q, cc)
+    go (judged.Refused w) q e = absurd (let z : _≡_ {A = ℕ} 0 1 = cc in omega arith)
+
+-- ---- writing
+
+-- each value has a raw number, and each raw number fits its signal
+abbrev pub writable : Message → Bool
+writable x = hasRaws x && allFit (rowsOf (kindOf x)) (rawsOf x)
+
+-- the payload number of a message
+abbrev pub payloadOf : Message → ℕ
+payloadOf x = packedOn 0 (rowsOf (kindOf x)) (rawsOf x)
+
+-- a number for each signal, and room for them
+enough : (x : Message) → length (rowsOf (kindOf x)) ≤ length (rawsOf x)
+enough x = omega (arith, counted x)
+
+can-is : (x : Message) → canWrite (kindOf x) (padded x) ≡ allFit (rowsOf (kindOf x)) (rawsOf x)
+can-is x =
+    let rs = rowsOf (kindOf x) in
+    ap₂ (λ (a b : Bool). a && b) (le-leb 1 (length rs) (known-kind x)) (all-pad signalCount rs (rawsOf x) (few (kindOf x)) (enough x)) ∙ labels-hold x
+
+payload-is : (x : Message) → packedOn 0 (rowsOf (kindOf x)) (padded x) ≡ payloadOf x
+payload-is x = packed-pad signalCount 0 (rowsOf (kindOf x)) (rawsOf x) (few (kindOf x)) (enough x)
+
+-- 01: 7, "a value to be written has no raw number, or a raw number does not fit its signal", then 8, "lent buffer shorter than the message"
+abbrev pub answerOf : Message → Bool → Bool → Written
+answerOf x fits room =
+    cond fits (cond room (written.Wrote (identifierOf (kindOf x)) (lengthOf (kindOf x))) (written.Refused ShortBuffer)) (written.Refused NoRawNumber)
+
+abbrev hasRoom : Message → List ℕ → Bool
+hasRoom x buf = leb (lengthOf (kindOf x)) (length buf)
+
+pub write-answer : (x : Message) (buf : List ℕ) → writeOf x buf ≡ answerOf x (writable x) (leb (lengthOf (kindOf x)) (length buf))
+unfolding writeOf pages.writeRawsOf
+write-answer x buf = go (hasRaws x)
+  where
+    go : (a : Bool) → cond a (answerOf x (canWrite (kindOf x) (padded x)) (hasRoom x buf)) (written.Refused NoRawNumber)
+        ≡ answerOf x (a && allFit (rowsOf (kindOf x)) (rawsOf x)) (hasRoom x buf)
+    go true = ap (λ (b : Bool). answerOf x b (hasRoom x buf)) (can-is x)
+    go false = refl
+
+pub buffer-answer : (x : Message) (buf : List ℕ) → bufferAfter x buf ≡ cond (writable x) (storedIn (lengthOf (kindOf x)) (payloadOf x) buf) buf
+unfolding bufferAfter pages.bufferAfter
+buffer-answer x buf = go (hasRaws x)
+  where
+    go : (a : Bool) → cond a (cond (canWrite (kindOf x) (padded x)) (storedIn (lengthOf (kindOf x)) (packedOn 0 (rowsOf (kindOf x)) (padded x)) buf) buf) buf
+        ≡ cond (a && allFit (rowsOf (kindOf x)) (rawsOf x)) (storedIn (lengthOf (kindOf x)) (payloadOf x) buf) buf
+    go true = ap₂ (λ (b : Bool) (n : ℕ). cond b (storedIn (lengthOf (kindOf x)) n buf) buf) (can-is x) (payload-is x)
+    go false = refl
+
+-- a message that is written, into room enough
+module _ (x : Message) (buf : List ℕ) (w : writable x ≡ true) (room : lengthOf (kindOf x) ≤ length buf) where
+  pub writes : writeOf x buf ≡ written.Wrote (identifierOf (kindOf x)) (lengthOf (kindOf x))
+  writes = write-answer x buf ∙ rw (w, le-leb (lengthOf (kindOf x)) (length buf) room)
+
+  pub stores : bufferAfter x buf ≡ bytesOf (lengthOf (kindOf x)) (payloadOf x) ++ drop (lengthOf (kindOf x)) buf
+  stores = buffer-answer x buf ∙ rw w (stored-in (lengthOf (kindOf x)) (payloadOf x) buf room)
+
+-- what is known of a message that was written
+pub record Writes (x : Message) (buf : List ℕ) (m k : ℕ) : Type 0 where
+  pub fits : writable x ≡ true
+  pub room : lengthOf (kindOf x) ≤ length buf
+  pub identifier : identifierOf (kindOf x) ≡ m
+  pub sized : lengthOf (kindOf x) ≡ k
+
+pub wrote : (x : Message) (buf : List ℕ) (m k : ℕ) → writeOf x buf ≡ written.Wrote m k → Writes x buf m k
+wrote x buf m k e = go (writable x) (hasRoom x buf) refl refl (sym (write-answer x buf) ∙ e)
+  where
+    go : (a b : Bool) → writable x ≡ a → hasRoom x buf ≡ b → answerOf x a b ≡ written.Wrote m k → Writes x buf m k
+    go true true p q e = record { fits = p; room = leb-true (lengthOf (kindOf x)) (length buf) q; identifier = cc; sized = cc }
+    go true false p q e = absurd (let z : _≡_ {A = ℕ} 0 1 = cc in omega arith)
+    go false b p q e = absurd (let z : _≡_ {A = ℕ} 0 1 = cc in omega arith)
+
+-- THEOREM: 01, "lent bytes stay as they were": a refused message leaves the buffer whole
+pub write-refused : (x : Message) (buf : List ℕ) (w : Refusal) → writeOf x buf ≡ written.Refused w → bufferAfter x buf ≡ buf
+write-refused x buf w e = buffer-answer x buf ∙ go (writable x) (hasRoom x buf) refl (sym (write-answer x buf) ∙ e)
+  where
+    go : (a b : Bool) → hasRoom x buf ≡ b → answerOf x a b ≡ written.Refused w → cond a (storedIn (lengthOf (kindOf x)) (payloadOf x) buf) buf ≡ buf
+    go true true q e = absurd (let z : _≡_ {A = ℕ} 0 1 = cc in omega arith)
+    go true false q e = stored-not (lengthOf (kindOf x)) (payloadOf x) buf (leb-false (lengthOf (kindOf x)) (length buf) q)
+    go false b q e = refl
+
+-- ---- an accepted frame, as its message writes it
+
+-- the message of a frame has its identifier, length and bytes
+record Same (m : ℕ) (bs : List ℕ) (x : Message) : Type 0 where
+  fits : writable x ≡ true
+  identifier : identifierOf (kindOf x) ≡ m
+  sized : lengthOf (kindOf x) ≡ length bs
+  bytes : bytesOf (lengthOf (kindOf x)) (payloadOf x) ≡ bs
+
+same : (m : ℕ) (extended : Bool) (bs : List ℕ) (x : Message) → readOf m extended bs ≡ Accepted x → Bytes bs → Same m bs x
+unfolding pages.rawsOf
+same m extended bs x e hb = let f = frame-read m extended bs x e in go (f .0) (f .1) (f .2) (f .3)
+  where
+    go : (k n : ℕ) → judgeOf m extended bs ≡ judged.Frame k n → messageOf k n ≡ x → Same m bs x
+    go k n j q =
+        let t = accepted m extended bs k n j in
+        let r = raws-back m extended bs k n j hb in
+        let rs = rowsOf k in
+        let zs = wholesOf n rs in
+        let b : Back k zs x = subst (Back k zs) (sym (message-is k n) ∙ q) (back k n (t .some) (t .labelled)) in
+        let l : length rs ≤ length zs = omega (arith, wholes-length n rs) in
+        let taken : allTake rs zs ≡ true = sym (all-pad signalCount rs zs (few k) l) ∙ both-true (leb 1 (length rs)) (allTake rs (pad signalCount zs)) (r .writes) .1 in
+        let number : payloadOf x ≡ n
+        = ap₂ (λ (i : ℕ) (ys : List ℤ). packedOn 0 (rowsOf i) ys) (b .0) (b .1) ∙ sym (packed-pad signalCount 0 rs zs (few k) l) ∙ r .number in
+        record {
+          fits = ap₂ (λ (c d : Bool). c && d) (b .2) (sym (labels-hold x) ∙ ap₂ (λ (i : ℕ) (ys : List ℤ). allTake (rowsOf i) ys) (b .0) (b .1) ∙ taken);
+          identifier = ap identifierOf (b .0) ∙ t .identifier;
+          sized = ap lengthOf (b .0) ∙ sym (t .sized);
+          bytes = ap₂ (λ (i : ℕ) (y : ℕ). bytesOf (lengthOf i) y) (b .0) number ∙ r .bytes;
+        }
+
+-- x is written under the identifier m as the bytes bs, into any buffer with room for them, whose other bytes stay
+abbrev pub WrittenAs : ℕ → List ℕ → Message → Type 0
+WrittenAs m bs x = (buf : List ℕ) → length bs ≤ length buf → (writeOf x buf ≡ written.Wrote m (length bs)) × (bufferAfter x buf ≡ bs ++ drop (length bs) buf)
+
+-- THEOREM: 01, "Every allowed frame is read to its one message; writing it gives the same bytes"
+pub read-write : (m : ℕ) (extended : Bool) (bs : List ℕ) (x : Message) → readOf m extended bs ≡ Accepted x → Bytes bs → WrittenAs m bs x
+read-write m extended bs x e hb buf room =
+    let f = same m extended bs x e hb in
+    let h : lengthOf (kindOf x) ≤ length buf = omega (arith, f .sized) in (
+      writes x buf (f .fits) h ∙ ap₂ written.Wrote (f .identifier) (f .sized),
+      stores x buf (f .fits) h ∙ ap₂ (λ (cs : List ℕ) (i : ℕ). cs ++ drop i buf) (f .bytes) (f .sized),
+    )
+
+-- ---- a message, as its bytes are read
+
+reads : (x : Message) → writable x ≡ true → readOf (identifierOf (kindOf x)) true (bytesOf (lengthOf (kindOf x)) (payloadOf x)) ≡ Accepted x
+reads x w =
+    let k = kindOf x in
+    let rs = rowsOf k in
+    let n = payloadOf x in
+    let p = both-true (hasRaws x) (allFit rs (rawsOf x)) w in
+    let taken : allTake rs (rawsOf x) ≡ true = labels-hold x ∙ p .1 in
+    let r = raws-there k (rawsOf x) (ap₂ (λ (a b : Bool). a && b) (le-leb 1 (length rs) (known-kind x)) taken) in
+    let again : wholesOf n rs ≡ rawsOf x = r .raws ∙ take-all (length rs) (rawsOf x) (omega (arith, counted x)) in
+    read-frame (identifierOf k) true (bytesOf (lengthOf k) n) k n (r .reads)
+    ∙ ap Accepted (message-is k n ∙ ap (λ (zs : List ℤ). builtOf k (at zs)) again ∙ there x (p .0) taken)
+
+-- THEOREM: 01, "what is written reads back as itself", and the buffer changes nowhere else
+pub write-read : (x : Message) (buf : List ℕ) (m k : ℕ) → writeOf x buf ≡ written.Wrote m k
+    → (readOf m true (take k (bufferAfter x buf)) ≡ Accepted x) × (drop k (bufferAfter x buf) ≡ drop k buf)
+write-read x buf m k e =
+    let w = wrote x buf m k e in
+    let bs = bytesOf (lengthOf (kindOf x)) (payloadOf x) in
+    let l : length bs ≡ k = length-bytes (lengthOf (kindOf x)) (payloadOf x) ∙ w .sized in
+    let b : bufferAfter x buf ≡ bs ++ drop k buf = stores x buf (w .fits) (w .room) ∙ ap (λ (i : ℕ). bs ++ drop i buf) (w .sized) in (
+      ap₂ (λ (i : ℕ) (cs : List ℕ). readOf i true cs) (sym (w .identifier)) (ap (take k) b ∙ take-at bs (drop k buf) k l) ∙ reads x (w .fits),
+      ap (drop k) b ∙ drop-at bs (drop k buf) k l,
+    )
+
+-- THEOREM: no two messages are written as the same bytes under the same identifier
+pub one-message : (x y : Message) (buf buf′ : List ℕ) (m k k′ : ℕ) → writeOf x buf ≡ written.Wrote m k → writeOf y buf′ ≡ written.Wrote m k′
+    → take k (bufferAfter x buf) ≡ take k′ (bufferAfter y buf′) → x ≡ y
+one-message x y buf buf′ m k k′ e f s =
+    let p : readOf m true (take k (bufferAfter x buf)) ≡ Accepted x = write-read x buf m k e .0 in
+    let q : readOf m true (take k′ (bufferAfter y buf′)) ≡ Accepted y = write-read y buf′ m k′ f .0 in
+    let r : Accepted x ≡ Accepted y = sym p ∙ ap (readOf m true) s ∙ q in
+    cc
+
+-- THEOREM: a changed frame is read to the message of its number, which is written as the changed bytes
+pub change-message : (m : ℕ) (extended : Bool) (bs : List ℕ) (s : ℕ) (z : ℤ) (k n : ℕ) → changeOf m extended bs s z ≡ judged.Frame k n → Bytes bs
+    → (readOf m extended (bytesAfter bs (changeOf m extended bs s z)) ≡ Accepted (messageOf k n))
+    × WrittenAs m (bytesAfter bs (changeOf m extended bs s z)) (messageOf k n)
+change-message m extended bs s z k n e hb =
+    let cs = bytesAfter bs (changeOf m extended bs s z) in
+    let r : readOf m extended cs ≡ Accepted (messageOf k n) = read-frame m extended cs k n (change-read m extended bs s z k n e hb .0) in
+    let b : Bytes cs = subst Bytes (sym (ap (bytesAfter bs) e)) (bytes-are (length bs) n) in
+    (r, read-write m extended cs (messageOf k n) r b)
