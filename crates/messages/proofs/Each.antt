@@ -14,7 +14,7 @@ use Rattle.signal.specs.Raw.{fitsIn, bitsIn}
 use Rattle.signal.proofs.Laws.{get-lt}
 use Rattle.signal.proofs.RawLaws.{value-fits}
 use Rattle.pages.specs.declared.Row.{Row}
-use Rattle.pages.specs.Table.{rows, noRow, ofKind, rowsOf, hasKind, lowest, bitsAt, takes}
+use Rattle.pages.specs.Table.{rows, noRow, keep, ofKind, rowsOf, hasKind, lowest, bitsAt, takes}
 use Rattle.pages.specs.Judge.{unlabelled}
 use Rattle.pages.specs.Raws.{signalCount, wholeAt, wholesOf, pad, rowTakes, allTake}
 use Rattle.pages.specs.Raws as pages
@@ -29,7 +29,7 @@ use Rattle.messages.specs.declared.Message.the-variants.{Status, Paramet
 use Rattle.messages.specs.Read.{at, statusOf, parametersOf, controlOf, idOf, builtOf, messageOf}
 use Rattle.messages.specs.Write.{statusRaws, parametersRaws, controlRaws, idRaws, rawsOf, hasRaws, kindOf}
 use Rattle.messages.proofs.FieldLaws.{Field, bytes, words, shorts, degrees, flags, kilohms-there, kilohms-back, kilohms-even}
-use Rattle.messages.proofs.Marks.{Label, signalsOf, signals-are, signalAt, enable-label, state-label, protocol-label, plug-label, status-label, function-label, mode-label, contactors-label, lowering-label, end-label, origin-label}
+use Rattle.messages.proofs.Marks.{Label, signalAt, enable-label, state-label, protocol-label, plug-label, status-label, function-label, mode-label, contactors-label, lowering-label, end-label, origin-label}
 
 -- ---- the table has each kind, with as many signals as the kind has numbers
 
@@ -76,10 +76,10 @@ abbrev Fits : Bool → ℕ → ℤ → Type 0
 Fits sgn w z = fitsIn sgn w z ≡ true
 
 -- number j of a message fits signal j of its kind
-fits-at : (k : ℕ) (zs : List ℤ) → allTake (signalsOf k) zs ≡ true → (j : ℕ) → T (ltb j (length (signalsOf k))) → Fits (signalAt k j .signed) (signalAt k j .width) (at zs j)
+fits-at : (k : ℕ) (zs : List ℤ) → allTake (rowsOf k) zs ≡ true → (j : ℕ) → T (ltb j (length (rowsOf k))) → Fits (signalAt k j .signed) (signalAt k j .width) (at zs j)
 fits-at k zs e j t =
     both-true (fitsIn (signalAt k j .signed) (signalAt k j .width) (at zs j)) (takes (signalAt k j .labels) (bitsIn (signalAt k j .signed) (signalAt k j .width) (at zs j)))
-    (takes-at (signalsOf k) zs e j (ltb→lt j (length (signalsOf k)) t)) .0
+    (takes-at (rowsOf k) zs e j (ltb→lt j (length (rowsOf k)) t)) .0
 
 -- ---- labels: a message's labels are those of its signals, so that a signal refuses only a number that does not fit
 
@@ -103,8 +103,8 @@ take-fit (r ∷ rs) (z ∷ zs) e =
     let b = both-true (takes (r .labels) (bitsIn (r .signed) (r .width) z)) (labelsAt rs zs) e in
     ap₂ (λ (x y : Bool). f && x && y) (b .0) (take-fit rs zs (b .1)) ∙ ap (λ (x : Bool). x && allFit rs zs) (and-true f)
 
-labels-in : (m : Message) → labelsAt (signalsOf (kindOf m)) (rawsOf m) ≡ true
-unfolding rows rawsOf
+labels-in : (m : Message) → labelsAt (rowsOf (kindOf m)) (rawsOf m) ≡ true
+unfolding rows ofKind rawsOf
 labels-in (Status s) = rw (enable-label .labelled (s .enable))
 labels-in (Parameters s) = refl
 labels-in (Controller s) = rw (state-label .labelled (s .state))
@@ -116,12 +116,12 @@ labels-in (Stop s) = rw (origin-label .labelled (s .origin))
 labels-in (Id s) = refl
 
 pub labels-hold : (m : Message) → allTake (rowsOf (kindOf m)) (rawsOf m) ≡ allFit (rowsOf (kindOf m)) (rawsOf m)
-labels-hold m = take-fit (rowsOf (kindOf m)) (rawsOf m) (rw (signals-are (kindOf m)) at (labels-in m))
+labels-hold m = take-fit (rowsOf (kindOf m)) (rawsOf m) (labels-in m)
 
 -- ---- there: a message's raw numbers make it again
 
-status-there : (s : PowerModulesStatus) → hasRaws (Status s) ≡ true → allTake (signalsOf 0) (statusRaws s) ≡ true → statusOf (at (statusRaws s)) ≡ s
-unfolding rows
+status-there : (s : PowerModulesStatus) → hasRaws (Status s) ≡ true → allTake (rowsOf 0) (statusRaws s) ≡ true → statusOf (at (statusRaws s)) ≡ s
+unfolding rows ofKind
 status-there s h e =
     let f = fits-at 0 (statusRaws s) e in
     λ i. record {
@@ -133,8 +133,8 @@ status-there s h e =
       insulation = kilohms-there (s .insulation) h (f 5 tt) i;
     }
 
-parameters-there : (s : DcPowerParameters) → allTake (signalsOf 1) (parametersRaws s) ≡ true → parametersOf (at (parametersRaws s)) ≡ s
-unfolding rows
+parameters-there : (s : DcPowerParameters) → allTake (rowsOf 1) (parametersRaws s) ≡ true → parametersOf (at (parametersRaws s)) ≡ s
+unfolding rows ofKind
 parameters-there s e =
     let f = fits-at 1 (parametersRaws s) e in
     λ i. record {
@@ -144,8 +144,8 @@ parameters-there s e =
       target = shorts .there (s .target) (f 3 tt) i;
     }
 
-control-there : (s : DcPowerControl) → allTake (signalsOf 5) (controlRaws s) ≡ true → controlOf (at (controlRaws s)) ≡ s
-unfolding rows
+control-there : (s : DcPowerControl) → allTake (rowsOf 5) (controlRaws s) ≡ true → controlOf (at (controlRaws s)) ≡ s
+unfolding rows ofKind
 control-there s e =
     let f = fits-at 5 (controlRaws s) e in
     λ i. record {
@@ -159,8 +159,8 @@ control-there s e =
       lowering = lowering-label .there (s .lowering) i;
     }
 
-id-there : (s : EvId) → allTake (signalsOf 8) (idRaws s) ≡ true → idOf (at (idRaws s)) ≡ s
-unfolding rows
+id-there : (s : EvId) → allTake (rowsOf 8) (idRaws s) ≡ true → idOf (at (idRaws s)) ≡ s
+unfolding rows ofKind
 id-there s e =
     let f = fits-at 8 (idRaws s) e in
     λ i. record {
@@ -172,20 +172,17 @@ id-there s e =
       byte5 = bytes .there (s .byte5) (f 5 tt) i;
     }
 
-there-in : (m : Message) → hasRaws m ≡ true → allTake (signalsOf (kindOf m)) (rawsOf m) ≡ true → builtOf (kindOf m) (at (rawsOf m)) ≡ m
-unfolding rawsOf builtOf
-there-in (Status s) h e = ap Status (status-there s h e)
-there-in (Parameters s) h e = ap Parameters (parameters-there s e)
-there-in (Controller s) h e = λ i. Controller (record { state = state-label .there (s .state) i })
-there-in (Session s) h e = λ i. Session (record { protocol = protocol-label .there (s .protocol) i; plug = plug-label .there (s .plug) i })
-there-in (Change s) h e = λ i. Change (record { status = status-label .there (s .status) i })
-there-in (Control s) h e = ap Control (control-there s e)
-there-in (Finished s) h e = λ i. Finished (record { state = end-label .there (s .state) i })
-there-in (Stop s) h e = λ i. Stop (record { origin = origin-label .there (s .origin) i })
-there-in (Id s) h e = ap Id (id-there s e)
-
 pub there : (m : Message) → hasRaws m ≡ true → allTake (rowsOf (kindOf m)) (rawsOf m) ≡ true → builtOf (kindOf m) (at (rawsOf m)) ≡ m
-there m h e = there-in m h (rw (signals-are (kindOf m)) e)
+unfolding rawsOf builtOf
+there (Status s) h e = ap Status (status-there s h e)
+there (Parameters s) h e = ap Parameters (parameters-there s e)
+there (Controller s) h e = λ i. Controller (record { state = state-label .there (s .state) i })
+there (Session s) h e = λ i. Session (record { protocol = protocol-label .there (s .protocol) i; plug = plug-label .there (s .plug) i })
+there (Change s) h e = λ i. Change (record { status = status-label .there (s .status) i })
+there (Control s) h e = ap Control (control-there s e)
+there (Finished s) h e = λ i. Finished (record { state = end-label .there (s .state) i })
+there (Stop s) h e = λ i. Stop (record { origin = origin-label .there (s .origin) i })
+there (Id s) h e = ap Id (id-there s e)
 
 -- ---- back: the raw numbers of a payload whose labels hold are those of the message that they make
 
@@ -195,7 +192,7 @@ Back k zs m = (kindOf m ≡ k) × (rawsOf m ≡ zs) × (hasRaws m ≡ true)
 
 -- of kind k
 abbrev Return : ℕ → ℕ → Type 0
-Return n k = unlabelled n (signalsOf k) ≡ false → Back k (wholesOf n (signalsOf k)) (builtOf k (at (wholesOf n (signalsOf k))))
+Return n k = unlabelled n (rowsOf k) ≡ false → Back k (wholesOf n (rowsOf k)) (builtOf k (at (wholesOf n (rowsOf k))))
 
 whole-fits : (n k j : ℕ) → T (leb 1 (signalAt k j .width)) → Fits (signalAt k j .signed) (signalAt k j .width) (wholeAt n (signalAt k j))
 whole-fits n k j t =
@@ -207,15 +204,15 @@ field-back : (n k j : ℕ) → T (leb 1 (signalAt k j .width))
     → raw (of (wholeAt n (signalAt k j))) ≡ wholeAt n (signalAt k j)
 field-back n k j t f = f .back (wholeAt n (signalAt k j)) (whole-fits n k j t)
 
-label-back : (n k : ℕ) → unlabelled n (signalsOf k) ≡ false → (j : ℕ) → T (ltb j (length (signalsOf k)))
+label-back : (n k : ℕ) → unlabelled n (rowsOf k) ≡ false → (j : ℕ) → T (ltb j (length (rowsOf k)))
     → {L : Type 0} {number : L → ℕ} {of : ℕ → L} → Label number of (signalAt k j)
     → pos (number (of (bitsAt n (signalAt k j)))) ≡ pos (bitsAt n (signalAt k j))
 label-back n k e j t l =
     let r = signalAt k j in
-    ap pos (l .back (bitsAt n r) (labelled-at n (signalsOf k) e j (ltb→lt j (length (signalsOf k)) t)) (get-lt n (lowest r) (r .width)))
+    ap pos (l .back (bitsAt n r) (labelled-at n (rowsOf k) e j (ltb→lt j (length (rowsOf k)) t)) (get-lt n (lowest r) (r .width)))
 
 status-back : (n : ℕ) → Return n 0
-unfolding rows wholesOf rawsOf builtOf
+unfolding rows ofKind wholesOf rawsOf builtOf
 status-back n e = (
   refl,
   λ i. field-back n 0 0 tt words i
@@ -229,7 +226,7 @@ status-back n e = (
 )
 
 parameters-back : (n : ℕ) → Return n 1
-unfolding rows wholesOf rawsOf builtOf
+unfolding rows ofKind wholesOf rawsOf builtOf
 parameters-back n e = (
   refl,
   λ i. field-back n 1 0 tt words i
@@ -241,19 +238,19 @@ parameters-back n e = (
 )
 
 controller-back : (n : ℕ) → Return n 2
-unfolding rows wholesOf rawsOf builtOf
+unfolding rows ofKind wholesOf rawsOf builtOf
 controller-back n e = (refl, λ i. label-back n 2 e 0 tt state-label i ∷ [], refl)
 
 session-back : (n : ℕ) → Return n 3
-unfolding rows wholesOf rawsOf builtOf
+unfolding rows ofKind wholesOf rawsOf builtOf
 session-back n e = (refl, λ i. label-back n 3 e 0 tt protocol-label i ∷ label-back n 3 e 1 tt plug-label i ∷ [], refl)
 
 change-back : (n : ℕ) → Return n 4
-unfolding rows wholesOf rawsOf builtOf
+unfolding rows ofKind wholesOf rawsOf builtOf
 change-back n e = (refl, λ i. label-back n 4 e 0 tt status-label i ∷ [], refl)
 
 control-back : (n : ℕ) → Return n 5
-unfolding rows wholesOf rawsOf builtOf
+unfolding rows ofKind wholesOf rawsOf builtOf
 control-back n e = (
   refl,
   λ i. field-back n 5 0 tt words i
@@ -269,15 +266,15 @@ control-back n e = (
 )
 
 finished-back : (n : ℕ) → Return n 6
-unfolding rows wholesOf rawsOf builtOf
+unfolding rows ofKind wholesOf rawsOf builtOf
 finished-back n e = (refl, λ i. label-back n 6 e 0 tt end-label i ∷ [], refl)
 
 stop-back : (n : ℕ) → Return n 7
-unfolding rows wholesOf rawsOf builtOf
+unfolding rows ofKind wholesOf rawsOf builtOf
 stop-back n e = (refl, λ i. label-back n 7 e 0 tt origin-label i ∷ [], refl)
 
 id-back : (n : ℕ) → Return n 8
-unfolding rows wholesOf rawsOf builtOf
+unfolding rows ofKind wholesOf rawsOf builtOf
 id-back n e = (
   refl,
   λ i. field-back n 8 0 tt bytes i
@@ -307,12 +304,12 @@ kind-below k (r ∷ rs) e h =
     go (hasKind k r) refl (b .0) (kind-below k rs (b .1)) h
   where
     go : (b : Bool) → hasKind k r ≡ b → ltb (r .kind) kindCount ≡ true → (1 ≤ length (ofKind k rs) → k < kindCount)
-        → 1 ≤ length (cond b (r ∷ ofKind k rs) (ofKind k rs)) → k < kindCount
+        → 1 ≤ length (keep b r (ofKind k rs)) → k < kindCount
     go true q l f o = subst (λ (x : ℕ). x < kindCount) (eqb-true (r .kind) k q) (ltb-true (r .kind) kindCount l)
     go false q l f o = f o
 
 pub kinds : (k : ℕ) → 1 ≤ length (rowsOf k) → k < kindCount
-unfolding rows
+unfolding rows ofKind
 kinds k h = kind-below k rows refl h
 
 -- P at each number below c
@@ -327,11 +324,9 @@ upto P (suc c) p (suc k) h = upto (λ (x : ℕ). P (suc x)) c (p .1) k (le-of-su
 
 pub back : (k n : ℕ) → 1 ≤ length (rowsOf k) → unlabelled n (rowsOf k) ≡ false → Back k (wholesOf n (rowsOf k)) (builtOf k (at (wholesOf n (rowsOf k))))
 back k n h =
-    let p : Return n k
-    = upto (Return n) kindCount
+    upto (Return n) kindCount
     (status-back n, (parameters-back n, (controller-back n, (session-back n, (change-back n, (control-back n, (finished-back n, (stop-back n, (id-back n, tt)))))))))
-    k (kinds k h) in
-    rw (signals-are k) at p
+    k (kinds k h)
 
 -- ---- an array of the numbers, with 0 where they end
 

@@ -38,33 +38,9 @@ use Rattle.messages.specs.Labels.{enableNumber, enableOf, stateNumber, s
 
 -- ---- the signals of a kind
 
-abbrev keep : Bool → Row → List Row → List Row
-keep true r rs = r ∷ rs
-keep false r rs = rs
-
-abbrev pub kept : ℕ → List Row → List Row
-kept k [] = []
-kept k (r ∷ rs) = keep (hasKind k r) r (kept k rs)
-
--- `rowsOf k`, so written that antt computes the rest of the table once at each row
-abbrev pub signalsOf : ℕ → List Row
-signalsOf k = kept k rows
-
-kept-are : (k : ℕ) (rs : List Row) → kept k rs ≡ ofKind k rs
-unfolding ofKind
-kept-are k [] = refl
-kept-are k (r ∷ rs) = go (hasKind k r) (kept-are k rs)
-  where
-    go : (b : Bool) → kept k rs ≡ ofKind k rs → keep b r (kept k rs) ≡ cond b (r ∷ ofKind k rs) (ofKind k rs)
-    go true e = ap (λ (l : List Row). r ∷ l) e
-    go false e = e
-
-pub signals-are : (k : ℕ) → signalsOf k ≡ rowsOf k
-signals-are k = kept-are k rows
-
 -- signal j of kind k, as the table lists them
 abbrev pub signalAt : ℕ → ℕ → Row
-signalAt k j = getD (signalsOf k) j noRow
+signalAt k j = getD (rowsOf k) j noRow
 
 -- ---- labels
 
@@ -120,7 +96,7 @@ marked {L} {number} {of} {r} m t =
 -- ---- the label types, each at its signal
 
 pub enable-label : Label enableNumber enableOf (signalAt 0 4)
-unfolding rows
+unfolding rows ofKind
 enable-label = marked each tt
   where
     each : (l : SystemEnable) → Mark enableNumber enableOf (signalAt 0 4) l
@@ -128,7 +104,7 @@ enable-label = marked each tt
     each enable.Allowed = (refl, refl, refl)
 
 pub state-label : Label stateNumber stateOf (signalAt 2 0)
-unfolding rows
+unfolding rows ofKind
 state-label = marked each tt
   where
     each : (l : ControllerState) → Mark stateNumber stateOf (signalAt 2 0) l
@@ -148,7 +124,7 @@ state-label = marked each tt
     each state.ChargePause = (refl, refl, refl)
 
 pub protocol-label : Label protocolNumber protocolOf (signalAt 3 0)
-unfolding rows
+unfolding rows ofKind
 protocol-label = marked each tt
   where
     each : (l : Protocol) → Mark protocolNumber protocolOf (signalAt 3 0) l
@@ -162,7 +138,7 @@ protocol-label = marked each tt
     each protocol.CcsIso15118v2022 = (refl, refl, refl)
 
 pub plug-label : Label plugNumber plugOf (signalAt 3 1)
-unfolding rows
+unfolding rows ofKind
 plug-label = marked each tt
   where
     each : (l : Plug) → Mark plugNumber plugOf (signalAt 3 1) l
@@ -173,7 +149,7 @@ plug-label = marked each tt
     each plug.Mcs = (refl, refl, refl)
 
 pub status-label : Label statusNumber statusOf (signalAt 4 0)
-unfolding rows
+unfolding rows ofKind
 status-label = marked each tt
   where
     each : (l : ChargeStatus) → Mark statusNumber statusOf (signalAt 4 0) l
@@ -181,7 +157,7 @@ status-label = marked each tt
     each status.ChargeStarted = (refl, refl, refl)
 
 pub function-label : Label functionNumber functionOf (signalAt 5 3)
-unfolding rows
+unfolding rows ofKind
 function-label = marked each tt
   where
     each : (l : PowerFunction) → Mark functionNumber functionOf (signalAt 5 3) l
@@ -192,7 +168,7 @@ function-label = marked each tt
     each function.PowerTransfer = (refl, refl, refl)
 
 pub mode-label : Label modeNumber modeOf (signalAt 5 5)
-unfolding rows
+unfolding rows ofKind
 mode-label = marked each tt
   where
     each : (l : SetpointsMode) → Mark modeNumber modeOf (signalAt 5 5) l
@@ -200,7 +176,7 @@ mode-label = marked each tt
     each mode.RangeMode = (refl, refl, refl)
 
 pub contactors-label : Label contactorsNumber contactorsOf (signalAt 5 6)
-unfolding rows
+unfolding rows ofKind
 contactors-label = marked each tt
   where
     each : (l : OutputContactors) → Mark contactorsNumber contactorsOf (signalAt 5 6) l
@@ -208,7 +184,7 @@ contactors-label = marked each tt
     each contactors.Close = (refl, refl, refl)
 
 pub lowering-label : Label loweringNumber loweringOf (signalAt 5 7)
-unfolding rows
+unfolding rows ofKind
 lowering-label = marked each tt
   where
     each : (l : LowerOutput) → Mark loweringNumber loweringOf (signalAt 5 7) l
@@ -216,7 +192,7 @@ lowering-label = marked each tt
     each lowering.Lowering = (refl, refl, refl)
 
 pub end-label : Label endNumber endOf (signalAt 6 0)
-unfolding rows
+unfolding rows ofKind
 end-label = marked each tt
   where
     each : (l : SessionEnd) → Mark endNumber endOf (signalAt 6 0) l
@@ -224,7 +200,7 @@ end-label = marked each tt
     each end.RushedStop = (refl, refl, refl)
 
 pub origin-label : Label originNumber originOf (signalAt 7 0)
-unfolding rows
+unfolding rows ofKind
 origin-label = marked each tt
   where
     each : (l : StopOrigin) → Mark originNumber originOf (signalAt 7 0) l

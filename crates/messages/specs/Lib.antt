@@ -3,3 +3,4 @@ pub mod Fields
 pub mod Read
 pub mod Write
 pub mod Parts
+pub mod Readings

@@ -16,7 +16,7 @@ use Rattle.signal.proofs.Complement.{half-of}
 use Rattle.pages.specs.declared.Row.{Row}
 use Rattle.pages.specs.declared.Found.{Found}
 use Rattle.pages.specs.declared.Found.the-variants.{At, Nothing}
-use Rattle.pages.specs.Table.{rows, rowCount, noRow, hasKind, hasId, ofKind, rowsOf, block, firstAt, headRow, identifierOf, lengthOf, lowest, Fine, labelled}
+use Rattle.pages.specs.Table.{rows, rowCount, noRow, hasKind, hasId, keep, ofKind, rowsOf, block, firstAt, headRow, identifierOf, lengthOf, lowest, Fine, labelled}
 use Rattle.pages.specs.Raws.{signalCount}
 use Rattle.pages.specs.Rules.{every, above, rowFine, oneMessage, twoMessages, inTurn, allInTurn, hasRoom, tableFine}
 
@@ -170,7 +170,7 @@ every-of f k (r ∷ rs) t =
     let p = both-true (f r) (every f rs) t in
     go (hasKind k r) (p .0) (every-of f k rs (p .1))
   where
-    go : (b : Bool) → f r ≡ true → every f (ofKind k rs) ≡ true → every f (cond b (r ∷ ofKind k rs) (ofKind k rs)) ≡ true
+    go : (b : Bool) → f r ≡ true → every f (ofKind k rs) ≡ true → every f (keep b r (ofKind k rs)) ≡ true
     go true h i = rw h i
     go false h i = i
 
@@ -182,7 +182,7 @@ turns-of k (r ∷ rs) t =
     go (hasKind k r) (every-of (inTurn r) k rs (p .0)) (turns-of k rs (p .1))
   where
     go : (b : Bool) → every (inTurn r) (ofKind k rs) ≡ true → allInTurn (ofKind k rs) ≡ true
-        → allInTurn (cond b (r ∷ ofKind k rs) (ofKind k rs)) ≡ true
+        → allInTurn (keep b r (ofKind k rs)) ≡ true
     go true h i = rw h i
     go false h i = i
 
@@ -191,7 +191,7 @@ unfolding ofKind
 kinds-of k [] = refl
 kinds-of k (r ∷ rs) = go (hasKind k r) refl (kinds-of k rs)
   where
-    go : (b : Bool) → hasKind k r ≡ b → every (hasKind k) (ofKind k rs) ≡ true → every (hasKind k) (cond b (r ∷ ofKind k rs) (ofKind k rs)) ≡ true
+    go : (b : Bool) → hasKind k r ≡ b → every (hasKind k) (ofKind k rs) ≡ true → every (hasKind k) (keep b r (ofKind k rs)) ≡ true
     go true e i = rw e i
     go false e i = i
 
@@ -336,7 +336,7 @@ together k (r ∷ rs) ge ts =
     go (hasKind k r) refl (leb-true k (r .kind) (gp .0)) (every-at (inTurn r) rs (sp .0)) (together k rs (gp .1) (sp .1))
   where
     go : (b : Bool) → hasKind k r ≡ b → k ≤ r .kind → ((i : ℕ) → i < length rs → inTurn r (getD rs i noRow) ≡ true) → block k rs ≡ ofKind k rs
-        → cond b (r ∷ block k rs) [] ≡ cond b (r ∷ ofKind k rs) (ofKind k rs)
+        → cond b (r ∷ block k rs) [] ≡ keep b r (ofKind k rs)
     go true e h t i = ap (λ (l : List Row). r ∷ l) i
     go false e h t i =
         let n : r .kind ≡ k → ⊥ = eqb-false (r .kind) k e in
@@ -391,7 +391,7 @@ none-in k i [] e = refl
 none-in k i (r ∷ rs) e = go (hasKind k r) e (λ q. none-in k (suc i) rs q)
   where
     go : (b : Bool) → cond b (At i) (firstAt (hasKind k) (suc i) rs) ≡ Nothing → (firstAt (hasKind k) (suc i) rs ≡ Nothing → ofKind k rs ≡ [])
-        → cond b (r ∷ ofKind k rs) (ofKind k rs) ≡ []
+        → keep b r (ofKind k rs) ≡ []
     go true e f = absurd (let z : _≡_ {A = ℕ} 0 1 = cc in omega arith)
     go false e f = f e
 

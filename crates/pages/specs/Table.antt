@@ -74,9 +74,13 @@ hasId i r = eqb (r .id) i
 abbrev pub isSignal : ℕ → ℕ → Row → Bool
 isSignal k s r = hasKind k r && eqb (r .start) s
 
+abbrev pub keep : Bool → Row → List Row → List Row
+keep true r rs = r ∷ rs
+keep false r rs = rs
+
 unfoldable pub ofKind : ℕ → List Row → List Row
 ofKind k [] = []
-ofKind k (r ∷ rs) = cond (hasKind k r) (r ∷ ofKind k rs) (ofKind k rs)
+ofKind k (r ∷ rs) = keep (hasKind k r) r (ofKind k rs)
 
 -- the signals of a kind
 abbrev pub rowsOf : ℕ → List Row

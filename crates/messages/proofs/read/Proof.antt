@@ -1,0 +1,48 @@
+-- `messages::read` meets its contract: the message of the kind and payload number that the pages' reader answers, or its refusal.
+use mathlib.Core.Path.{_≡_, sym, ap, _∙_}
+use mathlib.Core.Bool.{Bool}
+use mathlib.Core.List.{List}
+use Prim.Native.Nat.{ℕ}
+use Rattle.pages.specs.declared.Judged.{Judged}
+use Rattle.pages.specs.Judge.{judgeOf}
+use Rattle.messages.specs.declared.Reading.the-variants.{Accepted}
+use Rattle.messages.specs.Read.{readingOf, readOf}
+use borrow.Author.Needs.{needs}
+use Rattle.messages.proofs.read.Statement.{statement}
+use Rattle.messages.proofs.read.Tie as tie
+
+judge-requires : tie.Need-judge-requires
+judge-requires c κs = search needs
+
+enum-known-kind : tie.Need-enum-known-kind
+enum-known-kind c = search needs
+
+message-of-requires : tie.Need-message-of-requires
+message-of-requires c κs = search needs
+
+enum-known-w : tie.Need-enum-known-w
+enum-known-w c = search needs
+
+-- the reader's answer by numbers, made the message's
+read-by : (m : ℕ) (x : Bool) (bs : List ℕ) (j : Judged) → j ≡ judgeOf m x bs → readingOf j ≡ readOf m x bs
+unfolding readOf
+read-by m x bs j e = ap readingOf e
+
+returns : tie.Need-returns
+returns c =
+    let k = c .before .before in
+    let j = k .before .before in
+    let a = j .before .before .args in
+    ap Accepted (c .message-of .ensures) ∙ read-by (a .id) (a .extended) (a .bytes .now) _ (sym (k .kind .given .1) ∙ j .judge .ensures)
+
+returns-2 : tie.Need-returns-2
+returns-2 c =
+    let w = c .before in
+    let j = w .before .before in
+    let a = j .before .before .args in
+    read-by (a .id) (a .extended) (a .bytes .now) _ (sym (w .w .given .1) ∙ j .judge .ensures)
+
+pub read-spec : {M : Type 1} → statement M
+read-spec =
+    tie.close
+    (tie.spec judge-requires enum-known-kind message-of-requires enum-known-w returns returns-2)
