@@ -1,0 +1,9 @@
+pub mod Counted
+pub mod ByKind
+pub mod SessionLook
+pub mod FindingsLook
+pub mod Look
+pub mod Excludes
+pub mod Capping
+pub mod Filled
+pub mod Unmapped

@@ -1,0 +1,12 @@
+-- `post::step::aged` meets its contract: only whether the post was heard, and its time, are new.
+use mathlib.Core.Path.{refl}
+use Rattle.post.specs.Step.{agedTo}
+use Rattle.post.proofs.step.aged.Statement.{statement}
+use Rattle.post.proofs.step.aged.Tie as tie
+
+returns : tie.Need-returns
+unfolding agedTo
+returns c = refl
+
+pub aged-spec : {M : Type 1} → statement M
+aged-spec = tie.close (tie.spec returns)

@@ -1,0 +1,13 @@
+-- `post::step::control_put` meets its contract, with a session open and with none.
+use borrow.Author.Needs.{needs}
+use Rattle.post.proofs.step.control_put.Statement.{statement}
+use Rattle.post.proofs.step.control_put.Tie as tie
+
+returns : tie.Need-returns
+returns c = rw (c .if1 .taken)
+
+returns-2 : tie.Need-returns-2
+returns-2 c = search needs
+
+pub control-put-spec : {M : Type 1} → statement M
+control-put-spec = tie.close (tie.spec returns returns-2)

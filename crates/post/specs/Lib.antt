@@ -1,0 +1,5 @@
+pub mod History
+pub mod Judgements
+pub mod Rules
+pub mod Record
+pub mod Step
