@@ -1,0 +1,4 @@
+pub mod Table
+pub mod Steps
+pub mod Run
+pub mod Readings

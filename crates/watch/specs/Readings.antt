@@ -1,0 +1,106 @@
+-- 01, "Readings from both sides of each edge": E1* to E13*, one table under one statement, closed by computing the definitions. What the watch answers is read by looking back.
+use Prim.Native.Nat.{ℕ}
+use mathlib.Core.Path.{_≡_, refl}
+use mathlib.Core.Bool.{Bool, true, false}
+use mathlib.Core.List.{List, [], _∷_}
+use Rattle.pages.specs.declared.Refusal.the-variants.{ChannelTaken}
+use Rattle.pages.specs.Table.{rows, ofKind, firstAt, covered}
+use Rattle.pages.specs.Judge.{unlabelled, strayBelow, judgedNumber, judgeOf}
+use Rattle.pages.specs.Raws.{wholesOf, pad, rawsOf}
+use Rattle.signal.specs.Signal.{getBits}
+use Rattle.signal.specs.Payload.{numberOf}
+use Rattle.signal.specs.Twos.{toSigned}
+use Rattle.messages.specs.Parts.{statusIn, parametersIn, sessionIn, controlIn}
+use Rattle.messages.specs.Readings as messages
+use Rattle.post.specs.declared.Limits.{Limits}
+use Rattle.post.specs.History.{sinceFinished, opening, inSession, earlierIn}
+use Rattle.post.specs.Judgements.{lowersBadly, outside, leaking, differs}
+use Rattle.post.specs.Rules.{sessionStatus, sessionControl, limitOf, f1, f2, f3, f4, f5, f6, f7, f8, f9, f10, f11, findings01}
+use Rattle.post.specs.Record.{recordOf}
+use Rattle.watch.specs.declared.Answer.the-variants.{Findings, Refused}
+use Rattle.watch.specs.declared.Setting.the-variants as setting
+use Rattle.watch.specs.declared.LookedUp.{LookedUp}
+use Rattle.watch.specs.Table.{limitsFit}
+use Rattle.watch.specs.Steps.{standing, findFrom, holder, otherHolds, feed01, setUp01, release01, lookUp01, feedSteps, setUpSteps, releaseSteps}
+use Rattle.watch.specs.Run.{Request, setUp, release, frame, tick, Reply, set, fed, acceptedFrom, replies01From}
+
+-- a reading of frames and messages (E1 to E7); requests to the empty table in order of arrival, with their replies; such requests, and a post's record after them
+pub data Case : Type 0 where
+  codec : messages.Case → Case
+  answers : List Request → List Reply → Case
+  shows : List Request → ℕ → LookedUp → Case
+
+abbrev pub Holds : Case → Type 0
+Holds (codec c) = messages.Holds c
+Holds (answers asked replies) = replies01From [] asked ≡ replies
+Holds (shows asked post shown) = lookUp01 (acceptedFrom [] asked) post ≡ shown
+
+abbrev pub All : List Case → Type 0
+All [] = Unit {0}
+All (c ∷ cs) = Holds c × All cs
+
+-- default voltage 500.0 V, charge 100.0 A, discharge 50.0 A, W 500 ms
+abbrev limits : Limits
+limits = record { voltage = 5000; charge = 1000; discharge = 500; silence = 500 }
+
+abbrev done : Reply
+done = set setting.Done
+
+abbrev found : ℕ → Reply
+found n = fed (Findings n)
+
+-- frames on channel 4: Power_Modules_Status (Allowed, 0 A) by the voltage's two bytes and the insulation, DC_Power_Parameters by Maximum_Voltage, Advantics_Controller_Status Charging,
+-- New_Charge_Session 02 01, DC_Power_Control by Target_Voltage and byte 6
+abbrev status : ℕ → ℕ → ℕ → ℕ → Request
+status t low high raw = frame 4 t 0x63000 true (low ∷ high ∷ 0 ∷ 0 ∷ 65 ∷ 65 ∷ 1 ∷ raw ∷ [])
+
+abbrev parameters : ℕ → ℕ → ℕ → Request
+parameters t low high = frame 4 t 0x63001 true (low ∷ high ∷ 0 ∷ 0 ∷ 0 ∷ 0 ∷ 0 ∷ 0 ∷ [])
+
+abbrev controller : ℕ → Request
+controller t = frame 4 t 0x6b000 true (7 ∷ [])
+
+abbrev session : ℕ → Request
+session t = frame 4 t 0x6b001 true (2 ∷ 1 ∷ [])
+
+abbrev control : ℕ → ℕ → ℕ → ℕ → Request
+control t low high last = frame 4 t 0x6b003 true (low ∷ high ∷ 0 ∷ 0 ∷ 0 ∷ 0 ∷ last ∷ [])
+
+abbrev set-up : Request
+set-up = setUp 0 4 limits
+
+abbrev e1to7 : List messages.Case → List Case → List Case
+e1to7 [] rest = rest
+e1to7 (c ∷ cs) rest = codec c ∷ e1to7 cs rest
+
+abbrev e8to13 : List Case
+e8to13 =
+    -- E8: under precharge, voltage raw 5000: insulation raw 25 no F9, raw 24 F9
+    answers (set-up ∷ session 0 ∷ status 10 0 0 255 ∷ control 20 0x88 0x13 0x04 ∷ status 30 0x88 0x13 25 ∷ status 40 0x88 0x13 24 ∷ [])
+    (done ∷ found 0 ∷ found 0 ∷ found 0 ∷ found 0 ∷ found 256 ∷ [])
+    -- E9: controller status at 1000: tick at 1200 answers 0, at 1201 answers 2
+    ∷ answers (set-up ∷ controller 1000 ∷ tick 4 1200 ∷ tick 4 1201 ∷ []) (done ∷ found 0 ∷ found 0 ∷ found 2 ∷ [])
+    -- E10: W 500, session opened at 0, no controller status: tick at 500 answers 0; Power_Modules_Status at 501, all else in order, 1; tick at 1001 0; tick at 1002 1
+    ∷ answers (set-up ∷ session 0 ∷ tick 4 500 ∷ status 501 0 0 255 ∷ tick 4 1001 ∷ tick 4 1002 ∷ []) (done ∷ found 0 ∷ found 0 ∷ found 1 ∷ found 0 ∷ found 1 ∷ [])
+    -- E11: closed contactors and power transfer before any session, target within limit, no lowering: 12
+    ∷ answers (set-up ∷ control 0 0x88 0x13 0x48 ∷ []) (done ∷ found 12 ∷ [])
+    -- E12: post 0 on channel 4: post 1 on 4 gets 11; post 0 on 4 again is accepted with an empty record
+    ∷ answers (set-up ∷ tick 4 100 ∷ setUp 1 4 limits ∷ set-up ∷ []) (done ∷ found 0 ∷ set (setting.Refused ChannelTaken) ∷ done ∷ [])
+    ∷ shows (set-up ∷ tick 4 100 ∷ setUp 1 4 limits ∷ set-up ∷ []) 0 (record { answer = setting.Done; shown = recordOf 4 limits [] })
+    -- E13: default 5000: Maximum_Voltage 0 or 6000 gives 5000, 4000 gives 4000; target 4001 then has F7 (standby, so that nothing else is found)
+    ∷ answers (set-up ∷ parameters 0 0 0 ∷ control 1 0x88 0x13 1 ∷ control 2 0x89 0x13 1 ∷ []) (done ∷ found 0 ∷ found 0 ∷ found 64 ∷ [])
+    ∷ answers (set-up ∷ parameters 0 0x70 0x17 ∷ control 1 0x88 0x13 1 ∷ control 2 0x89 0x13 1 ∷ []) (done ∷ found 0 ∷ found 0 ∷ found 64 ∷ [])
+    ∷ answers (set-up ∷ parameters 0 0xA0 0x0F ∷ control 1 0xA0 0x0F 1 ∷ control 2 0xA1 0x0F 1 ∷ []) (done ∷ found 0 ∷ found 0 ∷ found 64 ∷ [])
+    ∷ []
+
+abbrev pub table : List Case
+table = e1to7 messages.table e8to13
+
+-- the table with E1 to E7 in front
+joined : (cs : List messages.Case) (rest : List Case) → messages.All cs → All rest → All (e1to7 cs rest)
+joined [] rest a b = b
+joined (c ∷ cs) rest a b = (a .0, joined cs rest (a .1) b)
+
+pub readings : All table
+unfolding standing findFrom holder otherHolds feed01 setUp01 release01 lookUp01 feedSteps setUpSteps releaseSteps limitsFit sinceFinished opening inSession earlierIn lowersBadly outside leaking differs sessionStatus sessionControl limitOf f1 f2 f3 f4 f5 f6 f7 f8 f9 f10 f11 findings01 recordOf statusIn parametersIn sessionIn controlIn rows ofKind firstAt covered unlabelled strayBelow judgedNumber judgeOf wholesOf pad rawsOf getBits numberOf toSigned
+readings = joined messages.table e8to13 messages.readings (refl, (refl, (refl, (refl, (refl, (refl, (refl, (refl, (refl, tt)))))))))
