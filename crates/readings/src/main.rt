@@ -1,5 +1,7 @@
 // The readings of paper 01, and frames on both sides of each edge, run through the library. What is printed is held to the file stdout beside src/.
+mod posts; // posts.rt: the watch
 mod show; // show.rt: numbers, bytes and answers as text
+mod steps; // steps.rt: steps on a table, with their answers
 
 use messages::Plug;
 use messages::Protocol;
@@ -128,4 +130,5 @@ fn main() {
     edges();
     writings();
     changes();
+    posts::all();
 }

@@ -14,7 +14,7 @@ pub fn text(s: &[u8]) {
     io::write_all(STDOUT_FILENO, s);
 }
 
-fn natural(n: u64) {
+pub fn natural(n: u64) {
     io::print_decimal(STDOUT_FILENO, n);
 }
 
@@ -28,7 +28,7 @@ fn number(z: i64) {
     }
 }
 
-fn bytes(s: &[u8]) {
+pub fn bytes(s: &[u8]) {
     let mut i = 0;
     while i < s.len() {
         io::print_hex(STDOUT_FILENO, s[i] as u64, 2);
@@ -36,7 +36,7 @@ fn bytes(s: &[u8]) {
     }
 }
 
-fn refusal(w: Refusal) {
+pub fn refusal(w: Refusal) {
     text(b"R");
     natural(pages::refusal_number(w) as u64);
 }

@@ -1,0 +1,149 @@
+// E8 to E14 through the watch, and the other side of each.
+use crate::show::text;
+use crate::steps::frame;
+use crate::steps::limits;
+use crate::steps::record;
+use crate::steps::release;
+use crate::steps::set_up;
+use crate::steps::tick;
+
+const STATUS: u32 = 0x63000;
+
+const PARAMETERS: u32 = 0x63001;
+
+const CONTROLLER: u32 = 0x6b000;
+
+const SESSION: u32 = 0x6b001;
+
+const CONTROL: u32 = 0x6b003;
+
+const FINISHED: u32 = 0x6b004;
+
+fn insulation() {
+    text(b"E8 under precharge at 500.0 V: insulation raw 25, raw 24; after the session no F9\n");
+    let mut t = set_up(watch::empty(), 0, 4, limits());
+    t = frame(t, 4, 0, SESSION, &[2u8, 1]);
+    t = frame(t, 4, 10, STATUS, &[0u8, 0, 0, 0, 65, 65, 1, 255]);
+    t = frame(t, 4, 20, CONTROL, &[0x88u8, 0x13, 0, 0, 0, 0, 0x04]);
+    t = frame(t, 4, 30, STATUS, &[0x88u8, 0x13, 0, 0, 65, 65, 1, 25]);
+    t = frame(t, 4, 40, STATUS, &[0x88u8, 0x13, 0, 0, 65, 65, 1, 24]);
+    record(t, 0);
+    t = frame(t, 4, 50, FINISHED, &[0u8]);
+    t = frame(t, 4, 60, STATUS, &[0x88u8, 0x13, 0, 0, 65, 65, 1, 24]);
+    record(t, 0);
+}
+
+fn silences() {
+    text(b"E9 controller status at 1000; the late one has F2 itself\n");
+    let mut t = set_up(watch::empty(), 0, 4, limits());
+    t = frame(t, 4, 1000, CONTROLLER, &[7u8]);
+    t = tick(t, 4, 1200);
+    t = tick(t, 4, 1201);
+    t = frame(t, 4, 1201, CONTROLLER, &[7u8]);
+    t = tick(t, 4, 1202);
+    text(
+        b"E10 W 500, session opened at 0; repeats of New_Charge_Session do not start the count again\n",
+    );
+    let mut u = set_up(watch::empty(), 0, 4, limits());
+    u = frame(u, 4, 0, SESSION, &[2u8, 1]);
+    u = frame(u, 4, 400, SESSION, &[2u8, 1]);
+    u = tick(u, 4, 500);
+    u = frame(u, 4, 501, STATUS, &[0u8, 0, 0, 0, 65, 65, 1, 255]);
+    u = tick(u, 4, 1001);
+    u = tick(u, 4, 1002);
+    record(t, 0);
+    record(u, 0);
+}
+
+fn orders() {
+    text(
+        b"E11 close and power transfer before any session; the same after Allowed, before it in the next session\n",
+    );
+    let mut t = set_up(watch::empty(), 0, 4, limits());
+    t = frame(t, 4, 0, CONTROL, &[0x88u8, 0x13, 0, 0, 0, 0, 0x48]);
+    t = frame(t, 4, 1, SESSION, &[2u8, 1]);
+    t = frame(t, 4, 2, STATUS, &[0u8, 0, 0, 0, 65, 65, 1, 255]);
+    t = frame(t, 4, 3, CONTROL, &[0x88u8, 0x13, 0, 0, 0, 0, 0x48]);
+    t = frame(t, 4, 4, FINISHED, &[0u8]);
+    t = frame(t, 4, 5, SESSION, &[2u8, 1]);
+    t = frame(t, 4, 6, CONTROL, &[0x88u8, 0x13, 0, 0, 0, 0, 0x48]);
+    t = frame(t, 4, 7, SESSION, &[3u8, 1]);
+    t = frame(t, 4, 8, FINISHED, &[0u8]);
+    t = frame(t, 4, 9, FINISHED, &[0u8]);
+    record(t, 0);
+    text(b"E13 default 5000, Maximum_Voltage 0, 6000, 4000; targets at the limit and one above\n");
+    let mut u = set_up(watch::empty(), 0, 4, limits());
+    u = frame(u, 4, 0, PARAMETERS, &[0u8, 0, 0, 0, 0, 0, 0, 0]);
+    u = frame(u, 4, 1, CONTROL, &[0x88u8, 0x13, 0, 0, 0, 0, 1]);
+    u = frame(u, 4, 2, CONTROL, &[0x89u8, 0x13, 0, 0, 0, 0, 1]);
+    u = frame(u, 4, 3, PARAMETERS, &[0x70u8, 0x17, 0, 0, 0, 0, 0, 0]);
+    u = frame(u, 4, 4, CONTROL, &[0x88u8, 0x13, 0, 0, 0, 0, 1]);
+    u = frame(u, 4, 5, CONTROL, &[0x89u8, 0x13, 0, 0, 0, 0, 1]);
+    u = frame(u, 4, 6, PARAMETERS, &[0xa0u8, 0x0f, 0, 0, 0, 0, 0, 0]);
+    u = frame(u, 4, 7, CONTROL, &[0xa0u8, 0x0f, 0, 0, 0, 0, 1]);
+    u = frame(u, 4, 8, CONTROL, &[0xa1u8, 0x0f, 0, 0, 0, 0, 1]);
+    record(u, 0);
+}
+
+fn channels() {
+    text(
+        b"E12 post 0 on channel 4: post 1 on 4; post 0 on 4 again; refusals 9, 10, 12, 14 and 1\n",
+    );
+    let mut t = set_up(watch::empty(), 0, 4, limits());
+    t = tick(t, 4, 100);
+    t = set_up(t, 1, 4, limits());
+    record(t, 1);
+    t = set_up(t, 0, 4, limits());
+    record(t, 0);
+    t = tick(t, 4, 5);
+    t = set_up(t, 8, 5, limits());
+    t = set_up(t, 1, 32, limits());
+    t = set_up(
+        t,
+        1,
+        5,
+        post::Limits {
+            voltage: 0,
+            charge: 1,
+            discharge: 0,
+            silence: 100,
+        },
+    );
+    t = set_up(
+        t,
+        1,
+        5,
+        post::Limits {
+            voltage: 1,
+            charge: 1,
+            discharge: 0,
+            silence: 100,
+        },
+    );
+    t = release(t, 0);
+    t = release(t, 0);
+    t = tick(t, 4, 6);
+    t = tick(t, 32, 6);
+    t = tick(t, 5, 6);
+    text(
+        b"E14 after time 100: 99, 100; one post's clock is its own; an early unknown frame; a refused frame moves nothing\n",
+    );
+    t = set_up(t, 0, 4, limits());
+    t = tick(t, 4, 100);
+    t = tick(t, 4, 99);
+    t = tick(t, 4, 100);
+    t = tick(t, 5, 50);
+    t = frame(t, 4, 99, 0x63003, &[0u8]);
+    t = frame(t, 4, 900, 0x63003, &[0u8]);
+    t = frame(t, 4, 900, CONTROLLER, &[14u8]);
+    t = tick(t, 4, 101);
+    record(t, 0);
+    record(t, 1);
+}
+
+pub fn all() {
+    insulation();
+    silences();
+    orders();
+    channels();
+}
