@@ -2,7 +2,7 @@
 // raw whole numbers, writing those, and changing one signal in place. Every public function takes any input.
 ghost use mathlib.Core.Path.{_≡_};
 ghost use Rattle.pages.specs.Refusals.{numberOf};
-ghost use Rattle.pages.specs.Table.{identifierOf, lengthOf};
+ghost use Rattle.pages.specs.Table.{rowsOf, headRow, identifierOf, lengthOf};
 ghost use Rattle.pages.specs.Judge.{judgeOf};
 ghost use Rattle.pages.specs.Raws.{rawsOf, writeRawsOf, bufferAfter};
 ghost use Rattle.pages.specs.Change.{changeOf, bytesAfter};
@@ -94,23 +94,35 @@ pub fn refusal_number(w: Refusal) -> u32
     }
 }
 
+// A kind's first row, which says what the message is; an empty row for a number that is no kind.
+fn head_row(kind: usize) -> Row
+    ensures { λ r. ⌜ r ≡ headRow (rowsOf kind) ⌝ }
+{
+    let Found::At(i) = table::first_of_kind(kind) else {
+        return Row {
+            kind: 0,
+            id: 0,
+            bytes: 0,
+            start: 0,
+            width: 0,
+            signed: false,
+            labels: 0,
+        };
+    };
+    table::row_at(i)
+}
+
 // The identifier of a kind's frames, and their length in bytes; 0 for a number that is no kind.
 pub fn identifier_of(kind: usize) -> u32
     ensures { λ r. ⌜ r ≡ identifierOf kind ⌝ }
 {
-    let Found::At(i) = table::first_of_kind(kind) else {
-        return 0;
-    };
-    table::row_at(i).id
+    head_row(kind).id
 }
 
 pub fn length_of(kind: usize) -> usize
     ensures { λ r. ⌜ r ≡ lengthOf kind ⌝ }
 {
-    let Found::At(i) = table::first_of_kind(kind) else {
-        return 0;
-    };
-    table::row_at(i).bytes
+    head_row(kind).bytes
 }
 
 // 01: "Reading gives 3 to 6", in this order.
