@@ -1,18 +1,30 @@
 # make run    the readings of paper 01, run through the library
-# make test   what .ci/run runs: the tables against the maker's document, the layout of the files, then the gate; its last line is 'N passed, 0 failed'
+# make test   what .ci/run runs: the tables against the maker's document, the layout of the files, the gate, the C test; its last line is 'N passed, 0 failed'
 # make check  the proofs and the programs, without the must-fail edits
+# make lib    target/lib/librokemaipu.a and target/lib/rokemaipu.h, for C and Rust
+# make bench  the library beside plain C in one run
 
-.PHONY: run test check
+.PHONY: run test check lib bench
 
 run:
-	@rt check readings > target.log 2>&1 || { cat target.log; rm -f target.log; exit 1; }
-	@rm -f target.log
+	@rt check readings > run.log 2>&1 || { cat run.log; rm -f run.log; exit 1; }
+	@rm -f run.log
 	@target/bin/readings
 
 test:
-	@python3 tests/pages/check.py
-	@rt fmt --check
-	@rt ci
+	@tests/run
 
 check:
 	@rt check
+
+lib:
+	@rt staticlib gateway > lib.log 2>&1 || { cat lib.log; rm -f lib.log; exit 1; }
+	@rm -f lib.log
+	@mkdir -p target/lib
+	@cp target/staticlib/libgateway.a target/lib/librokemaipu.a
+	@cp include/rokemaipu.h target/lib/
+	@echo "target/lib/librokemaipu.a, target/lib/rokemaipu.h"
+
+bench: lib
+	@gcc -O2 -Wall -Wextra -Itarget/lib -Ibench bench/bench.c bench/peer.c target/lib/librokemaipu.a -o target/lib/bench
+	@target/lib/bench

@@ -1,0 +1,180 @@
+#include "peer.h"
+
+#define R(n) (ROKEMAIPU_REFUSED + (n))
+
+static uint64_t number(const uint8_t *p, size_t n) {
+    uint64_t r = 0;
+    for (size_t i = 0; i < n; i++) r |= (uint64_t)p[i] << (8 * i);
+    return r;
+}
+
+/* The kind and the payload number, or the refusal. */
+static uint32_t judge(uint32_t id, bool extended, const uint8_t *p, size_t n, uint64_t *raw) {
+    uint32_t kind;
+    size_t length;
+    if (!extended) return R(3);
+    switch (id) {
+    case 0x63000: kind = 0, length = 8; break;
+    case 0x63001: kind = 1, length = 8; break;
+    case 0x6b000: kind = 2, length = 1; break;
+    case 0x6b001: kind = 3, length = 2; break;
+    case 0x6b002: kind = 4, length = 1; break;
+    case 0x6b003: kind = 5, length = 7; break;
+    case 0x6b004: kind = 6, length = 1; break;
+    case 0x6b005: kind = 7, length = 1; break;
+    case 0x6b105: kind = 8, length = 6; break;
+    default: return R(3);
+    }
+    if (n != length) return R(4);
+    uint64_t r = *raw = number(p, n);
+    switch (kind) {
+    case 0: if ((r >> 48 & 0xff) > 1) return R(5); break;
+    case 2: if (r > 13) return R(5); break;
+    case 3: if ((r & 0xff) > 7 || (r >> 8 & 0xff) > 4) return R(5); break;
+    case 4: if (r > 1) return R(5); break;
+    case 5: if (!(0x117 >> (r >> 48 & 15) & 1)) return R(5); break;
+    case 6: if (r > 1) return R(5); break;
+    case 7: if (r != 1 && r != 3) return R(5); break;
+    }
+    return kind;
+}
+
+static int64_t s16(uint64_t x) { return (int16_t)x; }
+
+uint32_t peer_read(uint32_t id, bool extended, const uint8_t *p, size_t n, int64_t *raws, size_t places) {
+    uint64_t r;
+    uint32_t kind = judge(id, extended, p, n, &r);
+    if (kind >= ROKEMAIPU_REFUSED) return kind;
+    if (places < 8) return R(8);
+    for (int i = 0; i < 8; i++) raws[i] = 0;
+    switch (kind) {
+    case 0: raws[0] = r & 0xffff, raws[1] = s16(r >> 16), raws[2] = r >> 32 & 0xff, raws[3] = r >> 40 & 0xff, raws[4] = r >> 48 & 0xff, raws[5] = r >> 56; break;
+    case 1: raws[0] = r & 0xffff, raws[1] = r >> 16 & 0xffff, raws[2] = r >> 32 & 0xffff, raws[3] = s16(r >> 48); break;
+    case 3: raws[0] = r & 0xff, raws[1] = r >> 8 & 0xff; break;
+    case 5:
+        raws[0] = r & 0xffff, raws[1] = s16(r >> 16), raws[2] = s16(r >> 32), raws[3] = r >> 48 & 15;
+        raws[4] = r >> 52 & 1, raws[5] = r >> 53 & 1, raws[6] = r >> 54 & 1, raws[7] = r >> 55 & 1;
+        break;
+    case 8: for (int i = 0; i < 6; i++) raws[i] = r >> (8 * i) & 0xff; break;
+    default: raws[0] = r & 0xff; break;
+    }
+    return kind;
+}
+
+static bool in(int64_t z, int64_t low, int64_t high) { return low <= z && z <= high; }
+
+uint32_t peer_write(uint32_t kind, const int64_t *z, size_t places, uint8_t *buffer, size_t room) {
+    uint64_t r;
+    size_t n;
+    if (places < 8) return R(7);
+    switch (kind) {
+    case 0:
+        if (!in(z[0], 0, 65535) || !in(z[1], -32768, 32767) || !in(z[2], 0, 255) || !in(z[3], 0, 255) || !in(z[4], 0, 1) || !in(z[5], 0, 255)) return R(7);
+        n = 8, r = (uint64_t)z[0] | (uint64_t)(uint16_t)z[1] << 16 | (uint64_t)z[2] << 32 | (uint64_t)z[3] << 40 | (uint64_t)z[4] << 48 | (uint64_t)z[5] << 56;
+        break;
+    case 1:
+        if (!in(z[0], 0, 65535) || !in(z[1], 0, 65535) || !in(z[2], 0, 65535) || !in(z[3], -32768, 32767)) return R(7);
+        n = 8, r = (uint64_t)z[0] | (uint64_t)z[1] << 16 | (uint64_t)z[2] << 32 | (uint64_t)(uint16_t)z[3] << 48;
+        break;
+    case 2: if (!in(z[0], 0, 13)) return R(7); n = 1, r = (uint64_t)z[0]; break;
+    case 3: if (!in(z[0], 0, 7) || !in(z[1], 0, 4)) return R(7); n = 2, r = (uint64_t)z[0] | (uint64_t)z[1] << 8; break;
+    case 5:
+        if (!in(z[0], 0, 65535) || !in(z[1], -32768, 32767) || !in(z[2], -32768, 32767) || !in(z[3], 0, 15) || !(0x117 >> z[3] & 1) || !in(z[4], 0, 1) || !in(z[5], 0, 1)
+            || !in(z[6], 0, 1) || !in(z[7], 0, 1))
+            return R(7);
+        n = 7, r = (uint64_t)z[0] | (uint64_t)(uint16_t)z[1] << 16 | (uint64_t)(uint16_t)z[2] << 32 | (uint64_t)z[3] << 48 | (uint64_t)z[4] << 52 | (uint64_t)z[5] << 53
+            | (uint64_t)z[6] << 54 | (uint64_t)z[7] << 55;
+        break;
+    case 4: case 6: if (!in(z[0], 0, 1)) return R(7); n = 1, r = (uint64_t)z[0]; break;
+    case 7: if (z[0] != 1 && z[0] != 3) return R(7); n = 1, r = (uint64_t)z[0]; break;
+    case 8:
+        n = 6, r = 0;
+        for (int i = 0; i < 6; i++) {
+            if (!in(z[i], 0, 255)) return R(7);
+            r |= (uint64_t)z[i] << (8 * i);
+        }
+        break;
+    default: return R(7);
+    }
+    if (room < n) return R(8);
+    for (size_t i = 0; i < n; i++) buffer[i] = (uint8_t)(r >> (8 * i));
+    return (uint32_t)n;
+}
+
+static rokemaipu_post *holder(rokemaipu_table *t, uint32_t channel) {
+    if (channel > 31) return NULL;
+    for (int i = 0; i < ROKEMAIPU_POSTS; i++)
+        if (t->posts[i].used && t->posts[i].channel == channel) return &t->posts[i];
+    return NULL;
+}
+
+static uint32_t since(uint32_t now, uint32_t from) { return from <= now ? now - from : 0; }
+
+static uint32_t always(const rokemaipu_post *p, uint32_t time) {
+    uint32_t f = 0;
+    const rokemaipu_session *s = &p->session;
+    if (s->opened) {
+        uint32_t from = s->since;
+        if (s->status.known && s->status.time > from) from = s->status.time;
+        if (since(time, from) > p->limits.silence) f |= 1;
+    }
+    if (p->latest[2].known && since(time, p->latest[2].time) > 200) f |= 2;
+    return f;
+}
+
+static uint32_t limit(const rokemaipu_post *p, uint32_t most, int shift) {
+    if (!p->latest[1].known) return most;
+    uint32_t got = (uint32_t)(p->latest[1].raw >> shift & 0xffff);
+    return got && got < most ? got : most;
+}
+
+static bool powered(uint64_t f) { return f == 2 || f == 4 || f == 8; }
+
+static uint32_t found(const rokemaipu_post *p, uint32_t kind, uint64_t r) {
+    const rokemaipu_session *s = &p->session;
+    uint32_t f = 0;
+    if (kind == 0) {
+        int64_t amps = s16(r >> 16);
+        if (s->opened && (amps > (int64_t)limit(p, p->limits.charge, 16) || amps < -(int64_t)limit(p, p->limits.discharge, 32))) f |= 128;
+        uint64_t g = s->control.raw >> 48 & 15;
+        if (s->opened && s->control.known && (g == 4 || g == 8) && (r >> 56) * 200 < (r & 0xffff)) f |= 256;
+    } else if (kind == 3) {
+        if (s->opened && s->first != r) f |= 512;
+    } else if (kind == 5) {
+        uint64_t g = r >> 48 & 15;
+        if ((r >> 54 & 1) && !s->opened) f |= 4;
+        if (powered(g) && !s->opened) f |= 8;
+        if (powered(g) && s->opened && (!s->status.known || (s->status.raw >> 48 & 0xff) == 0)) f |= 16;
+        if ((r >> 55 & 1) && (g != 1 || (r & 0xffffffffffff))) f |= 32;
+        if (g && (r & 0xffff) > limit(p, p->limits.voltage, 0)) f |= 64;
+    } else if (kind == 6 && !s->opened) {
+        f |= 1024;
+    }
+    return f;
+}
+
+uint32_t peer_frame(rokemaipu_table *t, uint32_t channel, uint32_t time, uint32_t id, bool extended, const uint8_t *bytes, size_t n) {
+    rokemaipu_post *p = holder(t, channel);
+    if (!p) return R(1);
+    if (p->heard && time < p->time) return R(2);
+    uint64_t r;
+    uint32_t kind = judge(id, extended, bytes, n, &r);
+    if (kind >= ROKEMAIPU_REFUSED) return kind;
+    uint32_t f = always(p, time) | found(p, kind, r);
+    rokemaipu_slot slot = {true, time, r};
+    rokemaipu_session *s = &p->session;
+    p->heard = true, p->time = time, p->latest[kind] = slot;
+    if (kind == 0 && s->opened) s->status = slot;
+    if (kind == 5 && s->opened) s->control = slot;
+    if (kind == 3 && !s->opened) *s = (rokemaipu_session){.opened = true, .since = time, .first = r};
+    if (kind == 6) *s = (rokemaipu_session){0};
+    return f;
+}
+
+uint32_t peer_tick(rokemaipu_table *t, uint32_t channel, uint32_t time) {
+    rokemaipu_post *p = holder(t, channel);
+    if (!p) return R(1);
+    if (p->heard && time < p->time) return R(2);
+    p->heard = true, p->time = time;
+    return always(p, time);
+}

@@ -1,0 +1,16 @@
+pub mod Answered
+pub mod Args
+pub mod Called
+pub mod Copy
+pub mod Elem
+pub mod Entries
+pub mod Entry
+pub mod InOne
+pub mod InPlace
+pub mod Lender
+pub mod Lends
+pub mod OnePost
+pub mod Params
+pub mod Posts
+pub mod Same
+pub mod Thin

@@ -1,0 +1,4 @@
+pub mod Words
+pub mod Lent
+pub mod One
+pub mod Plain

@@ -1,0 +1,134 @@
+/* Rokemaipu: the CAN messages of charge controllers, and the session watch over up to 8 posts.
+ *
+ * Link librokemaipu.a (make lib). The functions are proved: each takes any input and answers; nothing outside the memory that you
+ * lend is read or written, no memory is kept after a call, and nothing is allocated. What you owe, since C cannot be proved:
+ *
+ *   - a pointer points to the memory that its type and length say (NULL with length 0 is an empty slice);
+ *   - a bool is 0 or 1, in the table too;
+ *   - two slices of one call do not overlap, and no slice lies in the table;
+ *   - the table is zeroed memory, or was started, or came out of these functions. Any other table is answered as well, but then its
+ *     answers are those of the numbers that you put there.
+ *
+ * Calls on one table come one after the other. Different tables are independent.
+ *
+ * ANSWERS are one word. Below 65,536 a call was accepted; from there on it is 65,536 plus the number of the refusal, and nothing was
+ * changed: neither the table nor a lent buffer.
+ *
+ *    1  channel above 31, or held by no post          8  lent buffer too short
+ *    2  time earlier than the post's latest           9  post above 7
+ *    3  identifier unknown, or a standard frame      10  channel above 31 at set-up
+ *    4  wrong length                                 11  channel held by another post
+ *    5  a number without a label                     12  a limit outside its range
+ *    6  a bit that no signal covers is 1             13  no signal starts at that bit
+ *    7  a number does not fit its signal             14  post not set up
+ */
+#ifndef ROKEMAIPU_H
+#define ROKEMAIPU_H
+
+#include <stdbool.h>
+#include <stddef.h>
+#include <stdint.h>
+
+#ifdef __cplusplus
+extern "C" {
+#endif
+
+#define ROKEMAIPU_POSTS 8
+#define ROKEMAIPU_KINDS 9
+#define ROKEMAIPU_SIGNALS 8 /* no message has more signals */
+#define ROKEMAIPU_REFUSED 65536u
+
+/* The refusal's number of an answer, 0 where it was accepted. */
+static inline uint32_t rokemaipu_refusal(uint32_t answer) { return answer < ROKEMAIPU_REFUSED ? 0 : answer - ROKEMAIPU_REFUSED; }
+
+/* Kinds of messages, by the identifier of their extended frames. */
+enum rokemaipu_kind {
+    ROKEMAIPU_POWER_MODULES_STATUS = 0,    /* 0x63000 */
+    ROKEMAIPU_DC_POWER_PARAMETERS = 1,     /* 0x63001 */
+    ROKEMAIPU_CONTROLLER_STATUS = 2,       /* 0x6b000 */
+    ROKEMAIPU_NEW_CHARGE_SESSION = 3,      /* 0x6b001 */
+    ROKEMAIPU_CHARGE_STATUS_CHANGE = 4,    /* 0x6b002 */
+    ROKEMAIPU_DC_POWER_CONTROL = 5,        /* 0x6b003 */
+    ROKEMAIPU_CHARGE_SESSION_FINISHED = 6, /* 0x6b004 */
+    ROKEMAIPU_EMERGENCY_STOP = 7,          /* 0x6b005 */
+    ROKEMAIPU_EV_ID = 8                    /* 0x6b105 */
+};
+
+/* Findings of an accepted frame or tick: finding k is bit k - 1 of the answer. */
+#define ROKEMAIPU_F(k) (1u << ((k) - 1))
+
+/* ---- the table that you lend: read it as you like, change it through the functions below ----
+ *
+ * A frame's payload stands in it as a number, byte 0 lowest, as it came. Padding bytes may hold anything after a call: compare
+ * tables field by field. */
+
+typedef struct rokemaipu_slot { /* 16 bytes: the latest frame of a kind, all 0 where none was accepted */
+    bool known;
+    uint32_t time; /* ms, as received */
+    uint64_t raw;
+} rokemaipu_slot;
+
+typedef struct rokemaipu_limits {
+    uint32_t voltage;   /* default, tenths of a volt, 1 to 65,535 */
+    uint32_t charge;    /* default, tenths of an ampere, 1 to 32,767 */
+    uint32_t discharge; /* default, tenths of an ampere, 0 to 32,767 */
+    uint32_t silence;   /* W, ms without Power_Modules_Status, 100 to 60,000 */
+} rokemaipu_limits;
+
+typedef struct rokemaipu_session { /* 48 bytes, all 0 where no session is open */
+    bool opened;
+    uint32_t since;
+    uint64_t first;         /* the New_Charge_Session that opened it: protocol in byte 0, plug in byte 1 */
+    rokemaipu_slot status;  /* the latest Power_Modules_Status accepted in it */
+    rokemaipu_slot control; /* the latest DC_Power_Control accepted in it */
+} rokemaipu_session;
+
+typedef struct rokemaipu_post { /* 224 bytes */
+    bool used; /* set up */
+    uint32_t channel;
+    rokemaipu_limits limits;
+    bool heard; /* a frame or tick was accepted since set-up */
+    uint32_t time;
+    rokemaipu_slot latest[ROKEMAIPU_KINDS];
+    rokemaipu_session session;
+} rokemaipu_post;
+
+typedef struct rokemaipu_table { /* 1,792 bytes; zeroed memory is the empty table */
+    rokemaipu_post posts[ROKEMAIPU_POSTS];
+} rokemaipu_table;
+
+/* ---- posts ---- */
+
+/* Makes the table empty. Answers 0. */
+uint32_t rokemaipu_start(rokemaipu_table *t);
+
+/* Sets a post up on a channel, with an empty history; set up again, it leaves its old channel. Answers 0, or refuses with 9, 10, 11, 12. */
+uint32_t rokemaipu_set_up(rokemaipu_table *t, uint32_t post, uint32_t channel, uint32_t voltage, uint32_t charge, uint32_t discharge, uint32_t silence);
+
+/* Frees the post's channel and drops its record. Answers 0, or refuses with 9, 14. */
+uint32_t rokemaipu_release(rokemaipu_table *t, uint32_t post);
+
+/* Watches a frame on the post that holds the channel. Answers the findings, or refuses with 1 to 6. */
+uint32_t rokemaipu_frame(rokemaipu_table *t, uint32_t channel, uint32_t time, uint32_t id, bool extended, const uint8_t *payload, size_t length);
+
+/* Lets time pass on a channel. Answers the findings, or refuses with 1, 2. */
+uint32_t rokemaipu_tick(rokemaipu_table *t, uint32_t channel, uint32_t time);
+
+/* ---- frames ---- */
+
+/* Reads a frame. Answers its kind, and puts the raw whole numbers of its signals, in the order of the maker's page, into the first
+ * ROKEMAIPU_SIGNALS places of raws, with 0 behind them. Refuses with 3, 4, 5, 6, or with 8 where raws has fewer places. */
+uint32_t rokemaipu_read(uint32_t id, bool extended, const uint8_t *payload, size_t length, int64_t *raws, size_t places);
+
+/* Writes the frame of a kind from its signals' raw numbers (ROKEMAIPU_SIGNALS places, those behind the signals are passed over) into
+ * buffer, from index 0 on. Answers its number of bytes. Refuses with 7, also where raws has fewer places, then with 8. */
+uint32_t rokemaipu_write(uint32_t kind, const int64_t *raws, size_t places, uint8_t *buffer, size_t room);
+
+/* Changes the signal that starts at a bit, in place; no other bit changes. Answers 0. Refuses with the frame's own 3 to 6, then 13, 7, 5. */
+uint32_t rokemaipu_change(uint32_t id, bool extended, uint8_t *payload, size_t length, uint32_t start, int64_t raw);
+
+#ifdef __cplusplus
+}
+#endif
+
+#endif

@@ -1,0 +1,279 @@
+/* The C interface, from C: layout, paper 01's readings, any input, and nothing outside the lent memory changed.
+ * Prints a line for each part and 'ok', or says what was wrong and where, and exits 1. */
+#define _DEFAULT_SOURCE
+#include "rokemaipu.h"
+
+#include <inttypes.h>
+#include <stdio.h>
+#include <stdlib.h>
+#include <string.h>
+#include <sys/mman.h>
+#include <unistd.h>
+
+static int bad;
+
+#define IS(got, want) is(__LINE__, #got, (uint64_t)(got), (uint64_t)(want))
+static void is(int line, const char *what, uint64_t got, uint64_t want) {
+    if (got != want) {
+        printf("test.c:%d: %s is %" PRIu64 ", not %" PRIu64 "\n", line, what, got, want);
+        bad = 1;
+    }
+}
+
+#define R(n) (ROKEMAIPU_REFUSED + (n))
+
+/* ---- memory with a page behind it that may not be touched: one byte too many ends the test */
+
+static uint8_t *fenced(size_t size) {
+    size_t page = (size_t)sysconf(_SC_PAGESIZE), body = (size + page - 1) / page * page;
+    uint8_t *p = mmap(NULL, body + 2 * page, PROT_READ | PROT_WRITE, MAP_PRIVATE | MAP_ANONYMOUS, -1, 0);
+    if (p == MAP_FAILED || mprotect(p + page + body, page, PROT_NONE) || mprotect(p, page, PROT_NONE)) {
+        perror("test.c: mmap");
+        exit(1);
+    }
+    return p + page + body - size; /* ends at the fence */
+}
+
+/* ---- tables, field by field */
+
+static bool same_slot(const rokemaipu_slot *a, const rokemaipu_slot *b) { return a->known == b->known && a->time == b->time && a->raw == b->raw; }
+
+static bool same_post(const rokemaipu_post *p, const rokemaipu_post *q) {
+    bool r = p->used == q->used && p->channel == q->channel && !memcmp(&p->limits, &q->limits, sizeof p->limits) && p->heard == q->heard && p->time == q->time
+        && p->session.opened == q->session.opened && p->session.since == q->session.since && p->session.first == q->session.first
+        && same_slot(&p->session.status, &q->session.status) && same_slot(&p->session.control, &q->session.control);
+    for (int k = 0; k < ROKEMAIPU_KINDS; k++) r = r && same_slot(&p->latest[k], &q->latest[k]);
+    return r;
+}
+
+static bool same_table(const rokemaipu_table *a, const rokemaipu_table *b) {
+    for (int i = 0; i < ROKEMAIPU_POSTS; i++)
+        if (!same_post(&a->posts[i], &b->posts[i])) return false;
+    return true;
+}
+
+/* ---- the layout that the archive has */
+
+static void layout(void) {
+    IS(sizeof(rokemaipu_slot), 16);
+    IS(sizeof(rokemaipu_limits), 16);
+    IS(sizeof(rokemaipu_session), 48);
+    IS(sizeof(rokemaipu_post), 224);
+    IS(sizeof(rokemaipu_table), 1792);
+    IS(offsetof(rokemaipu_slot, raw), 8);
+    IS(offsetof(rokemaipu_session, status), 16);
+    IS(offsetof(rokemaipu_session, control), 32);
+    IS(offsetof(rokemaipu_post, channel), 4);
+    IS(offsetof(rokemaipu_post, limits), 8);
+    IS(offsetof(rokemaipu_post, heard), 24);
+    IS(offsetof(rokemaipu_post, time), 28);
+    IS(offsetof(rokemaipu_post, latest), 32);
+    IS(offsetof(rokemaipu_post, session), 176);
+    rokemaipu_table t, zero;
+    memset(&t, 0, sizeof t);
+    memset(&zero, 0, sizeof zero);
+    IS(rokemaipu_set_up(&t, 7, 31, 1, 2, 3, 100), 0);
+    IS(t.posts[7].used, 1);
+    IS(t.posts[7].channel, 31);
+    IS(t.posts[7].limits.voltage, 1);
+    IS(t.posts[7].limits.charge, 2);
+    IS(t.posts[7].limits.discharge, 3);
+    IS(t.posts[7].limits.silence, 100);
+    IS(rokemaipu_frame(&t, 31, 9, 0x6b001, true, (const uint8_t[]){2, 1}, 2), 0);
+    IS(rokemaipu_frame(&t, 31, 10, 0x63000, true, (const uint8_t[]){1, 2, 3, 4, 5, 6, 1, 8}, 8), ROKEMAIPU_F(8)); /* 0x0403 tenths of an ampere, above 2 */
+    IS(t.posts[7].heard, 1);
+    IS(t.posts[7].time, 10);
+    IS(t.posts[7].latest[ROKEMAIPU_POWER_MODULES_STATUS].known, 1);
+    IS(t.posts[7].latest[ROKEMAIPU_POWER_MODULES_STATUS].time, 10);
+    IS(t.posts[7].latest[ROKEMAIPU_POWER_MODULES_STATUS].raw, 0x0801060504030201u);
+    IS(t.posts[7].session.opened, 1);
+    IS(t.posts[7].session.since, 9);
+    IS(t.posts[7].session.first, 0x0102);
+    IS(t.posts[7].session.status.raw, 0x0801060504030201u);
+    IS(t.posts[7].session.control.known, 0);
+    IS(rokemaipu_start(&t), 0);
+    IS(same_table(&t, &zero), 1);
+    puts("layout: as the header says; zeroed memory is the started table");
+}
+
+/* ---- E1 to E16 */
+
+static const uint8_t e1[8] = {0xa0, 0x0f, 0x83, 0xff, 0x41, 0x00, 0x01, 0x64};
+
+static void frames(void) {
+    int64_t raws[8];
+    IS(rokemaipu_read(0x63000, true, e1, 8, raws, 8), ROKEMAIPU_POWER_MODULES_STATUS); /* E1 */
+    const int64_t want[8] = {4000, -125, 65, 0, 1, 100, 0, 0};
+    IS(memcmp(raws, want, sizeof want), 0);
+    IS(rokemaipu_read(0x63000, true, e1, 7, raws, 8), R(4)); /* E2 */
+    const uint8_t e3[8] = {0xa0, 0x0f, 0x83, 0xff, 0x41, 0x00, 0x02, 0x64};
+    IS(rokemaipu_read(0x63000, true, e3, 8, raws, 8), R(5)); /* E3 */
+    IS(rokemaipu_read(0x63003, true, e1, 8, raws, 8), R(3)); /* E4 */
+    IS(rokemaipu_read(0x63000, false, e1, 8, raws, 8), R(3));
+    IS(rokemaipu_read(0x63000, true, e1, 8, raws, 7), R(8));
+    IS(rokemaipu_read(0x6b001, true, NULL, 0, raws, 8), R(4)); /* E16 */
+    IS(rokemaipu_read(0x6b001, true, (const uint8_t[]){2, 1}, 2, raws, 8), ROKEMAIPU_NEW_CHARGE_SESSION); /* E15 */
+    IS(raws[0], 2);
+    IS(raws[1], 1);
+    uint8_t buf[10];
+    memset(buf, 0x55, sizeof buf);
+    int64_t hot[8] = {4000, -125, 255, 0, 1, 100, 9, 9};
+    IS(rokemaipu_write(0, hot, 8, buf, 10), 8); /* E5: 215 °C is raw 255 */
+    IS(memcmp(buf, (const uint8_t[]){0xa0, 0x0f, 0x83, 0xff, 0xff, 0x00, 0x01, 0x64, 0x55, 0x55}, 10), 0);
+    hot[2] = 256;
+    IS(rokemaipu_write(0, hot, 8, buf, 10), R(7));
+    IS(rokemaipu_write(0, hot, 8, buf, 7), R(7));
+    hot[2] = 65;
+    IS(rokemaipu_write(0, hot, 8, buf, 7), R(8));
+    IS(rokemaipu_write(0, hot, 7, buf, 10), R(7));
+    IS(rokemaipu_write(9, hot, 8, buf, 10), R(7));
+    hot[4] = 2;
+    IS(rokemaipu_write(0, hot, 8, buf, 10), R(7)); /* no label */
+    uint8_t c[8];
+    memcpy(c, e1, 8);
+    IS(rokemaipu_change(0x63000, true, c, 8, 16, -1), 0); /* E7 */
+    IS(memcmp(c, (const uint8_t[]){0xa0, 0x0f, 0xff, 0xff, 0x41, 0x00, 0x01, 0x64}, 8), 0);
+    IS(rokemaipu_change(0x63000, true, c, 8, 17, 0), R(13));
+    IS(rokemaipu_change(0x63000, true, c, 8, 16, 32768), R(7));
+    IS(rokemaipu_change(0x63000, true, c, 8, 48, 2), R(5));
+    IS(rokemaipu_change(0x63000, true, c, 7, 17, 0), R(4));
+    puts("frames: E1 to E7, E15, E16");
+}
+
+static void posts(void) {
+    rokemaipu_table t;
+    memset(&t, 0, sizeof t);
+    IS(rokemaipu_frame(&t, 4, 0, 0x63000, true, e1, 8), R(1));
+    IS(rokemaipu_set_up(&t, 0, 4, 5000, 1000, 500, 500), 0);
+    uint8_t s[8] = {0, 0, 0, 0, 65, 65, 1, 255}, d[7] = {0x88, 0x13, 0, 0, 0, 0, 4};
+    IS(rokemaipu_frame(&t, 4, 0, 0x6b001, true, (const uint8_t[]){2, 1}, 2), 0); /* E8 */
+    IS(rokemaipu_frame(&t, 4, 10, 0x63000, true, s, 8), 0);
+    IS(rokemaipu_frame(&t, 4, 20, 0x6b003, true, d, 7), 0);
+    s[0] = 0x88, s[1] = 0x13, s[7] = 25;
+    IS(rokemaipu_frame(&t, 4, 30, 0x63000, true, s, 8), 0);
+    s[7] = 24;
+    IS(rokemaipu_frame(&t, 4, 40, 0x63000, true, s, 8), ROKEMAIPU_F(9));
+    IS(rokemaipu_start(&t), 0); /* E9 */
+    IS(rokemaipu_set_up(&t, 0, 4, 5000, 1000, 500, 500), 0);
+    IS(rokemaipu_frame(&t, 4, 1000, 0x6b000, true, (const uint8_t[]){7}, 1), 0);
+    IS(rokemaipu_tick(&t, 4, 1200), 0);
+    IS(rokemaipu_tick(&t, 4, 1201), ROKEMAIPU_F(2));
+    IS(rokemaipu_set_up(&t, 0, 4, 5000, 1000, 500, 500), 0); /* E10 */
+    s[0] = 0, s[1] = 0, s[7] = 255;
+    IS(rokemaipu_frame(&t, 4, 0, 0x6b001, true, (const uint8_t[]){2, 1}, 2), 0);
+    IS(rokemaipu_tick(&t, 4, 500), 0);
+    IS(rokemaipu_frame(&t, 4, 501, 0x63000, true, s, 8), ROKEMAIPU_F(1));
+    IS(rokemaipu_tick(&t, 4, 1001), 0);
+    IS(rokemaipu_tick(&t, 4, 1002), ROKEMAIPU_F(1));
+    IS(rokemaipu_set_up(&t, 0, 4, 5000, 1000, 500, 500), 0); /* E11 */
+    d[6] = 0x48;
+    IS(rokemaipu_frame(&t, 4, 0, 0x6b003, true, d, 7), ROKEMAIPU_F(3) | ROKEMAIPU_F(4));
+    IS(rokemaipu_set_up(&t, 1, 4, 5000, 1000, 500, 500), R(11)); /* E12 */
+    IS(rokemaipu_set_up(&t, 0, 4, 5000, 1000, 500, 500), 0);
+    IS(t.posts[0].heard, 0);
+    IS(rokemaipu_set_up(&t, 8, 5, 5000, 1000, 500, 500), R(9));
+    IS(rokemaipu_set_up(&t, 1, 32, 5000, 1000, 500, 500), R(10));
+    IS(rokemaipu_set_up(&t, 1, 5, 5000, 1000, 500, 99), R(12));
+    uint8_t p[8] = {0xa0, 0x0f, 0, 0, 0, 0, 0, 0}; /* E13 */
+    IS(rokemaipu_frame(&t, 4, 0, 0x63001, true, p, 8), 0);
+    d[0] = 0xa0, d[1] = 0x0f, d[6] = 1;
+    IS(rokemaipu_frame(&t, 4, 1, 0x6b003, true, d, 7), 0);
+    d[0] = 0xa1;
+    IS(rokemaipu_frame(&t, 4, 2, 0x6b003, true, d, 7), ROKEMAIPU_F(7));
+    IS(rokemaipu_tick(&t, 4, 100), 0); /* E14 */
+    IS(rokemaipu_tick(&t, 4, 99), R(2));
+    IS(rokemaipu_tick(&t, 4, 100), 0);
+    IS(rokemaipu_release(&t, 0), 0);
+    IS(rokemaipu_release(&t, 0), R(14));
+    IS(rokemaipu_release(&t, 8), R(9));
+    IS(rokemaipu_tick(&t, 4, 101), R(1));
+    puts("posts: E8 to E14");
+}
+
+/* ---- any input: tables of random numbers, slices of every length, lent at a fence; a refusal leaves all as it was */
+
+static uint64_t state = 88172645463325252ull;
+static uint64_t next(void) {
+    state ^= state << 13;
+    state ^= state >> 7;
+    return state ^= state << 17;
+}
+static uint32_t below(uint32_t n) { return (uint32_t)(next() % n); }
+
+static void random_slot(rokemaipu_slot *s) { s->known = below(2), s->time = (uint32_t)next(), s->raw = next(); }
+
+static void random_table(rokemaipu_table *t) {
+    for (int i = 0; i < ROKEMAIPU_POSTS; i++) {
+        rokemaipu_post *p = &t->posts[i];
+        p->used = below(2), p->channel = below(40), p->heard = below(2), p->time = (uint32_t)next();
+        p->limits.voltage = (uint32_t)next(), p->limits.charge = (uint32_t)next(), p->limits.discharge = (uint32_t)next(), p->limits.silence = (uint32_t)next();
+        for (int k = 0; k < ROKEMAIPU_KINDS; k++) random_slot(&p->latest[k]);
+        p->session.opened = below(2), p->session.since = (uint32_t)next(), p->session.first = next();
+        random_slot(&p->session.status);
+        random_slot(&p->session.control);
+    }
+}
+
+static const uint32_t ids[] = {0x63000, 0x63001, 0x6b000, 0x6b001, 0x6b002, 0x6b003, 0x6b004, 0x6b005, 0x6b105, 0x63003, 0, 0xffffffff};
+static uint32_t some_id(void) { return ids[below(sizeof ids / sizeof *ids)]; }
+
+static void anything(void) {
+    rokemaipu_table *t = (rokemaipu_table *)fenced(sizeof *t), before;
+    uint8_t *end = fenced(12) + 12;
+    for (int turn = 0; turn < 200000; turn++) {
+        if (turn % 50 == 0) random_table(t);
+        before = *t;
+        size_t length = below(12);
+        uint8_t *payload = end - length; /* ends at the fence */
+        for (size_t i = 0; i < length; i++) payload[i] = below(3) ? (uint8_t)below(6) : (uint8_t)next();
+        uint32_t channel = below(40), time = below(2) ? (uint32_t)next() : t->posts[below(8)].time, r;
+        switch (below(4)) {
+        case 0: r = rokemaipu_frame(t, channel, time, some_id(), below(8) != 0, payload, length); break;
+        case 1: r = rokemaipu_tick(t, channel, time); break;
+        case 2: r = rokemaipu_release(t, below(12)); break;
+        default: r = rokemaipu_set_up(t, below(12), channel, below(70000), below(40000), below(40000), below(70000)); break;
+        }
+        if (rokemaipu_refusal(r) && !same_table(t, &before)) IS(r, 0);
+        if (!rokemaipu_refusal(r) && r > 2047) IS(r, 2047);
+        for (int i = 0, changed = 0; i < ROKEMAIPU_POSTS; i++) {
+            changed += !same_post(&t->posts[i], &before.posts[i]);
+            if (changed > 1) IS(changed, 1);
+        }
+        if (bad) return;
+    }
+    puts("any table and any step: answered; one post changed at most, none by a refusal");
+}
+
+static void lengths(void) {
+    uint8_t *end = fenced(4096) + 4096, *raws_end = fenced(4096) + 4096;
+    for (size_t length = 0; length <= 4096; length += length < 40 ? 1 : 997)
+        for (size_t places = 0; places < 12; places++)
+            for (int turn = 0; turn < 20; turn++) {
+                uint8_t *bytes = end - length, copy[4096];
+                int64_t *raws = (int64_t *)raws_end - places, raws_copy[12];
+                for (size_t i = 0; i < length; i++) bytes[i] = below(2) ? (uint8_t)below(6) : (uint8_t)next();
+                for (size_t i = 0; i < places; i++) raws[i] = below(2) ? (int64_t)below(300) : (int64_t)next();
+                memcpy(copy, bytes, length), memcpy(raws_copy, raws, places * sizeof *raws);
+                uint32_t id = some_id(), r = rokemaipu_read(id, below(8) != 0, bytes, length, raws, places);
+                if (rokemaipu_refusal(r)) IS(memcmp(raws, raws_copy, places * sizeof *raws), 0);
+                IS(memcmp(bytes, copy, length), 0);
+                r = rokemaipu_change(id, true, bytes, length, below(70), below(2) ? (int64_t)below(300) : (int64_t)next());
+                if (rokemaipu_refusal(r)) IS(memcmp(bytes, copy, length), 0);
+                memcpy(copy, bytes, length);
+                r = rokemaipu_write(below(12), raws, places, bytes, length);
+                if (rokemaipu_refusal(r)) IS(memcmp(bytes, copy, length), 0);
+                else IS(memcmp(bytes + r, copy + r, length - r), 0);
+                if (bad) return;
+            }
+    puts("slices of every length: answered; nothing past them touched, none changed by a refusal");
+}
+
+int main(void) {
+    layout();
+    frames();
+    posts();
+    anything();
+    lengths();
+    puts(bad ? "BAD" : "ok");
+    return bad;
+}
