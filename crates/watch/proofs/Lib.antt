@@ -5,3 +5,4 @@ pub mod Refusing
 pub mod Demand
 pub mod Search
 pub mod Promises
+pub mod Night
