@@ -7,7 +7,7 @@
 #include <string.h>
 #include <time.h>
 
-/* A second of a charging session: what comes every 100 ms by the pages, one EV_ID, and now and then the rest. */
+/* All nine messages, as a charging session mixes them: what comes every 100 ms by the pages more than once, the rest once. */
 typedef struct { uint32_t id; uint8_t n, bytes[8]; } frame;
 static const frame mix[] = {
     {0x63000, 8, {0xa0, 0x0f, 0x83, 0x00, 0x41, 0x40, 0x01, 0x64}}, {0x6b000, 1, {7}},
@@ -16,6 +16,7 @@ static const frame mix[] = {
     {0x6b003, 7, {0xa0, 0x0f, 0x91, 0x00, 0x00, 0x00, 0x48}},       {0x63001, 8, {0x88, 0x13, 0xe8, 0x03, 0xf4, 0x01, 0, 0}},
     {0x63000, 8, {0xa2, 0x0f, 0x87, 0x00, 0x41, 0x40, 0x01, 0x64}}, {0x6b105, 6, {1, 2, 3, 4, 5, 6}},
     {0x6b003, 7, {0xa0, 0x0f, 0x92, 0x00, 0x00, 0x00, 0x48}},       {0x6b002, 1, {1}},
+    {0x6b005, 1, {1}},                                              {0x6b004, 1, {0}},
 };
 enum { MIX = sizeof mix / sizeof *mix, TURNS = 200000 };
 
@@ -95,6 +96,6 @@ int main(void) {
     bench_write();
     bench_watch(1);
     bench_watch(8);
-    printf("a table has %zu bytes, a post %zu; a frame copies one post out and back, %zu bytes\n", sizeof(rokemaipu_table), sizeof(rokemaipu_post), 2 * sizeof(rokemaipu_post));
+    printf("a table has %zu bytes, a post %zu; no table is copied\n", sizeof(rokemaipu_table), sizeof(rokemaipu_post));
     return sum == 42;
 }
