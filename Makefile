@@ -27,4 +27,6 @@ lib:
 
 bench: lib
 	@gcc -O2 -Wall -Wextra -Itarget/lib -Ibench bench/bench.c bench/peer.c target/lib/librokemaipu.a -o target/lib/bench
+	@gcc -O2 -Wall -Wextra -Itarget/lib -Wl,--wrap=memcpy,--wrap=memmove bench/copied.c target/lib/librokemaipu.a -o target/lib/copied
 	@target/lib/bench
+	@target/lib/copied

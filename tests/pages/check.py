@@ -62,21 +62,37 @@ def code_rows():
         yield (number(f['kind']), number(f['id']), number(f['bytes']), number(f['start']), number(f['width']), f['signed'] == 'true', number(f['labels']))
 
 
+def code_names():
+    """The names of the rows' constants, and their order in ROWS and in row_at."""
+    text = (ROOT / 'crates/pages/src/table.rt').read_text()
+    names = re.findall(r'^const (\w+): Row = Row', text, re.M)
+    listed = re.search(r'const ROWS: \[Row; \d+\] = \[(.*?)\];', text, re.S).group(1)
+    arms = re.search(r'fn row_at.*?match i \{(.*?)\}', text, re.S).group(1)
+    return names, re.findall(r'\w+', listed), re.findall(r'=> (\w+)', arms)
+
+
 def spec_rows():
     text = (ROOT / 'crates/pages/specs/Table.antt').read_text()
     for m in re.findall(r'^\s*(?:∷ )?row (\d+) (\w+) (\d+) (\d+) (\d+) (true|false) (\w+)\s*$', text, re.M):
         yield (number(m[0]), number(m[1]), number(m[2]), number(m[3]), number(m[4]), m[5] == 'true', number(m[6]))
 
 
-signals = list(paper_signals())
+signals = sorted(paper_signals(), key=lambda s: KINDS.index(s[0]))
 want = [(KINDS.index(m), ident, size, start, width, kind == 'Signed', sum(1 << v for _, v in pairs))
-        for m, ident, size, _, start, width, kind, pairs in sorted(signals, key=lambda s: KINDS.index(s[0]))]
+        for m, ident, size, _, start, width, kind, pairs in signals]
 for name, have in (('src/table.rt', list(code_rows())), ('specs/Table.antt', list(spec_rows()))):
     if len(have) != len(want):
         fault(f'{name}: {len(have)} rows, the document has {len(want)}')
     for k, (h, w) in enumerate(zip(have, want)):
         if h != w:
             fault(f'{name}: row {k} is {h}, the document says {w}')
+
+names, listed, arms = code_names()
+if not names == listed == arms:
+    fault('src/table.rt: the constants, ROWS and row_at do not list the same names in the same order')
+for name, signal in zip(names, signals):
+    if name != signal[3].upper() and not name.endswith('_' + signal[3].upper()):
+        fault(f'src/table.rt: {name} stands where the document has {signal[0]}.{signal[3]}')
 
 labels = (ROOT / 'crates/messages/specs/Labels.antt').read_text()
 seen = 0

@@ -195,25 +195,61 @@ pub const FINISHED: usize = 6;
 pub fn status_in(number: u64) -> PowerModulesStatus
     ensures { λ r. ⌜ r ≡ statusIn number ⌝ }
 {
-    build::status(pages::raws_of(STATUS, number))
+    build::status([
+        pages::raw_of(STATUS, 0, number),
+        pages::raw_of(STATUS, 1, number),
+        pages::raw_of(STATUS, 2, number),
+        pages::raw_of(STATUS, 3, number),
+        pages::raw_of(STATUS, 4, number),
+        pages::raw_of(STATUS, 5, number),
+        0,
+        0,
+    ])
 }
 
 pub fn parameters_in(number: u64) -> DcPowerParameters
     ensures { λ r. ⌜ r ≡ parametersIn number ⌝ }
 {
-    build::parameters(pages::raws_of(PARAMETERS, number))
+    build::parameters([
+        pages::raw_of(PARAMETERS, 0, number),
+        pages::raw_of(PARAMETERS, 1, number),
+        pages::raw_of(PARAMETERS, 2, number),
+        pages::raw_of(PARAMETERS, 3, number),
+        0,
+        0,
+        0,
+        0,
+    ])
 }
 
 pub fn session_in(number: u64) -> NewChargeSession
     ensures { λ r. ⌜ r ≡ sessionIn number ⌝ }
 {
-    build::session(pages::raws_of(SESSION, number))
+    build::session([
+        pages::raw_of(SESSION, 0, number),
+        pages::raw_of(SESSION, 1, number),
+        0,
+        0,
+        0,
+        0,
+        0,
+        0,
+    ])
 }
 
 pub fn control_in(number: u64) -> DcPowerControl
     ensures { λ r. ⌜ r ≡ controlIn number ⌝ }
 {
-    build::control(pages::raws_of(CONTROL, number))
+    build::control([
+        pages::raw_of(CONTROL, 0, number),
+        pages::raw_of(CONTROL, 1, number),
+        pages::raw_of(CONTROL, 2, number),
+        pages::raw_of(CONTROL, 3, number),
+        pages::raw_of(CONTROL, 4, number),
+        pages::raw_of(CONTROL, 5, number),
+        pages::raw_of(CONTROL, 6, number),
+        pages::raw_of(CONTROL, 7, number),
+    ])
 }
 
 // 01: "A message is read into one of nine kinds, each with its own fields".

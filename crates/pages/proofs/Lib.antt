@@ -4,3 +4,4 @@ pub mod Trips
 pub mod Changes
 pub mod Walk
 pub mod AtRow
+pub mod Places

@@ -143,6 +143,21 @@ kinds-up r q t = go (eqb (r .kind) (q .kind)) refl
     go true e = omega (arith, eqb-true (r .kind) (q .kind) e)
     go false e = omega (arith, other-message r q (eqb-false (r .kind) (q .kind) e) t .0)
 
+-- the kinds of the table's rows go up, so that a row between two of a kind is of that kind
+kinds-at : (i j : ℕ) → i ≤ j → j < rowCount → getD rows i noRow .kind ≤ getD rows j noRow .kind
+kinds-at i j h l = go (half-of j i)
+  where
+    go : (i < j) ⊎ (j ≤ i) → getD rows i noRow .kind ≤ getD rows j noRow .kind
+    go (inl s) = kinds-up (getD rows i noRow) (getD rows j noRow) (turn-at rows (table-parts .2) i j s (rw rows-length l))
+    go (inr s) = let e : i ≡ j = omega arith in rw e (omega arith)
+
+pub kind-between : (k i j m : ℕ) → i ≤ j → j ≤ m → m < rowCount → getD rows i noRow .kind ≡ k → getD rows m noRow .kind ≡ k
+    → getD rows j noRow .kind ≡ k
+kind-between k i j m a b l e f =
+    let low = kinds-at i j a (omega arith) in
+    let high = kinds-at j m b l in
+    omega arith
+
 -- ---- the rows of a kind
 
 -- one row more
@@ -155,7 +170,7 @@ unfolding ofKind
 kind-out k r rs n = rw (ne-eqb (r .kind) k n)
 
 -- a kind is that of a row, or not
-kind-is : (k : ℕ) (r : Row) → (r .kind ≡ k) ⊎ (r .kind ≡ k → ⊥)
+pub kind-is : (k : ℕ) (r : Row) → (r .kind ≡ k) ⊎ (r .kind ≡ k → ⊥)
 kind-is k r = go (hasKind k r) refl
   where
     go : (b : Bool) → hasKind k r ≡ b → (r .kind ≡ k) ⊎ (r .kind ≡ k → ⊥)

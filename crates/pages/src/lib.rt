@@ -1,6 +1,8 @@
 // The maker's pages: one constant table of rows, and what it says of a frame: reading it to kind and payload number, its signals'
 // raw whole numbers, writing those, and changing one signal in place. Every public function takes any input.
 ghost use mathlib.Core.Path.{_≡_};
+ghost use lib.IntN.{pos};
+ghost use lib.ListN.{getD};
 ghost use Rattle.pages.specs.Refusals.{numberOf};
 ghost use Rattle.pages.specs.Table.{rowsOf, headRow, identifierOf, lengthOf};
 ghost use Rattle.pages.specs.Judge.{judgeOf};
@@ -150,6 +152,20 @@ pub fn raws_of(kind: usize, number: u64) -> [i64; 8]
         return [0; 8];
     };
     signals::unpack(i, kind, number)
+}
+
+// The raw number of a kind's signal at one place of the table's order, and 0 where there is none: for a caller that knows the kind, so
+// that nothing is looked for or looped over when the program runs.
+pub fn raw_of(kind: usize, place: usize, number: u64) -> i64
+    ensures { λ r. ⌜ r ≡ getD (rawsOf kind number) place (pos 0) ⌝ }
+{
+    let Found::At(i) = table::first_of_kind(kind) else {
+        return 0;
+    };
+    if 8 <= place {
+        return 0;
+    }
+    signals::raw_after(i, kind, place, number)
 }
 
 // The frame of a kind whose signals have these raw numbers: 7, then 8. Numbers behind the kind's signals are passed over.

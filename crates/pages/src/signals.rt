@@ -1,8 +1,10 @@
 // The loops over the rows of one message, which stand together from its first row on, and what they do at a row.
 ghost use mathlib.Core.Path.{_≡_};
 ghost use mathlib.Core.Bool.{true};
-ghost use lib.ListN.{drop};
-ghost use Rattle.pages.specs.Table.{rows, Fine, block, lowest, bitsAt, takes};
+ghost use Prim.Native.Nat.{_<_};
+ghost use lib.IntN.{pos};
+ghost use lib.ListN.{drop, getD};
+ghost use Rattle.pages.specs.Table.{rows, noRow, rowCount, Fine, block, lowest, bitsAt, takes};
 ghost use Rattle.pages.specs.Raws.{signalCount, wholeAt, wholesOf, pad, rowTakes, putRaw};
 ghost use Rattle.pages.specs.Change.{changedRow, changedAt};
 ghost use Rattle.pages.specs.Steps.{offenceOf, cleared, judgedBy, packOf, signalFound};
@@ -122,6 +124,22 @@ pub fn unpack(at: usize, kind: usize, n: u64) -> [i64; 8]
         j += 1;
         i += 1;
     }
+}
+
+// The raw number of the row that stands `place` rows after `at`, and 0 where that is none of the kind.
+pub fn raw_after(at: usize, kind: usize, place: usize, n: u64) -> i64
+    requires { ⌜ (at < rowCount) × (place < signalCount) × (getD rows at noRow .kind ≡ kind) ⌝ }
+    ensures { λ z. ⌜ z ≡ getD (wholesOf n (block kind (drop at rows))) place (pos 0) ⌝ }
+{
+    let i = at + place;
+    if ROW_COUNT <= i {
+        return 0;
+    }
+    let r = row_at(i);
+    if r.kind != kind {
+        return 0;
+    }
+    signal_whole(r, n)
 }
 
 // Whether a signal takes the raw number: it fits, and has a label where the signal has labels.

@@ -3,24 +3,28 @@
 use mathlib.Core.Path.{_≡_, refl, _∙_}
 use Prim.Native.Nat.{_-_}
 use native.Mathlib.Omega.{arith}
-use lib.ListN.{drop}
+use lib.ListN.{drop, getD}
+use borrow.Author.Needs.{needs}
 use borrow.Author.Tests.{eq-eqb, ne-eqb}
-use Rattle.pages.specs.Table.{rows, rowCount, firstAt, hasKind}
+use Rattle.pages.specs.Table.{rows, rowCount, noRow, firstAt, hasKind}
 use Rattle.pages.proofs.Walk.{found-here, found-later, found-none}
 use Rattle.pages.proofs.table.first_of_kind.Statement.{statement}
 use Rattle.pages.proofs.table.first_of_kind.Tie as tie
 
 abbrev Inv-rows : tie.InvT-rows
-Inv-rows kind i₀ i = firstAt (hasKind kind) i (drop i rows) ≡ firstAt (hasKind kind) 0 rows
+Inv-rows kind all i₀ i = firstAt (hasKind kind) i (drop i rows) ≡ firstAt (hasKind kind) 0 rows
 
 abbrev μ-rows : tie.MeasureT-rows
-μ-rows kind i₀ i = rowCount - i
+μ-rows kind all i₀ i = rowCount - i
 
 rows-holds : tie.Need-rows-holds Inv-rows μ-rows
 rows-holds c = refl
 
-row-at-requires : tie.Need-row-at-requires Inv-rows μ-rows
-row-at-requires c κs = omega arith
+mul-r : tie.Need-mul-r Inv-rows μ-rows
+mul-r c = search needs
+
+array-copy-out-r : tie.Need-array-copy-out-r Inv-rows μ-rows
+array-copy-out-r c = search needs
 
 add-i : tie.Need-add-i Inv-rows μ-rows
 add-i c = omega arith
@@ -29,11 +33,11 @@ rows-less : tie.Need-rows-less Inv-rows μ-rows
 rows-less c = omega arith
 
 rows-again : tie.Need-rows-again Inv-rows μ-rows
+unfolding rows
 rows-again c =
-    let k = c .before .before in
-    let a = k .before .before in
-    let r = k .row-at .result in
-    found-later (hasKind (a .before .args .kind)) (a .rows .i) r (omega arith) (k .row-at .ensures .0)
+    let a = c .before .before .before .before in
+    let r = getD rows (a .rows .i) noRow in
+    found-later (hasKind (a .before .args .kind)) (a .rows .i) r (omega arith) refl
     (ne-eqb (r .kind) (a .before .args .kind) (c .if2 .left))
     ∙ a .rows .inv
 
@@ -43,11 +47,11 @@ returns c =
     found-none (hasKind (a .before .args .kind)) (a .rows .i) (c .if1 .taken) ∙ a .rows .inv
 
 returns-2 : tie.Need-returns-2 Inv-rows μ-rows
+unfolding rows
 returns-2 c =
-    let k = c .before .before in
-    let a = k .before .before in
-    let r = k .row-at .result in
-    found-here (hasKind (a .before .args .kind)) (a .rows .i) r (omega arith) (k .row-at .ensures .0)
+    let a = c .before .before .before .before in
+    let r = getD rows (a .rows .i) noRow in
+    found-here (hasKind (a .before .args .kind)) (a .rows .i) r (omega arith) refl
     (eq-eqb (r .kind) (a .before .args .kind) (c .if2 .taken))
     ∙ a .rows .inv
 
@@ -58,7 +62,8 @@ first-of-kind-spec =
     Inv-rows
     μ-rows
     rows-holds
-    row-at-requires
+    mul-r
+    array-copy-out-r
     add-i
     rows-less
     rows-again

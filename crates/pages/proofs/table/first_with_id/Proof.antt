@@ -3,24 +3,28 @@
 use mathlib.Core.Path.{_≡_, refl, _∙_}
 use Prim.Native.Nat.{_-_}
 use native.Mathlib.Omega.{arith}
-use lib.ListN.{drop}
+use lib.ListN.{drop, getD}
+use borrow.Author.Needs.{needs}
 use borrow.Author.Tests.{eq-eqb, ne-eqb}
-use Rattle.pages.specs.Table.{rows, rowCount, firstAt, hasId}
+use Rattle.pages.specs.Table.{rows, rowCount, noRow, firstAt, hasId}
 use Rattle.pages.proofs.Walk.{found-here, found-later, found-none}
 use Rattle.pages.proofs.table.first_with_id.Statement.{statement}
 use Rattle.pages.proofs.table.first_with_id.Tie as tie
 
 abbrev Inv-rows : tie.InvT-rows
-Inv-rows id i₀ i = firstAt (hasId id) i (drop i rows) ≡ firstAt (hasId id) 0 rows
+Inv-rows id all i₀ i = firstAt (hasId id) i (drop i rows) ≡ firstAt (hasId id) 0 rows
 
 abbrev μ-rows : tie.MeasureT-rows
-μ-rows id i₀ i = rowCount - i
+μ-rows id all i₀ i = rowCount - i
 
 rows-holds : tie.Need-rows-holds Inv-rows μ-rows
 rows-holds c = refl
 
-row-at-requires : tie.Need-row-at-requires Inv-rows μ-rows
-row-at-requires c κs = omega arith
+mul-r : tie.Need-mul-r Inv-rows μ-rows
+mul-r c = search needs
+
+array-copy-out-r : tie.Need-array-copy-out-r Inv-rows μ-rows
+array-copy-out-r c = search needs
 
 add-i : tie.Need-add-i Inv-rows μ-rows
 add-i c = omega arith
@@ -29,11 +33,11 @@ rows-less : tie.Need-rows-less Inv-rows μ-rows
 rows-less c = omega arith
 
 rows-again : tie.Need-rows-again Inv-rows μ-rows
+unfolding rows
 rows-again c =
-    let k = c .before .before in
-    let a = k .before .before in
-    let r = k .row-at .result in
-    found-later (hasId (a .before .args .id)) (a .rows .i) r (omega arith) (k .row-at .ensures .0)
+    let a = c .before .before .before .before in
+    let r = getD rows (a .rows .i) noRow in
+    found-later (hasId (a .before .args .id)) (a .rows .i) r (omega arith) refl
     (ne-eqb (r .id) (a .before .args .id) (c .if2 .left))
     ∙ a .rows .inv
 
@@ -43,11 +47,11 @@ returns c =
     found-none (hasId (a .before .args .id)) (a .rows .i) (c .if1 .taken) ∙ a .rows .inv
 
 returns-2 : tie.Need-returns-2 Inv-rows μ-rows
+unfolding rows
 returns-2 c =
-    let k = c .before .before in
-    let a = k .before .before in
-    let r = k .row-at .result in
-    found-here (hasId (a .before .args .id)) (a .rows .i) r (omega arith) (k .row-at .ensures .0)
+    let a = c .before .before .before .before in
+    let r = getD rows (a .rows .i) noRow in
+    found-here (hasId (a .before .args .id)) (a .rows .i) r (omega arith) refl
     (eq-eqb (r .id) (a .before .args .id) (c .if2 .taken))
     ∙ a .rows .inv
 
@@ -58,7 +62,8 @@ first-with-id-spec =
     Inv-rows
     μ-rows
     rows-holds
-    row-at-requires
+    mul-r
+    array-copy-out-r
     add-i
     rows-less
     rows-again
