@@ -16,7 +16,7 @@
  *
  *    1  channel above 31, or held by no post          8  lent buffer too short
  *    2  time earlier than the post's latest           9  post above 7
- *    3  identifier unknown, or a standard frame      10  channel above 31 at set-up
+ *    3  unknown identifier or kind, standard frame   10  channel above 31 at set-up
  *    4  wrong length                                 11  channel held by another post
  *    5  a number without a label                     12  a limit outside its range
  *    6  a bit that no signal covers is 1             13  no signal starts at that bit
@@ -52,6 +52,22 @@ enum rokemaipu_kind {
     ROKEMAIPU_CHARGE_SESSION_FINISHED = 6, /* 0x6b004 */
     ROKEMAIPU_EMERGENCY_STOP = 7,          /* 0x6b005 */
     ROKEMAIPU_EV_ID = 8                    /* 0x6b105 */
+};
+
+/* A post's numbers, in the order in which they are looked up. */
+enum rokemaipu_number {
+    ROKEMAIPU_CHANNEL = 0,
+    ROKEMAIPU_VOLTAGE = 1,   /* the limits, as they were set up */
+    ROKEMAIPU_CHARGE = 2,
+    ROKEMAIPU_DISCHARGE = 3,
+    ROKEMAIPU_SILENCE = 4,
+    ROKEMAIPU_HEARD = 5,     /* 1 where a frame or tick was accepted since set-up, else 0 */
+    ROKEMAIPU_TIME = 6,      /* the latest accepted one's time, 0 where none was */
+    ROKEMAIPU_OPENED = 7,    /* 1 where a session is open, else 0, and 0 in the three that follow */
+    ROKEMAIPU_SINCE = 8,
+    ROKEMAIPU_PROTOCOL = 9,  /* the first protocol's number and the first plug's, as the page of New_Charge_Session has them */
+    ROKEMAIPU_PLUG = 10,
+    ROKEMAIPU_NUMBERS = 11   /* how many they are */
 };
 
 /* Findings of an accepted frame or tick: finding k is bit k - 1 of the answer. */
@@ -113,6 +129,15 @@ uint32_t rokemaipu_frame(rokemaipu_table *t, uint32_t channel, uint32_t time, ui
 
 /* Lets time pass on a channel. Answers the findings, or refuses with 1, 2. */
 uint32_t rokemaipu_tick(rokemaipu_table *t, uint32_t channel, uint32_t time);
+
+/* Looks a post up: puts its numbers into the first ROKEMAIPU_NUMBERS places of numbers, and leaves those behind them. Answers 0.
+ * Refuses with 9, 14, then with 8 where numbers has fewer places. */
+uint32_t rokemaipu_look_up(const rokemaipu_table *t, uint32_t post, uint32_t *numbers, size_t places);
+
+/* Looks up the latest frame of a kind that the post accepted since set-up: puts its time into time[0] and its bytes, as they came, into
+ * buffer from index 0 on. Answers its number of bytes; 0 where there is none, and then nothing is written, whatever is lent. Refuses
+ * with 9, 14, with 3 for a kind above 8, then with 8 where time has no place or buffer is shorter than the frame. */
+uint32_t rokemaipu_latest(const rokemaipu_table *t, uint32_t post, uint32_t kind, uint32_t *time, size_t places, uint8_t *buffer, size_t room);
 
 /* ---- frames ---- */
 

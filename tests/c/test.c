@@ -190,6 +190,67 @@ static void posts(void) {
     puts("posts: E8 to E14");
 }
 
+/* a post's numbers, field by field */
+static void numbers_are(int line, const rokemaipu_table *t, uint32_t post, const uint32_t want[ROKEMAIPU_NUMBERS]) {
+    uint32_t got[ROKEMAIPU_NUMBERS + 1];
+    memset(got, 0x55, sizeof got);
+    is(line, "the look-up's answer", rokemaipu_look_up(t, post, got, ROKEMAIPU_NUMBERS + 1), 0);
+    for (int i = 0; i < ROKEMAIPU_NUMBERS; i++) is(line, "a number looked up", got[i], want[i]);
+    is(line, "the place behind the numbers", got[ROKEMAIPU_NUMBERS], 0x55555555);
+}
+#define NUMBERS(t, post, ...) numbers_are(__LINE__, t, post, (const uint32_t[ROKEMAIPU_NUMBERS]){__VA_ARGS__})
+
+static void looks(void) {
+    rokemaipu_table t;
+    uint32_t numbers[ROKEMAIPU_NUMBERS], time[1] = {77};
+    uint8_t buf[8];
+    memset(&t, 0, sizeof t);
+    memset(numbers, 0, sizeof numbers);
+    IS(rokemaipu_look_up(&t, 0, numbers, ROKEMAIPU_NUMBERS), R(14));
+    IS(rokemaipu_look_up(&t, 8, numbers, ROKEMAIPU_NUMBERS), R(9));
+    IS(rokemaipu_look_up(&t, 8, NULL, 0), R(9)); /* 9 and 14 before 8 */
+    IS(rokemaipu_look_up(&t, 0, NULL, 0), R(14));
+    IS(rokemaipu_set_up(&t, 0, 4, 5000, 1000, 500, 600), 0); /* as E8 */
+    IS(rokemaipu_look_up(&t, 0, numbers, ROKEMAIPU_NUMBERS - 1), R(8));
+    NUMBERS(&t, 0, 4, 5000, 1000, 500, 600, 0, 0, 0, 0, 0, 0);
+    IS(rokemaipu_latest(&t, 0, ROKEMAIPU_NEW_CHARGE_SESSION, NULL, 0, NULL, 0), 0);
+    const uint8_t s[8] = {0x88, 0x13, 0, 0, 65, 65, 1, 25}, d[7] = {0x88, 0x13, 0, 0, 0, 0, 4};
+    IS(rokemaipu_frame(&t, 4, 5, 0x6b001, true, (const uint8_t[]){2, 1}, 2), 0);
+    NUMBERS(&t, 0, 4, 5000, 1000, 500, 600, 1, 5, 1, 5, 2, 1);
+    IS(rokemaipu_frame(&t, 4, 10, 0x63000, true, s, 8), 0);
+    IS(rokemaipu_frame(&t, 4, 20, 0x6b003, true, d, 7), 0);
+    IS(rokemaipu_frame(&t, 4, 25, 0x6b001, true, (const uint8_t[]){3, 2}, 2), ROKEMAIPU_F(10)); /* repeated: the first protocol and plug stay */
+    IS(rokemaipu_tick(&t, 4, 30), 0);
+    NUMBERS(&t, 0, 4, 5000, 1000, 500, 600, 1, 30, 1, 5, 2, 1);
+    memset(buf, 0x55, sizeof buf);
+    IS(rokemaipu_latest(&t, 0, ROKEMAIPU_POWER_MODULES_STATUS, time, 1, buf, 8), 8);
+    IS(time[0], 10);
+    IS(memcmp(buf, s, 8), 0);
+    memset(buf, 0x55, sizeof buf);
+    IS(rokemaipu_latest(&t, 0, ROKEMAIPU_DC_POWER_CONTROL, time, 1, buf, 8), 7);
+    IS(time[0], 20);
+    IS(memcmp(buf, d, 7), 0);
+    IS(buf[7], 0x55);
+    IS(rokemaipu_latest(&t, 0, ROKEMAIPU_NEW_CHARGE_SESSION, time, 1, buf, 2), 2);
+    IS(time[0], 25);
+    IS(memcmp(buf, (const uint8_t[]){3, 2}, 2), 0);
+    IS(rokemaipu_latest(&t, 0, ROKEMAIPU_EV_ID, time, 1, buf, 8), 0);
+    IS(time[0], 25);
+    IS(rokemaipu_latest(&t, 0, ROKEMAIPU_KINDS, time, 1, buf, 8), R(3));
+    IS(rokemaipu_latest(&t, 0, ROKEMAIPU_KINDS, NULL, 0, NULL, 0), R(3));
+    IS(rokemaipu_latest(&t, 1, ROKEMAIPU_KINDS, time, 1, buf, 8), R(14)); /* 9 and 14 before 3 */
+    IS(rokemaipu_latest(&t, 8, ROKEMAIPU_KINDS, time, 1, buf, 8), R(9));
+    IS(rokemaipu_latest(&t, 0, ROKEMAIPU_POWER_MODULES_STATUS, time, 1, buf, 7), R(8));
+    IS(rokemaipu_latest(&t, 0, ROKEMAIPU_POWER_MODULES_STATUS, NULL, 0, buf, 8), R(8));
+    IS(rokemaipu_frame(&t, 4, 31, 0x6b004, true, (const uint8_t[]){0}, 1), 0); /* finished: the session's part is none, the frames stay */
+    NUMBERS(&t, 0, 4, 5000, 1000, 500, 600, 1, 31, 0, 0, 0, 0);
+    IS(rokemaipu_latest(&t, 0, ROKEMAIPU_DC_POWER_CONTROL, time, 1, buf, 8), 7);
+    IS(rokemaipu_set_up(&t, 0, 6, 5000, 1000, 500, 600), 0); /* E12: an empty history */
+    NUMBERS(&t, 0, 6, 5000, 1000, 500, 600, 0, 0, 0, 0, 0, 0);
+    IS(rokemaipu_latest(&t, 0, ROKEMAIPU_DC_POWER_CONTROL, time, 1, buf, 8), 0);
+    puts("look-ups: E8's and E12's posts, their numbers and their latest frames");
+}
+
 /* ---- any input: tables of random numbers, slices of every length, lent at a fence; a refusal leaves all as it was */
 
 static uint64_t state = 88172645463325252ull;
@@ -268,12 +329,85 @@ static void lengths(void) {
     puts("slices of every length: answered; nothing past them touched, none changed by a refusal");
 }
 
+/* a look-up's lent memory: it ends at a fence, and what stands before it and behind its places may not change either */
+
+enum { BEFORE = 16, MOST = 16 };
+
+typedef struct lent {
+    uint8_t *end, *at, copy[4 * (BEFORE + MOST)];
+    size_t width, places;
+} lent;
+
+static void lend(lent *l, size_t places) {
+    l->places = places, l->at = l->end - places * l->width;
+    uint8_t *from = l->at - BEFORE * l->width;
+    for (uint8_t *p = from; p < l->end; p++) *p = (uint8_t)next();
+    memcpy(l->copy, from, (BEFORE + places) * l->width);
+}
+
+/* the first n places are those wanted, and all else is as it was lent */
+static void lent_is(int line, const lent *l, const void *want, size_t n) {
+    const uint8_t *was = l->copy + BEFORE * l->width;
+    is(line, "what stands before the lent memory, changed", memcmp(l->at - BEFORE * l->width, l->copy, BEFORE * l->width) != 0, 0);
+    is(line, "a place that was to be written, other", n && memcmp(l->at, want, n * l->width), 0);
+    is(line, "a place that was to be left, changed", memcmp(l->at + n * l->width, was + n * l->width, (l->places - n) * l->width) != 0, 0);
+}
+
+static uint32_t least(uint32_t a, uint32_t b) { return a < b ? a : b; }
+
+static void any_look(void) {
+    static const uint32_t lengths_of[ROKEMAIPU_KINDS] = {8, 8, 1, 2, 1, 7, 1, 1, 6};
+    size_t page = (size_t)sysconf(_SC_PAGESIZE);
+    rokemaipu_table *t = (rokemaipu_table *)fenced(page); /* a page of its own, which is read-only while it is looked at */
+    lent numbers = {.end = fenced(page) + page, .width = 4}, time = {.end = fenced(page) + page, .width = 4}, buf = {.end = fenced(page) + page, .width = 1};
+    for (int turn = 0; turn < 300; turn++) {
+        if (mprotect(t, page, PROT_READ | PROT_WRITE)) exit(1);
+        random_table(t);
+        for (int i = 0; turn % 3 && i < ROKEMAIPU_POSTS; i++) t->posts[i].used = 1;
+        if (mprotect(t, page, PROT_READ)) exit(1);
+        for (uint32_t post = 0; post < 10; post++) {
+            const rokemaipu_post *p = &t->posts[post % 8];
+            const rokemaipu_session *s = &p->session;
+            uint32_t refused = post > 7 ? R(9) : !p->used ? R(14) : 0;
+            const uint32_t want[ROKEMAIPU_NUMBERS] = {p->channel, p->limits.voltage, p->limits.charge, p->limits.discharge, p->limits.silence, p->heard, p->heard ? p->time : 0,
+                s->opened, s->opened ? s->since : 0, s->opened ? least(s->first & 0xff, 7) : 0, s->opened ? least(s->first >> 8 & 0xff, 4) : 0}; /* without a label: the last one */
+            for (size_t places = 0; places <= MOST; places++) {
+                uint32_t answer = refused ? refused : places < ROKEMAIPU_NUMBERS ? R(8) : 0;
+                lend(&numbers, places);
+                IS(rokemaipu_look_up(t, post, (uint32_t *)numbers.at, places), answer);
+                lent_is(__LINE__, &numbers, want, answer ? 0 : ROKEMAIPU_NUMBERS);
+            }
+            for (uint32_t kind = 0; kind < 11; kind++)
+                for (size_t places = 0; places < 3; places++)
+                    for (size_t room = 0; room <= 10; room++) {
+                        const rokemaipu_slot *l = &p->latest[kind % ROKEMAIPU_KINDS];
+                        uint32_t length = lengths_of[kind % ROKEMAIPU_KINDS], answer = refused ? refused : kind > 8 ? R(3) : !l->known ? 0 : !places || room < length ? R(8) : length;
+                        bool out = answer && !rokemaipu_refusal(answer);
+                        uint8_t bytes[8];
+                        for (int i = 0; i < 8; i++) bytes[i] = (uint8_t)(l->raw >> 8 * i);
+                        lend(&time, places), lend(&buf, room);
+                        IS(rokemaipu_latest(t, post, kind, (uint32_t *)time.at, places, buf.at, room), answer);
+                        lent_is(__LINE__, &time, &l->time, out);
+                        lent_is(__LINE__, &buf, bytes, out ? length : 0);
+                    }
+            if (bad) return;
+        }
+        uint32_t far = below(2) ? 0xffffffff : 8 + below(1000); /* any number */
+        IS(rokemaipu_look_up(t, far, NULL, 0), R(9));
+        IS(rokemaipu_latest(t, far, far, NULL, 0, NULL, 0), R(9));
+        if (t->posts[0].used) IS(rokemaipu_latest(t, 0, 0x80000000u + below(9), NULL, 0, NULL, 0), R(3));
+    }
+    puts("any table looked up, with lent memory of every length: answered; the table only read, no other place written");
+}
+
 int main(void) {
     layout();
     frames();
     posts();
+    looks();
     anything();
     lengths();
+    any_look();
     puts(bad ? "BAD" : "ok");
     return bad;
 }

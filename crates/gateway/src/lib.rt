@@ -7,6 +7,7 @@ ghost use Rattle.gateway.specs.Lent.{startOf, setUpWord, releaseWord, fr
 ghost use Rattle.gateway.specs.One.{somePlace, hearOn, frameOn, tickOn};
 
 pub mod plain; // plain.rt: reading, writing and changing frames in numbers and bytes
+pub mod look; // look.rt: a post's numbers, and the latest frame of a kind
 
 use pages::Refusal;
 use post::Limits;
