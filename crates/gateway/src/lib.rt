@@ -35,7 +35,7 @@ pub fn refusal_word(w: Refusal) -> u32
     65536 + pages::refusal_number(w)
 }
 
-fn answer_word(a: Answer) -> u32
+pub fn answer_word(a: Answer) -> u32
     ensures { λ r. ⌜ r ≡ answerWord a ⌝ }
 {
     match a {

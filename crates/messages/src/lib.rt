@@ -5,7 +5,7 @@ ghost use Rattle.messages.specs.Write.{kindOf, writeOf, bufferAfter};
 ghost use Rattle.messages.specs.Parts.{statusIn, parametersIn, sessionIn, controlIn};
 
 pub mod labels; // labels.rt: labels and their numbers
-mod fields; // fields.rt: a field's value and its raw number
+pub mod fields; // fields.rt: a field's value and its raw number
 mod build; // build.rt: the messages of raw numbers
 mod take; // take.rt: the raw numbers of messages
 

@@ -1,0 +1,55 @@
+// Answers as text, each with its line feed. No function here calls the pen more than three times: that is what the checker follows by itself.
+use pages::Refusal;
+use text::Pen;
+
+pub fn unknown(out: &mut [u8], pen: Pen) -> Pen {
+    text::put(out, pen, b"?\n")
+}
+
+pub fn line_end(out: &mut [u8], pen: Pen) -> Pen {
+    text::put(out, pen, b"\n")
+}
+
+// A name and its number.
+pub fn named(out: &mut [u8], pen: Pen, name: &[u8], n: u32) -> Pen {
+    let p = text::put(out, pen, name);
+    text::put_decimal(out, p, n as u64)
+}
+
+fn numbered(out: &mut [u8], pen: Pen, name: &[u8], n: u32) -> Pen {
+    let p = named(out, pen, name, n);
+    line_end(out, p)
+}
+
+// The answer word of a frame or a tick: `A<findings>`, or the refusal.
+pub fn findings(out: &mut [u8], pen: Pen, word: u32) -> Pen {
+    if word < 65536 {
+        return numbered(out, pen, b"A", word);
+    }
+    numbered(out, pen, b"R", word - 65536)
+}
+
+// The answer word of a set-up or a release: `A`, or the refusal.
+pub fn setting(out: &mut [u8], pen: Pen, word: u32) -> Pen {
+    if word < 65536 {
+        return text::put(out, pen, b"A\n");
+    }
+    numbered(out, pen, b"R", word - 65536)
+}
+
+pub fn refusal(out: &mut [u8], pen: Pen, w: Refusal) -> Pen {
+    numbered(out, pen, b"R", pages::refusal_number(w))
+}
+
+// A space, the bytes and a line feed.
+pub fn bytes_end(out: &mut [u8], pen: Pen, bytes: &[u8]) -> Pen {
+    let p = text::put(out, pen, b" ");
+    let q = text::put_hex(out, p, bytes);
+    line_end(out, q)
+}
+
+// `R<n> HEX`: the bytes afterwards.
+pub fn refusal_bytes(out: &mut [u8], pen: Pen, w: Refusal, bytes: &[u8]) -> Pen {
+    let p = named(out, pen, b"R", pages::refusal_number(w));
+    bytes_end(out, p, bytes)
+}

@@ -1,0 +1,200 @@
+// The desk: reads a script on standard input and writes one answer line for each step, in order. Every step runs by value; with the argument
+// `lent` it runs through the entries that change a lent table in place.
+mod both; // both.rt: a step on the table, by value or lent
+mod answer; // answer.rt: answers as text
+mod message; // message.rt: a message and its values
+mod values; // values.rt: a message of values
+mod record; // record.rt: a post's record as text
+mod watching; // watching.rt: the steps on the table
+mod codec; // codec.rt: the steps on a frame by itself
+mod words; // words.rt: findings and refusals in words
+mod step; // step.rt: a line and its answer
+
+use text::Pen;
+use watch::Table;
+
+// What is kept from one piece of the input to the next: the table, how much of the last line is in the line buffer, whether that line is
+// over its length, and how much of the output buffer is written.
+struct Desk {
+    lent: bool,
+    table: Table,
+    have: usize,
+    over: bool,
+    pen: Pen,
+}
+
+// desk.md: "a line over 65,535 bytes"
+const LONGEST: usize = 65535;
+
+// What an answer may have beyond its line's length: a record, or every finding in words.
+const SPARE: usize = 2048;
+
+fn flushed(pen: Pen, out: &[u8]) -> Pen {
+    let at = pen.at;
+    if at <= out.len() {
+        if !io::write_all(libc::STDOUT_FILENO, &out[0..at]) {
+            os::fail(b"desk: writing standard output");
+        }
+    }
+    Pen { at: 0, full: false }
+}
+
+// The pen with room for the answer to a line of this length: no answer is longer than its line and SPARE.
+fn with_room(pen: Pen, out: &[u8], have: usize) -> Pen {
+    if pen.at > 32768 {
+        return flushed(pen, out);
+    }
+    if have > 32768 - SPARE {
+        return flushed(pen, out);
+    }
+    pen
+}
+
+// A comment may be of any length.
+fn is_comment(line: &[u8], have: usize) -> bool {
+    if have == 0 {
+        return false;
+    }
+    if line.len() == 0 {
+        return false;
+    }
+    line[0] == b'#'
+}
+
+// The line in the buffer is whole: its answer goes to the pen.
+fn ended(desk: Desk, line: &[u8], room: &mut [u8], out: &mut [u8]) -> Desk {
+    let have = desk.have;
+    let lent = desk.lent;
+    let table = desk.table;
+    let p = desk.pen;
+    let pen = with_room(p, out, have);
+    if desk.over {
+        if is_comment(line, have) {
+            return Desk {
+                lent,
+                table,
+                have: 0,
+                over: false,
+                pen,
+            };
+        }
+        return Desk {
+            lent,
+            table,
+            have: 0,
+            over: false,
+            pen: answer::unknown(out, pen),
+        };
+    }
+    if have > line.len() {
+        return desk;
+    }
+    let l = step::answered(lent, table, &line[0..have], room, out, pen);
+    let t = l.table;
+    let q = l.pen;
+    Desk {
+        lent,
+        table: t,
+        have: 0,
+        over: false,
+        pen: q,
+    }
+}
+
+// The bytes of a piece, one after the other.
+fn fed(desk: Desk, piece: &[u8], line: &mut [u8], room: &mut [u8], out: &mut [u8]) -> Desk {
+    let mut d = desk;
+    let mut i = 0;
+    while i < piece.len() {
+        let b = piece[i];
+        i += 1;
+        if b == b'\n' {
+            d = ended(d, line, room, out);
+        } else {
+            d = kept(d, line, b);
+        }
+    }
+    d
+}
+
+fn kept(desk: Desk, line: &mut [u8], b: u8) -> Desk {
+    let have = desk.have;
+    let mut d = desk;
+    if have >= LONGEST {
+        d.over = true;
+        return d;
+    }
+    if have >= line.len() {
+        d.over = true;
+        return d;
+    }
+    line[have] = b;
+    d.have = have + 1;
+    d
+}
+
+fn run(desk: Desk, piece: &mut [u8], line: &mut [u8], room: &mut [u8], out: &mut [u8]) -> Desk {
+    let mut d = desk;
+    let mut turns = u64::MAX;
+    while turns > 0 {
+        let got = libc::read(libc::STDIN_FILENO, piece);
+        if got < 0 {
+            os::fail(b"desk: reading standard input");
+            return d;
+        }
+        let n = io::count(got, piece);
+        if n == 0 {
+            return d;
+        }
+        d = fed(d, &piece[..n], line, room, out);
+        turns -= 1;
+    }
+    d
+}
+
+// "The last line may lack its line feed."
+fn finish(desk: Desk, line: &[u8], room: &mut [u8], out: &mut [u8]) {
+    let have = desk.have;
+    if have == 0 {
+        flushed(desk.pen, out);
+        return;
+    }
+    let d = ended(desk, line, room, out);
+    flushed(d.pen, out);
+}
+
+fn serve(lent: bool) {
+    let mut piece = io::large_buffer();
+    let mut line = io::large_buffer();
+    let mut room = io::large_buffer();
+    let mut out = io::large_buffer();
+    let start = Desk {
+        lent,
+        table: watch::empty(),
+        have: 0,
+        over: false,
+        pen: Pen { at: 0, full: false },
+    };
+    let d = run(start, &mut piece, &mut line, &mut room, &mut out);
+    finish(d, &line, &mut room, &mut out);
+}
+
+fn main() {
+    let count = os::arg_count();
+    if count < 2 {
+        serve(false);
+        return;
+    }
+    let mut word = [0u8; 16];
+    let n = os::arg(1, &mut word);
+    if count == 2 {
+        if check::same(&word[..n], b"lent") {
+            serve(true);
+            return;
+        }
+    }
+    io::write_all(
+        libc::STDERR_FILENO,
+        b"usage: desk [lent] < SCRIPT; lent runs the steps on a lent table\n",
+    );
+}

@@ -1,0 +1,140 @@
+// A post's record as one line.
+use crate::answer::named;
+use crate::message;
+use messages::Plug;
+use messages::Protocol;
+use messages::labels::plug_number;
+use messages::labels::protocol_number;
+use post::Dated;
+use post::LastTime;
+use post::Limits;
+use post::OpenSession;
+use post::Record;
+use post::SessionPart;
+use text::Pen;
+
+// `MSG@T`, or `-`
+fn put_dated(out: &mut [u8], pen: Pen, d: Dated) -> Pen {
+    match d {
+        Dated::Nothing => text::put(out, pen, b"-"),
+        Dated::At(time, m) => {
+            let p = message::put(out, pen, m);
+            named(out, p, b"@", time)
+        }
+    }
+}
+
+fn put_defaults(out: &mut [u8], pen: Pen, l: Limits) -> Pen {
+    let p = named(out, pen, b" volt=", l.voltage);
+    let q = named(out, p, b" chg=", l.charge);
+    named(out, q, b" dis=", l.discharge)
+}
+
+fn put_limits(out: &mut [u8], pen: Pen, l: Limits) -> Pen {
+    let p = put_defaults(out, pen, l);
+    named(out, p, b" w=", l.silence)
+}
+
+fn put_last(out: &mut [u8], pen: Pen, l: LastTime) -> Pen {
+    match l {
+        LastTime::Never => text::put(out, pen, b" last=-"),
+        LastTime::At(time) => named(out, pen, b" last=", time),
+    }
+}
+
+fn put_opening(out: &mut [u8], pen: Pen, since: u32, protocol: Protocol, plug: Plug) -> Pen {
+    let p = named(out, pen, b" open=1 since=", since);
+    let q = named(out, p, b" first=", protocol_number(protocol) as u32);
+    named(out, q, b",", plug_number(plug) as u32)
+}
+
+fn put_part(out: &mut [u8], pen: Pen, name: &[u8], d: Dated) -> Pen {
+    let p = text::put(out, pen, name);
+    put_dated(out, p, d)
+}
+
+fn put_open(out: &mut [u8], pen: Pen, s: OpenSession) -> Pen {
+    let protocol = s.protocol;
+    let plug = s.plug;
+    let status = s.status;
+    let control = s.control;
+    let p = put_opening(out, pen, s.since, protocol, plug);
+    let q = put_part(out, p, b" spms=", status);
+    put_part(out, q, b" sdpc=", control)
+}
+
+fn put_session(out: &mut [u8], pen: Pen, s: SessionPart) -> Pen {
+    match s {
+        SessionPart::Closed => text::put(out, pen, b" open=0 since=- first=- spms=- sdpc=-"),
+        SessionPart::Opened(o) => put_open(out, pen, o),
+    }
+}
+
+fn is_known(d: Dated) -> bool {
+    match d {
+        Dated::Nothing => false,
+        Dated::At(_, _) => true,
+    }
+}
+
+// The kinds stand in the order of their identifiers.
+fn put_latest(out: &mut [u8], pen: Pen, r: Record) -> Pen {
+    let mut p = pen;
+    let mut some = false;
+    let mut k = 0;
+    while k < 9 {
+        let l = r.latest[k];
+        let d = l.message;
+        p = put_next(out, p, some, d);
+        some = either(some, is_known(d));
+        k += 1;
+    }
+    put_none(out, p, some)
+}
+
+fn either(a: bool, b: bool) -> bool {
+    if a { true } else { b }
+}
+
+// A known one, with `;` before all but the first.
+fn put_next(out: &mut [u8], pen: Pen, some: bool, d: Dated) -> Pen {
+    if !is_known(d) {
+        return pen;
+    }
+    if some {
+        return put_part(out, pen, b";", d);
+    }
+    put_dated(out, pen, d)
+}
+
+fn put_none(out: &mut [u8], pen: Pen, some: bool) -> Pen {
+    if some {
+        return pen;
+    }
+    text::put(out, pen, b"-")
+}
+
+fn put_setting(out: &mut [u8], pen: Pen, r: Record) -> Pen {
+    let limits = r.limits;
+    let p = named(out, pen, b"K ch=", r.channel);
+    put_limits(out, p, limits)
+}
+
+fn put_session_part(out: &mut [u8], pen: Pen, r: Record) -> Pen {
+    let last = r.last;
+    let session = r.session;
+    let p = put_last(out, pen, last);
+    put_session(out, p, session)
+}
+
+fn put_messages(out: &mut [u8], pen: Pen, r: Record) -> Pen {
+    let p = text::put(out, pen, b" latest=");
+    let q = put_latest(out, p, r);
+    text::put(out, q, b"\n")
+}
+
+pub fn put(out: &mut [u8], pen: Pen, r: Record) -> Pen {
+    let p = put_setting(out, pen, r);
+    let q = put_session_part(out, p, r);
+    put_messages(out, q, r)
+}

@@ -1,0 +1,88 @@
+// A line of a script, and its answer.
+ghost use Prim.Native.Nat.{_≤_};
+ghost use lib.ListN.{length};
+use crate::answer;
+use crate::codec;
+use crate::watching;
+use crate::words;
+use text::Pen;
+use watch::Table;
+
+pub struct Line {
+    pub table: Table,
+    pub pen: Pen,
+}
+
+// The end of a field that starts in the line, or at its end.
+pub fn field_end(s: &[u8], at: usize) -> usize
+    requires { ⌜ at ≤ length (now s) ⌝ }
+    ensures { λ r. ⌜ (at ≤ r) × (r ≤ length (now (s .entry))) ⌝ }
+{
+    text::word_end(s, at)
+}
+
+// "Blank lines and lines whose first character is `#` .. are skipped and give no answer."
+fn is_skipped(s: &[u8]) -> bool {
+    if s.len() == 0 {
+        return true;
+    }
+    s[0] == b'#'
+}
+
+pub fn answered(
+    lent: bool,
+    table: Table,
+    s: &[u8],
+    room: &mut [u8],
+    out: &mut [u8],
+    pen: Pen,
+) -> Line {
+    if is_skipped(s) {
+        return Line { table, pen };
+    }
+    let e = field_end(s, 0);
+    let at = e + 1;
+    let word = &s[0..e];
+    if check::same(word, b"frame") {
+        return watching::frame(lent, table, s, at, room, out, pen);
+    }
+    if check::same(word, b"tick") {
+        return watching::tick(lent, table, s, at, out, pen);
+    }
+    if check::same(word, b"setup") {
+        return watching::setup(lent, table, s, at, out, pen);
+    }
+    if check::same(word, b"release") {
+        return watching::release(lent, table, s, at, out, pen);
+    }
+    let p = shown(table, word, s, at, room, out, pen);
+    Line { table, pen: p }
+}
+
+// The steps that leave the table as it was.
+fn shown(
+    table: Table,
+    word: &[u8],
+    s: &[u8],
+    at: usize,
+    room: &mut [u8],
+    out: &mut [u8],
+    pen: Pen,
+) -> Pen {
+    if check::same(word, b"record") {
+        return watching::record(table, s, at, out, pen);
+    }
+    if check::same(word, b"read") {
+        return codec::read(s, at, room, out, pen);
+    }
+    if check::same(word, b"change") {
+        return codec::change(s, at, room, out, pen);
+    }
+    if check::same(word, b"write") {
+        return codec::write(s, at, room, out, pen);
+    }
+    if check::same(word, b"explain") {
+        return words::explain(s, at, out, pen);
+    }
+    answer::unknown(out, pen)
+}

@@ -1,0 +1,154 @@
+// Findings and refusals in words: 01's sentences, in short.
+use crate::answer;
+use text::Field;
+use text::Pen;
+
+fn finding(out: &mut [u8], pen: Pen, k: u32) -> Pen {
+    match k {
+        1 => text::put(
+            out,
+            pen,
+            b"power modules silent for longer than W in this session",
+        ),
+        2 => text::put(out, pen, b"controller status older than 200 ms"),
+        3 => text::put(out, pen, b"contactors closed with no session open"),
+        4 => text::put(
+            out,
+            pen,
+            b"insulation test, precharge or power transfer with no session open",
+        ),
+        5 => text::put(
+            out,
+            pen,
+            b"insulation test, precharge or power transfer without Allowed in this session",
+        ),
+        6 => text::put(
+            out,
+            pen,
+            b"lowering with a function other than standby or a setpoint not 0",
+        ),
+        7 => text::put(out, pen, b"target voltage above the voltage limit"),
+        8 => text::put(
+            out,
+            pen,
+            b"current above the charge limit or below minus the discharge limit",
+        ),
+        9 => text::put(
+            out,
+            pen,
+            b"insulation under 100 Ohm per volt in precharge or power transfer",
+        ),
+        10 => text::put(
+            out,
+            pen,
+            b"another protocol or plug than the session's first",
+        ),
+        _ => text::put(out, pen, b"session finished with none open"),
+    }
+}
+
+fn refusal(out: &mut [u8], pen: Pen, n: u32) -> Pen {
+    match n {
+        1 => text::put(out, pen, b"channel above 31, or held by no post\n"),
+        2 => text::put(
+            out,
+            pen,
+            b"time earlier than the post's latest accepted frame or tick\n",
+        ),
+        3 => text::put(out, pen, b"identifier not in the table, or standard\n"),
+        4 => text::put(out, pen, b"length differs from the table's\n"),
+        5 => text::put(out, pen, b"a label signal holds a number without a label\n"),
+        6 => text::put(out, pen, b"a bit that no signal covers is 1\n"),
+        7 => text::put(
+            out,
+            pen,
+            b"a value has no raw number, or a raw number does not fit its signal\n",
+        ),
+        8 => text::put(out, pen, b"lent buffer shorter than the message\n"),
+        9 => text::put(out, pen, b"post number above 7\n"),
+        10 => text::put(out, pen, b"channel above 31 at set-up\n"),
+        11 => text::put(out, pen, b"channel held by another post\n"),
+        12 => text::put(out, pen, b"a post limit outside its range\n"),
+        13 => text::put(out, pen, b"no signal of the message starts at that bit\n"),
+        _ => text::put(out, pen, b"post not set up\n"),
+    }
+}
+
+// The findings whose bits are in n, in order, each with its name.
+fn put_findings(out: &mut [u8], pen: Pen, n: u32) -> Pen {
+    let mut p = pen;
+    let mut rest = n;
+    let mut k: u32 = 1;
+    while k <= 11 {
+        p = put_next(out, p, rest, k);
+        rest = rest / 2;
+        k += 1;
+    }
+    p
+}
+
+// Finding k where the lowest bit of the rest is set, with `;` behind it where another follows.
+fn put_next(out: &mut [u8], pen: Pen, rest: u32, k: u32) -> Pen {
+    if rest % 2 == 0 {
+        return pen;
+    }
+    let p = put_finding(out, pen, k);
+    if rest / 2 == 0 {
+        return p;
+    }
+    text::put(out, p, b";")
+}
+
+fn put_finding(out: &mut [u8], pen: Pen, k: u32) -> Pen {
+    let p = answer::named(out, pen, b" F", k);
+    let q = text::put(out, p, b" ");
+    finding(out, q, k)
+}
+
+// `explain N`, `explain R<n>`
+pub fn explain(s: &[u8], at: usize, out: &mut [u8], pen: Pen) -> Pen {
+    if at >= s.len() {
+        return answer::unknown(out, pen);
+    }
+    if s[at] == b'R' {
+        return explain_refusal(s, at + 1, out, pen);
+    }
+    let Field::Is(n, a) = text::take_u32(s, at) else {
+        return answer::unknown(out, pen);
+    };
+    if a <= s.len() {
+        return answer::unknown(out, pen);
+    }
+    if n > 2047 {
+        return answer::unknown(out, pen);
+    }
+    if n == 0 {
+        return text::put(out, pen, b"E none\n");
+    }
+    let p = text::put(out, pen, b"E");
+    let q = put_findings(out, p, n);
+    answer::line_end(out, q)
+}
+
+// `R`'s number: 1 to 14
+fn explain_refusal(s: &[u8], at: usize, out: &mut [u8], pen: Pen) -> Pen {
+    let Field::Is(n, a) = text::take_u32(s, at) else {
+        return answer::unknown(out, pen);
+    };
+    if a <= s.len() {
+        return answer::unknown(out, pen);
+    }
+    if n > 14 {
+        return answer::unknown(out, pen);
+    }
+    put_refusal(out, pen, n)
+}
+
+fn put_refusal(out: &mut [u8], pen: Pen, n: u32) -> Pen {
+    if n == 0 {
+        return answer::unknown(out, pen);
+    }
+    let p = answer::named(out, pen, b"E R", n);
+    let q = text::put(out, p, b" ");
+    refusal(out, q, n)
+}

@@ -1,0 +1,15 @@
+pub mod Cases
+pub mod Shapes
+pub mod Digits
+pub mod Values
+pub mod Words
+pub mod Fields
+pub mod Signs
+pub mod Pairs
+pub mod Numerals
+pub mod Inks
+pub mod SignedText
+pub mod Spelling
+pub mod Laws
+pub mod Hexed
+pub mod Written

@@ -1,0 +1,65 @@
+-- `text::lines::take` meets its contract. Assumes nothing.
+use mathlib.Core.Path.{sym, ap, _∙_, subst}
+use Prim.Native.Nat.{_+_, _≤_}
+use native.Mathlib.Omega.{arith}
+use lib.ListN.{length}
+use borrow.Author.Needs.{needs}
+use Rattle.text.specs.Lines.{asField, fieldOf, Short, u32Max}
+use Rattle.text.specs.Numbers.{numberOf}
+use Rattle.text.specs.declared.Number.{Number}
+use Rattle.text.proofs.Fields.{past-end, in-line, number-within}
+use Rattle.text.proofs.lines.take.Statement.{statement}
+use Rattle.text.proofs.lines.take.Tie as tie
+
+returns : tie.Need-returns
+unfolding fieldOf
+returns c = past-end (numberOf (c .before .before .args .base) u32Max) (c .before .before .args .s .now) (c .before .before .args .at) (c .if1 .taken)
+
+word-end-requires : tie.Need-word-end-requires
+word-end-requires c κs = search needs
+
+ends : (c : tie.After-word-end) → (c .before .before .before .args .at ≤ c .word-end .result) × (c .word-end .result ≤ length (c .before .before .before .args .s .now))
+ends c =
+    let e = c .word-end .ensures in
+    (e .1, e .2 (omega arith))
+
+sub-whole : tie.Need-sub-whole
+sub-whole c = ends c .0
+
+part-whole-start : tie.Need-part-whole-start
+part-whole-start c = let e = ends c in search needs
+
+part-whole-end : tie.Need-part-whole-end
+part-whole-end c = let e = ends c in search needs
+
+whole-requires : tie.Need-whole-requires
+whole-requires c κs = search needs
+
+add-in-field : tie.Need-add-in-field
+add-in-field c = let e = ends (c .before .before) in search needs
+
+in-field-requires : tie.Need-in-field-requires
+in-field-requires c κs = subst (λ (n : Number). Short n) (sym (c .whole .ensures)) (number-within (c .before .before .before .before .before .args .base) u32Max _)
+
+returns-2 : tie.Need-returns-2
+unfolding fieldOf
+returns-2 c =
+    let a = c .before .before .before .before .before .before .args in
+    let e = c .before .before .before .word-end in
+    c .in-field .ensures
+    ∙ ap (asField (e .result + 1)) (c .before .whole .ensures)
+    ∙ in-line (numberOf (a .base) u32Max) (a .s .now) (a .at) (omega arith) (e .result) (e .ensures .0)
+
+pub take-spec : {M : Type 1} → statement M
+take-spec =
+    tie.close
+    (tie.spec
+    returns
+    word-end-requires
+    sub-whole
+    part-whole-start
+    part-whole-end
+    whole-requires
+    add-in-field
+    in-field-requires
+    returns-2)

@@ -1,0 +1,5 @@
+pub mod Ascii
+pub mod Numbers
+pub mod Lines
+pub mod Hex
+pub mod Pens

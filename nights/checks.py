@@ -1,0 +1,107 @@
+"""What must hold of a night and its answers."""
+
+import re
+import subprocess
+
+ANNOUNCED = re.compile(r"# ([FR][0-9]+)(?: from here for ([0-9]+) events)?: ")
+
+
+def is_step(line):
+    return line != "" and not line.startswith("#")
+
+
+def answers_of(second, text):
+    run = subprocess.run([str(second), "answer"], input=text.encode(), stdout=subprocess.PIPE, check=True)
+    return run.stdout.decode()
+
+
+def marks(step, answer):
+    """What an answer says: F and R numbers."""
+    if answer.startswith("R"):
+        return {answer.split()[0]}
+    if step.split()[0] in ("frame", "tick") and answer.startswith("A"):
+        return {f"F{k + 1}" for k in range(11) if int(answer[1:]) >> k & 1}
+    return set()
+
+
+def channel_of(step):
+    fields = step.split()
+    return fields[1] if fields[0] in ("frame", "tick") else None
+
+
+def check_announcements(name, text, answers):
+    """Each finding and refusal is announced directly before its step, and nothing that does not come."""
+    faults, runs, announced = [], [], set()
+    given = iter(answers.splitlines())
+    for number, line in enumerate(text.splitlines(), 1):
+        if line.startswith("#"):
+            found = ANNOUNCED.match(line)
+            if found and found[2]:
+                runs.append([found[1], None, int(found[2]), number])
+            elif found:
+                announced.add(found[1])
+            continue
+        answer = next(given)
+        if answer == "?" or answer.startswith("X"):
+            faults.append(f"{name}:{number}: no step: {line}")
+        expected = set(announced)
+        announced = set()
+        if channel_of(line) and not answer.startswith("R"):
+            for run in runs:
+                run[1] = run[1] or channel_of(line)
+                if run[1] == channel_of(line):
+                    expected.add(run[0])
+                    run[2] -= 1
+            runs = [run for run in runs if run[2] > 0]
+        if expected != marks(line, answer):
+            faults.append(f"{name}:{number}: announced {sorted(expected)}, but {answer}: {line}")
+    faults.extend(f"{name}:{run[3]}: {run[2]} events of the run never came" for run in runs)
+    faults.extend([f"{name}: announced at the end, but no step follows"] if announced else [])
+    return faults
+
+
+def check_the_check(name, text, answers):
+    """The check above must object to each announcement left out, and to one too many, here and there."""
+    lines = text.splitlines()
+    faults = []
+    for place, line in enumerate(lines):
+        announces = ANNOUNCED.match(line)
+        plain_step = place % 10 == 0 and is_step(line) and not lines[place - 1].startswith("#")
+        if announces:
+            other = lines[:place] + lines[place + 1:]
+        elif plain_step:
+            other = lines[:place] + ["# F4: nothing of the kind"] + lines[place:]
+        else:
+            continue
+        if not check_announcements(name, "\n".join(other), answers):
+            faults.append(f"{name}:{place + 1}: a changed announcement goes unnoticed")
+    return faults
+
+
+def check_refused_leave_no_trace(second, name, text, answers):
+    """01: "A refused frame is part of no history and moves no clock"."""
+    steps = list(filter(is_step, text.splitlines()))
+    accepted = [(step, answer) for step, answer in zip(steps, answers.splitlines()) if not answer.startswith("R")]
+    without = answers_of(second, "".join(step + "\n" for step, _ in accepted))
+    same = without.splitlines() == [answer for _, answer in accepted]
+    return [] if same else [f"{name}: the answers change when the refused steps are left out"]
+
+
+def check_channels_apart(second, name, text, answers):
+    """01: "A frame or tick goes to the post that holds its channel"; the others' traffic changes nothing."""
+    pairs = list(zip(filter(is_step, text.splitlines()), answers.splitlines()))
+    faults = []
+    for channel in sorted({channel_of(step) for step, _ in pairs} - {None}):
+        alone = [(step, answer) for step, answer in pairs
+                 if channel_of(step) == channel or step.startswith("setup ")]
+        without = answers_of(second, "".join(step + "\n" for step, _ in alone))
+        if without.splitlines() != [answer for _, answer in alone]:
+            faults.append(f"{name}: channel {channel} answers otherwise with the other channels silent")
+    return faults
+
+
+def all_of(second, name, text, answers):
+    return (check_announcements(name, text, answers)
+            + check_the_check(name, text, answers)
+            + check_refused_leave_no_trace(second, name, text, answers)
+            + check_channels_apart(second, name, text, answers))

@@ -1,0 +1,35 @@
+"""Identifiers, label numbers and payloads of the maker's pages (000)."""
+
+import struct
+
+# Numbers of 000's label tables.
+WAITING, NEGOTIATING, FULL_INFO, INSULATING, PRECHARGING, WAITING_FOR_CHARGE, CHARGING, ENDING, WELDING, CLOSING, \
+    AUTHORISING = range(1, 12)
+OFF, STANDBY, INSULATION_TEST, PRECHARGE, POWER_TRANSFER = 0, 1, 2, 4, 8
+TARGET_MODE, RANGE_MODE = 0, 1
+OPEN, CLOSE = 0, 1
+CLEAN_STOP, RUSHED_STOP = 0, 1
+STOP_BY_EVSE = 1
+ISO_2013, CHADEMO_2 = 2, 5
+DC_EXTENDED, CHADEMO_PLUG, DC_CORE = 1, 2, 0
+
+PMS, PARAMETERS, STATUS, NEW_SESSION, CHANGE, CONTROL, FINISHED, STOP, EV_ID = (
+    "63000", "63001", "6b000", "6b001", "6b002", "6b003", "6b004", "6b005", "6b105")
+
+
+def byte(number):
+    return f"{number:02x}"
+
+
+def status_bytes(volt, amps, enable, insulation, modules=34, enclosure=27):
+    """Power_Modules_Status: tenths, degrees, and the raw insulation of 2 kOhm each."""
+    return struct.pack("<HhBBBB", volt, amps, modules + 40, enclosure + 40, enable, insulation).hex()
+
+
+def control_bytes(function, target=0, most=0, least=0, mode=TARGET_MODE, contactors=OPEN, lowering=0):
+    last = function | mode << 5 | contactors << 6 | lowering << 7
+    return (struct.pack("<Hhh", target, most, least) + bytes([last])).hex()
+
+
+def parameter_bytes(volt=0, charge=0, discharge=0, target=0):
+    return struct.pack("<HHHh", volt, charge, discharge, target).hex()

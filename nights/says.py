@@ -1,0 +1,31 @@
+"""01's sentences, and the comments that quote them."""
+
+SAYS = {
+    "F1": "any event, session open: time minus the later of the opening and the latest Power_Modules_Status in this "
+          "session is above W",
+    "F2": "any event, once a controller status was accepted: time minus its latest is above 200 ms",
+    "F3": "DC_Power_Control: contactors Close, no session open",
+    "F4": "DC_Power_Control: insulation test, precharge or power transfer, no session open",
+    "F5": "the same functions, session open, and its latest Power_Modules_Status is none or Not_Allowed",
+    "F6": "Lowering with a function other than standby, or with any DC_Power_Control signal in Volts or Amps not 0",
+    "F7": "DC_Power_Control, function not off: Target_Voltage above the voltage limit",
+    "F8": "Power_Modules_Status, session open: current above the charge limit, or below minus the discharge limit",
+    "F9": "session open whose latest DC_Power_Control is precharge or power transfer: [...] raw insulation times 200 "
+          "is below raw voltage",
+    "F10": "New_Charge_Session while open with another protocol or plug than the session's first",
+    "F11": "Charge_Session_Finished with none open",
+    "R1": "channel above 31, or held by no post",
+    "R2": "time earlier than that post's latest accepted frame or tick",
+    "R3": "identifier not in the table, or standard",
+    "R4": "length differs from the table's",
+    "R5": "a label signal holds a number without a label",
+    "R9": "post number above 7",
+    "R11": "channel held by another post",
+    "R14": "post not set up",
+}
+
+
+def told(mark, what, events=None):
+    """The comment that announces a finding or a refusal, for one step or for a run of events."""
+    run = "" if events is None else f" from here for {events} events"
+    return f'# {mark}{run}: {what} 01: "{SAYS[mark]}".'

@@ -1,0 +1,184 @@
+//! Reading, writing and changing messages, bit by bit, over the pages' table.
+
+use crate::pages::{self, Kind, Page, Signal, Unit};
+
+/// A number of 01's table "Numbers given back".
+#[derive(Clone, Copy, Debug, PartialEq, Eq)]
+pub struct Refusal(pub u8);
+
+/// The largest count of signals on a page.
+const MOST: usize = 8;
+
+/// A message as received: its raw numbers, in the order of its page.
+#[derive(Clone, Copy, Debug, PartialEq, Eq)]
+pub struct Message {
+    pub kind: Kind,
+    raws: [i64; MOST],
+}
+
+impl Message {
+    pub fn new(kind: Kind, raws: &[i64]) -> Message {
+        assert_eq!(raws.len(), kind.page().signals.len());
+        let mut all = [0; MOST];
+        all[..raws.len()].copy_from_slice(raws);
+        Message { kind, raws: all }
+    }
+
+    pub fn raws(&self) -> &[i64] {
+        &self.raws[..self.kind.page().signals.len()]
+    }
+
+    pub fn signals(&self) -> impl Iterator<Item = (&'static Signal, i64)> + '_ {
+        self.kind.page().signals.iter().zip(self.raws.iter().copied())
+    }
+
+    /// The raw number of the signal with that name on the message's page.
+    pub fn raw(&self, name: &str) -> i64 {
+        let found = self.signals().find(|(signal, _)| signal.name == name);
+        found.unwrap_or_else(|| panic!("{} has no {name}", self.kind.page().name)).1
+    }
+
+    /// The label's name of the signal with that name.
+    pub fn label(&self, name: &str) -> &'static str {
+        let (signal, raw) = self.signals().find(|(signal, _)| signal.name == name).expect("a signal of the page");
+        label_name(signal, raw).expect("a message holds labelled numbers only")
+    }
+
+    /// The fields as the desk shows them: whole tenths, °C, kOhm, label numbers.
+    pub fn values(&self) -> Vec<i64> {
+        self.signals().map(|(signal, raw)| value_of(signal, raw)).collect()
+    }
+
+    pub fn bytes(&self) -> Vec<u8> {
+        let mut bytes = vec![0; self.kind.page().len];
+        self.put_into(&mut bytes);
+        bytes
+    }
+
+    fn put_into(&self, bytes: &mut [u8]) {
+        for (signal, raw) in self.signals() {
+            put(signal, raw, bytes);
+        }
+    }
+}
+
+pub fn label_name(signal: &Signal, raw: i64) -> Option<&'static str> {
+    signal.labels?.iter().find(|(number, _)| *number == raw).map(|(_, name)| *name)
+}
+
+fn lacks_label(signal: &Signal, raw: i64) -> bool {
+    signal.labels.is_some() && label_name(signal, raw).is_none()
+}
+
+fn value_of(signal: &Signal, raw: i64) -> i64 {
+    match signal.unit {
+        Unit::Celsius => raw - 40,
+        Unit::KiloOhms => raw * 2,
+        Unit::None | Unit::Volts | Unit::Amps => raw,
+    }
+}
+
+/// The raw number that stands for a value, if there is one that its signal holds.
+fn raw_of(signal: &Signal, value: i64) -> Option<i64> {
+    let raw = match signal.unit {
+        Unit::Celsius => value.checked_add(40)?,
+        Unit::KiloOhms if value % 2 != 0 => return None,
+        Unit::KiloOhms => value / 2,
+        Unit::None | Unit::Volts | Unit::Amps => value,
+    };
+    (fits(signal, raw) && !lacks_label(signal, raw)).then_some(raw)
+}
+
+/// The smallest and the largest raw number that a signal holds.
+pub fn range(signal: &Signal) -> (i64, i64) {
+    if signal.signed {
+        (-(1 << (signal.width - 1)), (1 << (signal.width - 1)) - 1)
+    } else {
+        (0, (1 << signal.width) - 1)
+    }
+}
+
+fn fits(signal: &Signal, raw: i64) -> bool {
+    let (least, most) = range(signal);
+    least <= raw && raw <= most
+}
+
+/// 01: "Bit n of a payload is bit n mod 8 of byte n / 8, bit 0 lowest".
+fn bit(bytes: &[u8], n: u32) -> bool {
+    bytes[(n / 8) as usize] >> (n % 8) & 1 == 1
+}
+
+fn set_bit(bytes: &mut [u8], n: u32, on: bool) {
+    let place = 1 << (n % 8);
+    let byte = &mut bytes[(n / 8) as usize];
+    if on {
+        *byte |= place;
+    } else {
+        *byte &= !place;
+    }
+}
+
+fn get(signal: &Signal, bytes: &[u8]) -> i64 {
+    let mut raw = 0;
+    for i in 0..signal.width {
+        if bit(bytes, signal.start + i) {
+            // The highest bit of a two's complement number counts negative.
+            let negative = signal.signed && i == signal.width - 1;
+            raw += if negative { -(1 << i) } else { 1 << i };
+        }
+    }
+    raw
+}
+
+fn put(signal: &Signal, raw: i64, bytes: &mut [u8]) {
+    for i in 0..signal.width {
+        set_bit(bytes, signal.start + i, raw >> i & 1 == 1);
+    }
+}
+
+fn covered(page: &Page, n: u32) -> bool {
+    page.signals.iter().any(|signal| signal.start <= n && n < signal.start + signal.width)
+}
+
+/// Gives 3 to 6, the lowest that applies.
+pub fn read(id: u32, extended: bool, bytes: &[u8]) -> Result<Message, Refusal> {
+    let page = pages::find(id, extended).ok_or(Refusal(3))?;
+    if bytes.len() != page.len {
+        return Err(Refusal(4));
+    }
+    let raws: Vec<i64> = page.signals.iter().map(|signal| get(signal, bytes)).collect();
+    let unlabelled = page.signals.iter().zip(&raws).any(|(signal, &raw)| lacks_label(signal, raw));
+    if unlabelled {
+        return Err(Refusal(5));
+    }
+    if (0..page.len as u32 * 8).any(|n| bit(bytes, n) && !covered(page, n)) {
+        return Err(Refusal(6));
+    }
+    Ok(Message::new(page.kind, &raws))
+}
+
+/// Gives 7 before 8; a longer buffer keeps its bytes behind the message.
+pub fn write(page: &Page, values: &[i64], buffer: &mut [u8]) -> Result<(), Refusal> {
+    let raws: Option<Vec<i64>> =
+        page.signals.iter().zip(values).map(|(signal, &value)| raw_of(signal, value)).collect();
+    let raws = raws.ok_or(Refusal(7))?;
+    let place = buffer.get_mut(..page.len).ok_or(Refusal(8))?;
+    place.fill(0);
+    Message::new(page.kind, &raws).put_into(place);
+    Ok(())
+}
+
+/// 01: "first the frame's own 3 to 6, then 13, then 7, then 5 for the new label".
+pub fn change(id: u32, extended: bool, bytes: &mut [u8], start: u32, raw: i64) -> Result<(), Refusal> {
+    let message = read(id, extended, bytes)?;
+    let signals = message.kind.page().signals;
+    let signal = signals.iter().find(|signal| signal.start == start).ok_or(Refusal(13))?;
+    if !fits(signal, raw) {
+        return Err(Refusal(7));
+    }
+    if lacks_label(signal, raw) {
+        return Err(Refusal(5));
+    }
+    put(signal, raw, bytes);
+    Ok(())
+}

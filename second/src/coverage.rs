@@ -1,0 +1,77 @@
+//! What a run of scripts reached: steps by their word, answers by their kind.
+
+use std::collections::BTreeMap;
+use std::fmt;
+
+const WORDS: [&[u8]; 9] =
+    [b"setup", b"release", b"frame", b"tick", b"record", b"read", b"change", b"write", b"explain"];
+
+/// Refusal 6 cannot occur: every bit of the nine messages is covered (reading M1).
+const REFUSALS: [u32; 13] = [1, 2, 3, 4, 5, 7, 8, 9, 10, 11, 12, 13, 14];
+
+#[derive(Default)]
+pub struct Coverage {
+    steps: BTreeMap<&'static str, u64>,
+    refusals: BTreeMap<u32, u64>,
+    findings: [u64; 11],
+    clean: u64,
+    accepted: u64,
+    no_step: u64,
+    no_message: u64,
+}
+
+impl Coverage {
+    pub fn count(&mut self, step: &[u8], answer: &[u8]) {
+        let word = WORDS.iter().find(|word| step.strip_prefix(**word).is_some_and(|rest| rest.starts_with(b" ")));
+        let word = word.map_or("(other)", |word| std::str::from_utf8(word).expect("an ASCII word"));
+        *self.steps.entry(word).or_default() += 1;
+        match answer.split_first() {
+            Some((b'?', _)) => self.no_step += 1,
+            Some((b'X', _)) => self.no_message += 1,
+            Some((b'R', rest)) => *self.refusals.entry(leading_number(rest)).or_default() += 1,
+            Some((b'A', rest)) if matches!(word, "frame" | "tick") => self.count_findings(leading_number(rest)),
+            _ => self.accepted += 1,
+        }
+    }
+
+    fn count_findings(&mut self, number: u32) {
+        self.clean += u64::from(number == 0);
+        for (place, count) in self.findings.iter_mut().enumerate() {
+            *count += u64::from(number >> place & 1);
+        }
+    }
+
+    /// What a run has to reach and did not.
+    pub fn missing(&self) -> Vec<String> {
+        let refusals = REFUSALS.iter().filter(|number| !self.refusals.contains_key(number));
+        let findings = (1..).zip(self.findings).filter(|(_, count)| *count == 0);
+        let mut missing: Vec<String> = refusals.map(|number| format!("R{number}")).collect();
+        missing.extend(findings.map(|(number, _)| format!("F{number}")));
+        missing.extend((self.no_step == 0).then(|| "?".to_string()));
+        missing.extend((self.no_message == 0).then(|| "X".to_string()));
+        missing
+    }
+}
+
+impl fmt::Display for Coverage {
+    fn fmt(&self, out: &mut fmt::Formatter) -> fmt::Result {
+        write!(out, "steps:   ")?;
+        for (word, count) in &self.steps {
+            write!(out, " {word} {count}")?;
+        }
+        write!(out, "\nrefused: ")?;
+        for (number, count) in &self.refusals {
+            write!(out, " R{number} {count}")?;
+        }
+        write!(out, "\nfound:    none {}", self.clean)?;
+        for (number, count) in (1..).zip(self.findings) {
+            write!(out, " F{number} {count}")?;
+        }
+        write!(out, "\nother:    accepted {} ? {} X {}", self.accepted, self.no_step, self.no_message)
+    }
+}
+
+fn leading_number(text: &[u8]) -> u32 {
+    let digits = text.iter().take_while(|byte| byte.is_ascii_digit());
+    digits.fold(0, |number: u32, digit| number.saturating_mul(10).saturating_add(u32::from(digit - b'0')))
+}

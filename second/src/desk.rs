@@ -1,0 +1,115 @@
+//! The desk: one answer line for each step of a script.
+
+use std::io::{self, BufRead, Write};
+
+use crate::codec::{self, Refusal};
+use crate::explain;
+use crate::fields::{bytes, extended, hex, identifier, natural, number, values};
+use crate::pages;
+use crate::posts::{Arrival, Frame, Table};
+use crate::record;
+use crate::rules::Limits;
+
+/// A longer line is no step.
+pub const LONGEST: usize = 65_535;
+
+/// Blank lines and comments are no steps and get no answer.
+pub fn is_step(line: &[u8]) -> bool {
+    !matches!(line.first(), None | Some(b'#'))
+}
+
+/// Answers a whole script, line by line as it comes.
+pub fn run(mut script: impl BufRead, mut answers: impl Write, table: &mut Table) -> io::Result<()> {
+    let mut line = Vec::new();
+    loop {
+        line.clear();
+        if script.read_until(b'\n', &mut line)? == 0 {
+            return answers.flush();
+        }
+        if line.last() == Some(&b'\n') {
+            line.pop();
+        }
+        if is_step(&line) {
+            writeln!(answers, "{}", answer(table, &line))?;
+        }
+    }
+}
+
+/// The answer to one step.
+pub fn answer(table: &mut Table, line: &[u8]) -> String {
+    let known = if line.len() > LONGEST { None } else { step(table, line) };
+    known.unwrap_or_else(|| "?".to_string())
+}
+
+/// `None` where the line is no step.
+fn step(table: &mut Table, line: &[u8]) -> Option<String> {
+    let fields: Vec<&[u8]> = line.split(|&byte| byte == b' ').collect();
+    match fields[..] {
+        [b"setup", post, channel, volt, charge, discharge, silence] => {
+            let (post, channel) = (natural(post)?, natural(channel)?);
+            let limits = Limits {
+                volt: natural(volt)?,
+                charge: natural(charge)?,
+                discharge: natural(discharge)?,
+                silence: natural(silence)?,
+            };
+            Some(said(table.set_up(post, channel, limits), |()| "A".to_string()))
+        }
+        [b"release", post] => Some(said(table.release(natural(post)?), |()| "A".to_string())),
+        [b"frame", channel, time, id, form, payload] => {
+            let payload = bytes(payload)?;
+            let frame = Frame { id: identifier(id)?, extended: extended(form)?, bytes: &payload };
+            feed(table, Arrival { channel: natural(channel)?, time: natural(time)?, frame: Some(frame) })
+        }
+        [b"tick", channel, time] => {
+            feed(table, Arrival { channel: natural(channel)?, time: natural(time)?, frame: None })
+        }
+        [b"record", post] => Some(said(table.post(natural(post)?), record::line)),
+        [b"read", id, form, payload] => {
+            let message = codec::read(identifier(id)?, extended(form)?, &bytes(payload)?);
+            Some(said(message, |message| format!("A {}", record::message(&message))))
+        }
+        [b"change", id, form, payload, start, raw] => {
+            let (id, extended, start, raw) = (identifier(id)?, extended(form)?, natural(start)?, number(raw)?);
+            let mut payload = bytes(payload)?;
+            let changed = codec::change(id, extended, &mut payload, start, raw);
+            Some(format!("{} {}", said(changed, |()| "A".to_string()), hex(&payload)))
+        }
+        [b"write", id, form, fields, buffer] => {
+            write(identifier(id)?, extended(form)?, &values(fields)?, bytes(buffer)?)
+        }
+        [b"explain", number] => explain_number(number),
+        _ => None,
+    }
+}
+
+fn said<T>(outcome: Result<T, Refusal>, accepted: impl FnOnce(T) -> String) -> String {
+    match outcome {
+        Ok(answer) => accepted(answer),
+        Err(Refusal(number)) => format!("R{number}"),
+    }
+}
+
+fn feed(table: &mut Table, arrival: Arrival) -> Option<String> {
+    Some(said(table.feed(&arrival), |findings| format!("A{findings}")))
+}
+
+fn write(id: u32, extended: bool, values: &[i64], mut buffer: Vec<u8>) -> Option<String> {
+    let Some(page) = pages::find(id, extended) else {
+        return Some("X".to_string());
+    };
+    if values.len() != page.signals.len() {
+        return None;
+    }
+    let written = codec::write(page, values, &mut buffer);
+    let outcome = said(written, |()| format!("A {id:x} {}", page.len));
+    Some(format!("{outcome} {}", hex(&buffer)))
+}
+
+fn explain_number(field: &[u8]) -> Option<String> {
+    let words = match field.strip_prefix(b"R") {
+        Some(refusal) => explain::refusal(natural(refusal)?),
+        None => explain::findings(natural(field)?),
+    };
+    words.map(|words| format!("E {words}"))
+}

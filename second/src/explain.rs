@@ -1,0 +1,50 @@
+//! What the numbers of an answer say, in words.
+
+const FINDINGS: [&str; 11] = [
+    "power modules silent for longer than W in this session",
+    "controller status older than 200 ms",
+    "contactors closed with no session open",
+    "insulation test, precharge or power transfer with no session open",
+    "insulation test, precharge or power transfer without Allowed in this session",
+    "lowering with a function other than standby or a setpoint not 0",
+    "target voltage above the voltage limit",
+    "current above the charge limit or below minus the discharge limit",
+    "insulation under 100 Ohm per volt in precharge or power transfer",
+    "another protocol or plug than the session's first",
+    "session finished with none open",
+];
+
+const REFUSALS: [&str; 14] = [
+    "channel above 31, or held by no post",
+    "time earlier than the post's latest accepted frame or tick",
+    "identifier not in the table, or standard",
+    "length differs from the table's",
+    "a label signal holds a number without a label",
+    "a bit that no signal covers is 1",
+    "a value has no raw number, or a raw number does not fit its signal",
+    "lent buffer shorter than the message",
+    "post number above 7",
+    "channel above 31 at set-up",
+    "channel held by another post",
+    "a post limit outside its range",
+    "no signal of the message starts at that bit",
+    "post not set up",
+];
+
+/// The words of each finding in the number; none where it has a bit that is no finding.
+pub fn findings(number: u32) -> Option<String> {
+    if number >> FINDINGS.len() != 0 {
+        return None;
+    }
+    if number == 0 {
+        return Some("none".to_string());
+    }
+    let found = FINDINGS.iter().enumerate().filter(|(place, _)| number >> place & 1 == 1);
+    let words: Vec<String> = found.map(|(place, words)| format!("F{} {words}", place + 1)).collect();
+    Some(words.join("; "))
+}
+
+pub fn refusal(number: u32) -> Option<String> {
+    let place = usize::try_from(number).ok()?.checked_sub(1)?;
+    REFUSALS.get(place).map(|words| format!("R{number} {words}"))
+}

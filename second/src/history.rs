@@ -1,0 +1,50 @@
+//! A post's accepted events since its set-up, and what is seen by looking back over them.
+//!
+//! Nothing here is carried along from event to event: each question scans the list.
+
+use crate::codec::Message;
+use crate::pages::Kind;
+
+/// An accepted frame, or an accepted tick where there is no message.
+#[derive(Clone, Copy, Debug)]
+pub struct Event {
+    pub time: u32,
+    pub message: Option<Message>,
+}
+
+impl Event {
+    pub fn is(&self, kind: Kind) -> bool {
+        self.of(kind).is_some()
+    }
+
+    /// The event's message, if it is of that kind.
+    pub fn of(&self, kind: Kind) -> Option<&Message> {
+        self.message.as_ref().filter(|message| message.kind == kind)
+    }
+}
+
+/// The latest event of a kind.
+pub fn latest(past: &[Event], kind: Kind) -> Option<&Event> {
+    past.iter().rev().find(|event| event.is(kind))
+}
+
+/// The latest message of a kind.
+pub fn latest_message(past: &[Event], kind: Kind) -> Option<&Message> {
+    latest(past, kind)?.of(kind)
+}
+
+/// The events from the opening of the open session on, the opening first; none where no session is open.
+///
+/// Open means: behind the last Charge_Session_Finished there is a New_Charge_Session. The first such one opened the
+/// session; the others are repeats.
+pub fn session(past: &[Event]) -> Option<&[Event]> {
+    let finished = past.iter().rposition(|event| event.is(Kind::ChargeSessionFinished));
+    let since = &past[finished.map_or(0, |place| place + 1)..];
+    let opening = since.iter().position(|event| event.is(Kind::NewChargeSession))?;
+    Some(&since[opening..])
+}
+
+/// 01: "its latest accepted time"; times never run back, so the last event has it.
+pub fn latest_time(past: &[Event]) -> Option<u32> {
+    past.last().map(|event| event.time)
+}

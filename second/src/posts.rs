@@ -1,0 +1,110 @@
+//! The table of posts: set-up, release, and which post a frame or tick goes to.
+
+use crate::codec::{self, Refusal};
+use crate::history::{latest_time, Event};
+use crate::rules::{findings, Limits, Rule, RULES};
+
+pub const POSTS: usize = 8;
+pub const CHANNELS: u32 = 32;
+
+pub struct Post {
+    pub channel: u32,
+    pub limits: Limits,
+    pub history: Vec<Event>,
+}
+
+/// A frame as it comes from the bus, or a tick where there is nothing but the time.
+pub struct Arrival<'a> {
+    pub channel: u32,
+    pub time: u32,
+    pub frame: Option<Frame<'a>>,
+}
+
+pub struct Frame<'a> {
+    pub id: u32,
+    pub extended: bool,
+    pub bytes: &'a [u8],
+}
+
+/// The latest time that an arrival for the post at that place may not be earlier than.
+pub type Clock = fn(&[Option<Post>], usize) -> Option<u32>;
+
+pub struct Table {
+    posts: [Option<Post>; POSTS],
+    pub rules: [Rule; RULES.len()],
+    pub clock: Clock,
+}
+
+impl Table {
+    pub fn new() -> Table {
+        Table { posts: std::array::from_fn(|_| None), rules: RULES, clock: own_clock }
+    }
+
+    /// Gives 9 to 12, the lowest that applies.
+    pub fn set_up(&mut self, post: u32, channel: u32, limits: Limits) -> Result<(), Refusal> {
+        let place = place(post)?;
+        if channel >= CHANNELS {
+            return Err(Refusal(10));
+        }
+        if self.holder(channel).is_some_and(|holder| holder != place) {
+            return Err(Refusal(11));
+        }
+        if !in_range(&limits) {
+            return Err(Refusal(12));
+        }
+        self.posts[place] = Some(Post { channel, limits, history: Vec::new() });
+        Ok(())
+    }
+
+    pub fn release(&mut self, post: u32) -> Result<(), Refusal> {
+        self.posts[place(post)?].take().map(drop).ok_or(Refusal(14))
+    }
+
+    pub fn post(&self, post: u32) -> Result<&Post, Refusal> {
+        self.posts[place(post)?].as_ref().ok_or(Refusal(14))
+    }
+
+    /// Gives 1 to 6, the lowest that applies; a refused arrival is part of no history.
+    pub fn feed(&mut self, arrival: &Arrival) -> Result<u32, Refusal> {
+        let place = self.holder(arrival.channel).ok_or(Refusal(1))?;
+        let earliest = (self.clock)(&self.posts, place);
+        let post = self.posts[place].as_mut().ok_or(Refusal(1))?;
+        if earliest.is_some_and(|earliest| arrival.time < earliest) {
+            return Err(Refusal(2));
+        }
+        let message = match &arrival.frame {
+            Some(frame) => Some(codec::read(frame.id, frame.extended, frame.bytes)?),
+            None => None,
+        };
+        let event = Event { time: arrival.time, message };
+        let found = findings(&self.rules, &post.limits, &post.history, &event);
+        post.history.push(event);
+        Ok(found)
+    }
+
+    /// A channel above 31 has no holder, since no set-up takes one.
+    fn holder(&self, channel: u32) -> Option<usize> {
+        self.posts.iter().position(|post| post.as_ref().is_some_and(|post| post.channel == channel))
+    }
+}
+
+fn place(post: u32) -> Result<usize, Refusal> {
+    let place = post as usize;
+    if place < POSTS {
+        Ok(place)
+    } else {
+        Err(Refusal(9))
+    }
+}
+
+fn in_range(limits: &Limits) -> bool {
+    (1..=65_535).contains(&limits.volt)
+        && (1..=32_767).contains(&limits.charge)
+        && limits.discharge <= 32_767
+        && (100..=60_000).contains(&limits.silence)
+}
+
+/// 01: "earlier than that post's latest accepted frame or tick"; the other posts' clocks say nothing.
+fn own_clock(posts: &[Option<Post>], place: usize) -> Option<u32> {
+    latest_time(&posts[place].as_ref()?.history)
+}

@@ -1,0 +1,126 @@
+//! The findings F1 to F11 of 01, each as a question to the history before the event and to the event.
+
+use crate::codec::Message;
+use crate::history::{latest, latest_message, session, Event};
+use crate::pages::{Kind, Unit};
+
+/// A post's defaults: tenths of a volt, tenths of an ampere, milliseconds.
+#[derive(Clone, Copy, Debug)]
+pub struct Limits {
+    pub volt: u32,
+    pub charge: u32,
+    pub discharge: u32,
+    pub silence: u32,
+}
+
+pub type Rule = fn(&Limits, &[Event], &Event) -> bool;
+
+/// Rule k stands at place k - 1, which is also its bit of the answer.
+pub const RULES: [Rule; 11] = [f1, f2, f3, f4, f5, f6, f7, f8, f9, f10, f11];
+
+pub fn findings(rules: &[Rule], limits: &Limits, past: &[Event], event: &Event) -> u32 {
+    let found = rules.iter().enumerate().filter(|(_, rule)| rule(limits, past, event));
+    found.map(|(place, _)| 1 << place).sum()
+}
+
+/// 001: "within 200 ms".
+const CONTROLLER_LIMIT: u32 = 200;
+
+fn f1(limits: &Limits, past: &[Event], event: &Event) -> bool {
+    session(past).is_some_and(|session| {
+        let status = latest(session, Kind::PowerModulesStatus).map(|status| status.time);
+        let later = status.unwrap_or(0).max(session[0].time);
+        event.time - later > limits.silence
+    })
+}
+
+fn f2(_: &Limits, past: &[Event], event: &Event) -> bool {
+    latest(past, Kind::AdvanticsControllerStatus).is_some_and(|status| event.time - status.time > CONTROLLER_LIMIT)
+}
+
+fn f3(_: &Limits, past: &[Event], event: &Event) -> bool {
+    event.of(Kind::DcPowerControl).is_some_and(|control| control.label("Output_Contactors") == "Close")
+        && session(past).is_none()
+}
+
+fn f4(_: &Limits, past: &[Event], event: &Event) -> bool {
+    powers(event) && session(past).is_none()
+}
+
+fn f5(_: &Limits, past: &[Event], event: &Event) -> bool {
+    powers(event) && session(past).is_some_and(|session| !allowed(session))
+}
+
+fn f6(_: &Limits, _: &[Event], event: &Event) -> bool {
+    event.of(Kind::DcPowerControl).is_some_and(|control| {
+        let setpoint =
+            control.signals().any(|(signal, raw)| matches!(signal.unit, Unit::Volts | Unit::Amps) && raw != 0);
+        control.label("Lower_Output_Voltage") == "Lowering"
+            && (control.label("Power_Function") != "Standby" || setpoint)
+    })
+}
+
+fn f7(limits: &Limits, past: &[Event], event: &Event) -> bool {
+    event.of(Kind::DcPowerControl).is_some_and(|control| {
+        control.label("Power_Function") != "Off"
+            && control.raw("Target_Voltage") > limit(limits.volt, past, "Maximum_Voltage")
+    })
+}
+
+fn f8(limits: &Limits, past: &[Event], event: &Event) -> bool {
+    event.of(Kind::PowerModulesStatus).is_some_and(|status| {
+        let current = status.raw("Present_Current");
+        session(past).is_some()
+            && (current > limit(limits.charge, past, "Maximum_Charge_Current")
+                || current < -limit(limits.discharge, past, "Maximum_Discharge_Current"))
+    })
+}
+
+fn f9(_: &Limits, past: &[Event], event: &Event) -> bool {
+    event.of(Kind::PowerModulesStatus).is_some_and(|status| {
+        let control = session(past).and_then(|session| latest_message(session, Kind::DcPowerControl));
+        control.is_some_and(live) && poor_insulation(status)
+    })
+}
+
+fn f10(_: &Limits, past: &[Event], event: &Event) -> bool {
+    event.of(Kind::NewChargeSession).is_some_and(|repeat| {
+        let first = session(past).and_then(|session| session[0].of(Kind::NewChargeSession));
+        first.is_some_and(|first| repeat != first)
+    })
+}
+
+fn f11(_: &Limits, past: &[Event], event: &Event) -> bool {
+    event.is(Kind::ChargeSessionFinished) && session(past).is_none()
+}
+
+/// F4 and F5's "insulation test, precharge or power transfer".
+pub fn powers(event: &Event) -> bool {
+    event.of(Kind::DcPowerControl).is_some_and(|control| {
+        matches!(control.label("Power_Function"), "Insulation_Test" | "Precharge" | "Power_Transfer")
+    })
+}
+
+/// F9's "precharge or power transfer".
+pub fn live(control: &Message) -> bool {
+    matches!(control.label("Power_Function"), "Precharge" | "Power_Transfer")
+}
+
+/// F9's "raw insulation times 200 is below raw voltage".
+pub fn poor_insulation(status: &Message) -> bool {
+    status.raw("Insulation_Resistance") * 200 < status.raw("Present_Voltage")
+}
+
+pub fn allowed(events: &[Event]) -> bool {
+    latest_message(events, Kind::PowerModulesStatus).is_some_and(|status| status.label("System_Enable") == "Allowed")
+}
+
+/// 01: "the smaller of the default and the latest DC_Power_Parameters number since set-up; 0 or none received means
+/// the default".
+pub fn limit(default: u32, past: &[Event], signal: &str) -> i64 {
+    let default = i64::from(default);
+    match latest_message(past, Kind::DcPowerParameters).map(|parameters| parameters.raw(signal)) {
+        None | Some(0) => default,
+        Some(received) => received.min(default),
+    }
+}

@@ -1,0 +1,96 @@
+//! Lines that are no steps, or only just are: the format's own edges.
+
+use super::Generator;
+use crate::desk::LONGEST;
+use crate::rng::Rng;
+
+const ODD_LINES: [&[u8]; 22] = [
+    b" ",
+    b"  ",
+    b"\t",
+    b"\r",
+    b"-",
+    b"?",
+    b"\xff\xfe",
+    b"\0",
+    b" # no comment",
+    b"Tick 0 0",
+    b"ticks 0 0",
+    b"tick",
+    b"record",
+    b"record -0",
+    b"record +1",
+    b"record 00",
+    b"record 4294967296",
+    b"release -1",
+    b"read 63000 x",
+    b"read 63000 x ",
+    b"write 6b000 x - 00",
+    b"write 6b000 x  00",
+];
+
+impl Generator {
+    pub fn malformed(&mut self) -> Vec<u8> {
+        match self.rng.below(18) {
+            0 => self.long(),
+            1..=4 => self.rng.pick(&ODD_LINES).to_vec(),
+            _ => {
+                let line = match self.rng.below(6) {
+                    0 => "setup 9 40 5000 1000 500 500".to_string(),
+                    1 => self.record(),
+                    2 => self.read(),
+                    3 => self.change(),
+                    4 => self.write(),
+                    _ => self.refused(),
+                };
+                spoilt(&mut self.rng, line.into_bytes())
+            }
+        }
+    }
+
+    /// Well-formed but for their length: exactly as long as a line may be, or longer.
+    fn long(&mut self) -> Vec<u8> {
+        let length = self.rng.pick(&[LONGEST - 1, LONGEST, LONGEST, LONGEST + 1, LONGEST + 1, 70_000]);
+        // Bytes are pairs of digits, so that each ending goes with lengths of one parity.
+        let even = length.is_multiple_of(2);
+        let (head, tail): (&[u8], &[u8]) = match self.rng.below(4) {
+            0 | 1 if even => (b"change 63000 x ", b" 16 1"),
+            2 if even => (b"write 6b000 x 7 ", b""),
+            _ if even => (b"frame 4 100 6b000 x ", b""),
+            0 | 1 => (b"read 63000 x ", b""),
+            2 => (b"change 63000 x ", b" 16 -1"),
+            _ => (b"write 63000 x 0,0,0,0,0,10 ", b""),
+        };
+        let fill = b"7".repeat(length - head.len() - tail.len());
+        [head, &fill, tail].concat()
+    }
+}
+
+fn spoilt(rng: &mut Rng, line: Vec<u8>) -> Vec<u8> {
+    let mut fields: Vec<Vec<u8>> = line.split(|&byte| byte == b' ').map(<[u8]>::to_vec).collect();
+    let place = rng.below(fields.len() as u64) as usize;
+    match rng.below(14) {
+        0 => drop(fields.remove(place)),
+        1 => fields.insert(place, b"0".to_vec()),
+        2 => fields.insert(place, Vec::new()),
+        3 => fields.push(Vec::new()),
+        4 => fields[place].make_ascii_uppercase(),
+        5 => fields[place].insert(0, b'0'),
+        6 => fields[place].insert(0, b'+'),
+        7 => fields[place].insert(0, b'-'),
+        8 => {
+            fields[place] =
+                rng.pick(&[b"-0".as_slice(), b"4294967296", b"9223372036854775808", b"1,,2", b"1,"]).to_vec()
+        }
+        9 => fields[place].push(rng.pick(b"\r\t\0\xff,-.xg#")),
+        10 => fields[place].clear(),
+        11 => drop(fields[place].pop()),
+        12 => {
+            let at = rng.below(fields[place].len() as u64 + 1) as usize;
+            let byte = (rng.next() as u8).max(b'\n' + 1);
+            fields[place].insert(at, byte);
+        }
+        _ => fields.truncate(place),
+    }
+    fields.join(&b' ')
+}

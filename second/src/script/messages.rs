@@ -1,0 +1,141 @@
+//! Messages with numbers on both sides of the edges that 01's rules have.
+
+use super::sketch::Sketch;
+use crate::codec::{label_name, range, Message};
+use crate::pages::{Kind, Page, Signal, PAGES};
+use crate::rng::Rng;
+
+const FUNCTIONS: [i64; 5] = [0, 1, 2, 4, 8];
+
+/// A message of that kind, aimed at what the post may object to.
+pub fn aimed(rng: &mut Rng, kind: Kind, post: &Sketch) -> Message {
+    match kind {
+        Kind::PowerModulesStatus => power_modules_status(rng, post),
+        Kind::DcPowerParameters => dc_power_parameters(rng, post),
+        Kind::DcPowerControl => dc_power_control(rng, post),
+        Kind::NewChargeSession => new_charge_session(rng, post),
+        _ => any(rng, kind.page()),
+    }
+}
+
+/// A message of that page with any numbers.
+pub fn any(rng: &mut Rng, page: &Page) -> Message {
+    let raws: Vec<i64> = page.signals.iter().map(|signal| any_raw(rng, signal)).collect();
+    Message::new(page.kind, &raws)
+}
+
+fn any_raw(rng: &mut Rng, signal: &Signal) -> i64 {
+    let (least, most) = range(signal);
+    match signal.labels {
+        Some(labels) => rng.pick(labels).0,
+        None if rng.chance(40) => rng.pick(&[least, most, 0, 1, most - 1]),
+        None => rng.between(least, most),
+    }
+}
+
+/// A payload of the right length with a number in it that is no label.
+pub fn unlabelled(rng: &mut Rng) -> (u32, Vec<u8>) {
+    loop {
+        let page = rng.pick(&PAGES.each_ref());
+        let mut raws = any(rng, page).raws().to_vec();
+        let place = rng.below(raws.len() as u64) as usize;
+        let signal = &page.signals[place];
+        let (least, most) = range(signal);
+        let around = number_around_labels(rng, signal);
+        raws[place] = if rng.chance(65) { around } else { rng.between(least, most) };
+        if signal.labels.is_some() && raws[place] <= most && label_name(signal, raws[place]).is_none() {
+            return (page.id, Message::new(page.kind, &raws).bytes());
+        }
+    }
+}
+
+/// A label's number, a gap between labels, or the number behind the last.
+pub fn number_around_labels(rng: &mut Rng, signal: &Signal) -> i64 {
+    let last = signal.labels.and_then(<[_]>::last);
+    rng.between(0, last.map_or(1, |(number, _)| number + 1))
+}
+
+fn near(rng: &mut Rng, mark: i64) -> i64 {
+    mark + rng.pick(&[-1, 0, 0, 1, 1])
+}
+
+fn power_modules_status(rng: &mut Rng, post: &Sketch) -> Message {
+    let insulation = rng.pick(&[0, 1, 24, 25, 100, 254, 255]);
+    let voltage = match rng.below(4) {
+        0 => rng.between(0, 65_535),
+        1 => 0,
+        _ => near(rng, insulation * 200).clamp(0, 65_535),
+    };
+    let current = match rng.below(8) {
+        0 => rng.pick(&[32_767, -32_768, -1, 1, -125]),
+        1 => rng.between(-32_768, 32_767),
+        2 | 3 => 0,
+        4 | 5 => {
+            let mark = rng.pick(&post.marks(1));
+            near(rng, mark)
+        }
+        _ => {
+            let mark = rng.pick(&post.marks(2));
+            -near(rng, mark)
+        }
+    };
+    let enable = i64::from(rng.chance(75));
+    let current = current.clamp(-32_768, 32_767);
+    Message::new(
+        Kind::PowerModulesStatus,
+        &[voltage, current, rng.between(0, 255), rng.between(0, 255), enable, insulation],
+    )
+}
+
+fn dc_power_parameters(rng: &mut Rng, post: &Sketch) -> Message {
+    let mut numbers = [0; 4];
+    let defaults = [post.limits.volt, post.limits.charge, post.limits.discharge].map(i64::from);
+    for (number, default) in numbers.iter_mut().zip(defaults) {
+        let chosen = rng.pick(&[0, 0, 1, default / 2, default - 1, default, default + 1, 32_768, 65_535]);
+        *number = chosen.clamp(0, 65_535);
+    }
+    numbers[3] = rng.between(-32_768, 32_767);
+    Message::new(Kind::DcPowerParameters, &numbers)
+}
+
+fn dc_power_control(rng: &mut Rng, post: &Sketch) -> Message {
+    let function = rng.pick(&FUNCTIONS);
+    let switches = [rng.chance(20), rng.chance(50), rng.chance(50)].map(i64::from);
+    if rng.chance(25) {
+        return lowering(rng, switches);
+    }
+    let mark = rng.pick(&post.marks(0));
+    let target = match rng.below(5) {
+        0 => 0,
+        1 => rng.between(0, 65_535),
+        _ => near(rng, mark).clamp(0, 65_535),
+    };
+    let currents = if rng.chance(50) { [0, 0] } else { [rng.between(-32_768, 32_767), rng.between(-32_768, 32_767)] };
+    let [reserved, mode, contactors] = switches;
+    Message::new(Kind::DcPowerControl, &[target, currents[0], currents[1], function, reserved, mode, contactors, 0])
+}
+
+/// In order where the function is Standby and no setpoint stands; else with one thing wrong, or with several.
+fn lowering(rng: &mut Rng, [reserved, mode, contactors]: [i64; 3]) -> Message {
+    let function = if rng.chance(65) { 1 } else { rng.pick(&FUNCTIONS) };
+    let mut setpoints = [0; 3];
+    match rng.below(6) {
+        place @ 0..=2 => setpoints[place as usize] = rng.pick(&[1, 5, 32_767]),
+        3 => setpoints = [1, -1, -1],
+        _ => {}
+    }
+    let [target, max, min] = setpoints;
+    Message::new(Kind::DcPowerControl, &[target, max, min, function, reserved, mode, contactors, 1])
+}
+
+/// A repeat mostly says what the first one said.
+fn new_charge_session(rng: &mut Rng, post: &Sketch) -> Message {
+    let [protocol, plug] = post.first;
+    let raws = match rng.below(10) {
+        _ if !post.open => [rng.between(0, 7), rng.between(0, 4)],
+        0 => [rng.between(0, 7), plug],
+        1 => [protocol, rng.between(0, 4)],
+        _ => [protocol, plug],
+    };
+    Message::new(Kind::NewChargeSession, &raws)
+}

@@ -1,0 +1,146 @@
+//! Seeded desk scripts that go to the edges of 01.
+
+mod malformed;
+mod messages;
+mod setups;
+mod sketch;
+mod stateless;
+mod traffic;
+
+use crate::desk::is_step;
+use crate::posts::POSTS;
+use crate::rng::Rng;
+use sketch::Sketch;
+
+/// What a script may hold beside the steps of the base.
+#[derive(Clone, Copy, Default)]
+pub struct Extras {
+    pub explain: bool,
+}
+
+/// A script of that many steps; comments and blank lines come on top.
+pub fn script(seed: u64, steps: usize, extras: Extras) -> Vec<Vec<u8>> {
+    let mut generator = Generator::new(seed, extras);
+    let mut lines = Vec::new();
+    let mut written = 0;
+    while written < steps {
+        let line = generator.line();
+        written += usize::from(is_step(&line));
+        lines.push(line);
+    }
+    lines
+}
+
+/// Lines as a file holds them.
+pub fn joined(lines: &[Vec<u8>]) -> Vec<u8> {
+    lines.iter().flat_map(|line| [line.as_slice(), b"\n"].concat()).collect()
+}
+
+struct Generator {
+    rng: Rng,
+    posts: [Option<Sketch>; POSTS],
+    /// The post that the traffic is about just now, so that sessions get somewhere.
+    busy: usize,
+    /// How many of a thousand steps set up or release: scripts with long histories and with short ones.
+    restless: u64,
+    extras: Extras,
+}
+
+#[derive(Clone, Copy)]
+enum Sort {
+    Traffic,
+    Refused,
+    Record,
+    SetUp,
+    RefusedSetUp,
+    Release,
+    Read,
+    Change,
+    Write,
+    Malformed,
+    Remark,
+    Explain,
+}
+
+impl Generator {
+    fn new(seed: u64, extras: Extras) -> Generator {
+        let mut rng = Rng::new(seed);
+        let restless = rng.pick(&[4, 15, 40]);
+        Generator { rng, posts: Default::default(), busy: 0, restless, extras }
+    }
+
+    fn line(&mut self) -> Vec<u8> {
+        match self.sort() {
+            Sort::Traffic => self.traffic().into_bytes(),
+            Sort::Refused => self.refused().into_bytes(),
+            Sort::Record => self.record().into_bytes(),
+            Sort::SetUp => self.set_up().into_bytes(),
+            Sort::RefusedSetUp => self.refused_set_up().into_bytes(),
+            Sort::Release => self.release().into_bytes(),
+            Sort::Read => self.read().into_bytes(),
+            Sort::Change => self.change().into_bytes(),
+            Sort::Write => self.write().into_bytes(),
+            Sort::Malformed => self.malformed(),
+            Sort::Remark => self.remark(),
+            Sort::Explain => self.explain().into_bytes(),
+        }
+    }
+
+    fn sort(&mut self) -> Sort {
+        let alive = self.posts.iter().flatten().count();
+        if alive < 2 && self.rng.chance(60) {
+            return Sort::SetUp;
+        }
+        let restless = self.restless;
+        let explain = if self.extras.explain { 15 } else { 0 };
+        self.rng.weighted(&[
+            (620, Sort::Traffic),
+            (60, Sort::Refused),
+            (60, Sort::Record),
+            (restless, Sort::SetUp),
+            (35, Sort::RefusedSetUp),
+            (restless / 4, Sort::Release),
+            (45, Sort::Read),
+            (65, Sort::Change),
+            (75, Sort::Write),
+            (35, Sort::Malformed),
+            (12, Sort::Remark),
+            (explain, Sort::Explain),
+        ])
+    }
+
+    /// A comment or a blank line.
+    fn remark(&mut self) -> Vec<u8> {
+        match self.rng.below(40) {
+            0 => [b"# ".as_slice(), &[b'-'; 70_000]].concat(),
+            1..=15 => Vec::new(),
+            16..=25 => b"#".to_vec(),
+            26..=30 => b"#tick 0 0".to_vec(),
+            _ => format!("# restless {}", self.restless).into_bytes(),
+        }
+    }
+
+    fn explain(&mut self) -> String {
+        let number = match self.rng.below(4) {
+            0 => self.rng.below(2048),
+            1 => 1 << self.rng.below(13),
+            2 => self.rng.pick(&[0, 2047, 2048, 4_294_967_295, 4_294_967_296]),
+            _ => return format!("explain R{}", self.rng.below(17)),
+        };
+        format!("explain {number}")
+    }
+}
+
+#[cfg(test)]
+mod tests {
+    use super::*;
+
+    #[test]
+    fn same_seed_same_script() {
+        let once = script(7, 2000, Extras::default());
+        assert_eq!(once, script(7, 2000, Extras::default()));
+        assert_ne!(once, script(8, 2000, Extras::default()));
+        assert_eq!(once.iter().filter(|line| is_step(line)).count(), 2000);
+        assert!(once.iter().all(|line| !line.contains(&b'\n')));
+    }
+}

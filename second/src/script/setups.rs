@@ -1,0 +1,122 @@
+//! Set-ups, releases and records, accepted ones and every refused sort.
+
+use super::sketch::Sketch;
+use super::Generator;
+use crate::posts::{CHANNELS, POSTS};
+use crate::rules::Limits;
+
+const POSTS_BEYOND: [u64; 4] = [8, 9, 255, 4_294_967_295];
+const CHANNELS_BEYOND: [u64; 4] = [32, 33, 64, 4_294_967_295];
+
+/// Limits inside their range, and outside, most often just outside.
+const VOLT: ([u64; 6], [u64; 5]) = ([1, 2, 4000, 5000, 10_000, 65_535], [0, 0, 65_536, 65_536, 4_294_967_295]);
+const CHARGE: ([u64; 6], [u64; 5]) = ([1, 2, 100, 1000, 32_766, 32_767], [0, 0, 32_768, 32_768, 65_535]);
+const DISCHARGE: ([u64; 6], [u64; 5]) =
+    ([0, 0, 1, 500, 32_766, 32_767], [32_768, 32_768, 32_768, 65_535, 4_294_967_295]);
+const SILENCE: ([u64; 8], [u64; 5]) = ([100, 100, 101, 150, 250, 500, 1000, 60_000], [99, 99, 60_001, 60_001, 0]);
+
+impl Generator {
+    /// A set-up to be accepted: a free post or one to start anew, on its own channel or a free one.
+    pub fn set_up(&mut self) -> String {
+        let post = self.post_to_set_up();
+        let own = self.posts[post as usize].as_ref().map(|post| u64::from(post.channel));
+        let channel = match own {
+            Some(channel) if self.rng.chance(50) => channel,
+            _ => self.free_channel(),
+        };
+        let limits = self.limits();
+        self.sketch(post as usize, channel as u32, limits);
+        set_up_line(post, channel, limits)
+    }
+
+    /// A set-up with one thing wrong, or with several.
+    pub fn refused_set_up(&mut self) -> String {
+        let mut post = self.rng.below(POSTS as u64);
+        let mut channel = self.free_channel();
+        let mut limits = self.limits();
+        let flaws = self.rng.pick(&[1, 2, 4, 4, 8, 8, 8, 8, 8, 3, 5, 10, 12, 15]);
+        if flaws & 1 != 0 {
+            post = self.rng.pick(&POSTS_BEYOND);
+        }
+        if flaws & 2 != 0 {
+            channel = self.rng.pick(&CHANNELS_BEYOND);
+        }
+        if flaws & 4 != 0 {
+            let others = (0..).zip(&self.posts).filter(|(place, _)| *place != post);
+            let taken: Vec<u64> = others.filter_map(|(_, other)| Some(u64::from(other.as_ref()?.channel))).collect();
+            // With nobody to take a channel from, the limits have to do.
+            channel = if taken.is_empty() { channel } else { self.rng.pick(&taken) };
+        }
+        if flaws & 8 != 0 || flaws == 4 && self.posts.iter().flatten().count() < 2 {
+            let which = self.rng.below(4) as usize;
+            limits[which] = self.rng.pick(&[VOLT.1, CHARGE.1, DISCHARGE.1, SILENCE.1][which]);
+        }
+        set_up_line(post, channel, limits)
+    }
+
+    pub fn release(&mut self) -> String {
+        let post = self.some_post();
+        if let Some(sketch) = self.posts.get_mut(post as usize) {
+            *sketch = None;
+        }
+        format!("release {post}")
+    }
+
+    pub fn record(&mut self) -> String {
+        format!("record {}", self.some_post())
+    }
+
+    /// Any post while few are set up, then one of those, so that the traffic does not scatter.
+    fn post_to_set_up(&mut self) -> u64 {
+        let alive = self.places(true);
+        if alive.len() >= 5 {
+            self.rng.pick(&alive)
+        } else {
+            self.rng.below(POSTS as u64)
+        }
+    }
+
+    fn places(&self, alive: bool) -> Vec<u64> {
+        (0..).zip(&self.posts).filter(|(_, post)| post.is_some() == alive).map(|(place, _)| place).collect()
+    }
+
+    fn some_post(&mut self) -> u64 {
+        match self.rng.below(20) {
+            0 => self.rng.pick(&POSTS_BEYOND),
+            1 => self.rng.pick(&self.places(false)),
+            2 | 3 => self.rng.below(POSTS as u64),
+            _ => self.busy as u64,
+        }
+    }
+
+    fn limits(&mut self) -> [u64; 4] {
+        let rng = &mut self.rng;
+        [rng.pick(&VOLT.0), rng.pick(&CHARGE.0), rng.pick(&DISCHARGE.0), rng.pick(&SILENCE.0)]
+    }
+
+    pub fn free_channel(&mut self) -> u64 {
+        let held = |channel: u64| self.posts.iter().flatten().any(|post| u64::from(post.channel) == channel);
+        let free: Vec<u64> = (0..u64::from(CHANNELS)).filter(|&channel| !held(channel)).collect();
+        let edges: Vec<u64> = free.iter().copied().filter(|channel| matches!(channel, 0 | 4 | 31)).collect();
+        let choices = if !edges.is_empty() && self.rng.chance(50) { &edges } else { &free };
+        self.rng.pick(choices)
+    }
+
+    /// Starts small, at 0, or close to the largest time.
+    fn sketch(&mut self, post: usize, channel: u32, limits: [u64; 4]) {
+        let now = match self.rng.below(10) {
+            0 | 1 => 0,
+            2 | 3 => u32::MAX - self.rng.below(3000) as u32,
+            4 => u32::MAX,
+            _ => self.rng.below(100_000) as u32,
+        };
+        let [volt, charge, discharge, silence] = limits.map(|limit| limit as u32);
+        let limits = Limits { volt, charge, discharge, silence };
+        self.posts[post] = Some(Sketch::new(channel, limits, now));
+        self.busy = post;
+    }
+}
+
+fn set_up_line(post: u64, channel: u64, [volt, charge, discharge, silence]: [u64; 4]) -> String {
+    format!("setup {post} {channel} {volt} {charge} {discharge} {silence}")
+}

@@ -1,0 +1,30 @@
+//! The generator's idea of a post, good enough to aim by. It judges nothing.
+
+use crate::rules::Limits;
+
+pub struct Sketch {
+    pub channel: u32,
+    pub limits: Limits,
+    pub now: u32,
+    pub status_at: Option<u32>,
+    /// The later of the opening and the latest Power_Modules_Status of the session.
+    pub heard_at: u32,
+    pub open: bool,
+    pub first: [i64; 2],
+    /// Maximum_Voltage, Maximum_Charge_Current and Maximum_Discharge_Current as last sent.
+    pub received: [i64; 3],
+}
+
+impl Sketch {
+    pub fn new(channel: u32, limits: Limits, now: u32) -> Sketch {
+        Sketch { channel, limits, now, status_at: None, heard_at: now, open: false, first: [0, 0], received: [0; 3] }
+    }
+
+    /// Numbers at which a limit could stand, rightly or by a slip.
+    pub fn marks(&self, which: usize) -> [i64; 4] {
+        let default = [self.limits.volt, self.limits.charge, self.limits.discharge][which];
+        let (default, received) = (i64::from(default), self.received[which]);
+        let applied = if received == 0 { default } else { default.min(received) };
+        [applied, applied, default, received]
+    }
+}

@@ -1,0 +1,156 @@
+//! Frames and ticks: sessions that run, with times at the edges, and frames that are refused.
+
+use super::messages::{aimed, any, unlabelled};
+use super::sketch::Sketch;
+use super::Generator;
+use crate::codec::Message;
+use crate::fields::hex;
+use crate::pages::{Kind, PAGES};
+use crate::rng::Rng;
+
+/// Weights of what arrives while a session is open, and while none is; `None` is a tick.
+const OPEN: [(u64, Option<Kind>); 10] = [
+    (12, Some(Kind::NewChargeSession)),
+    (18, Some(Kind::AdvanticsControllerStatus)),
+    (24, Some(Kind::PowerModulesStatus)),
+    (22, Some(Kind::DcPowerControl)),
+    (7, Some(Kind::DcPowerParameters)),
+    (9, None),
+    (4, Some(Kind::ChargeSessionFinished)),
+    (2, Some(Kind::ChargeStatusChange)),
+    (2, Some(Kind::EmergencyStop)),
+    (1, Some(Kind::EvIdCcsPart2Din)),
+];
+
+const CLOSED: [(u64, Option<Kind>); 10] = [
+    (30, Some(Kind::NewChargeSession)),
+    (15, Some(Kind::AdvanticsControllerStatus)),
+    (12, Some(Kind::PowerModulesStatus)),
+    (18, Some(Kind::DcPowerControl)),
+    (6, Some(Kind::DcPowerParameters)),
+    (9, None),
+    (5, Some(Kind::ChargeSessionFinished)),
+    (2, Some(Kind::ChargeStatusChange)),
+    (2, Some(Kind::EmergencyStop)),
+    (1, Some(Kind::EvIdCcsPart2Din)),
+];
+
+/// Identifiers of 000's other messages, and such that only look close.
+const STRANGERS: [u32; 9] = [0, 0x63002, 0x63003, 0x63201, 0x6b006, 0x6b100, 0x6b104, 0x8006_3000, u32::MAX];
+
+impl Generator {
+    pub fn traffic(&mut self) -> String {
+        let alive: Vec<usize> = (0..self.posts.len()).filter(|&place| self.posts[place].is_some()).collect();
+        if alive.is_empty() {
+            return self.astray();
+        }
+        if self.posts[self.busy].is_none() || self.rng.chance(25) {
+            self.busy = self.rng.pick(&alive);
+        }
+        let rng = &mut self.rng;
+        let post = self.posts[self.busy].as_mut().expect("one of those alive");
+        let time = moment(rng, post);
+        let kind = rng.weighted(if post.open { &OPEN } else { &CLOSED });
+        let message = kind.map(|kind| aimed(rng, kind, post));
+        note(post, time, message.as_ref());
+        match message {
+            Some(message) => frame(post.channel, time, message.kind.page().id, "x", &message.bytes()),
+            None => format!("tick {} {time}", post.channel),
+        }
+    }
+
+    /// A frame or tick that is refused, for one reason or for several.
+    pub fn refused(&mut self) -> String {
+        let Some(post) = &self.posts[self.busy] else {
+            return self.astray();
+        };
+        let (channel, now) = (post.channel, post.now);
+        let rng = &mut self.rng;
+        let time = if rng.chance(10) { now.saturating_sub(1) } else { now };
+        let page = rng.pick(&PAGES.each_ref());
+        let mut bytes = any(rng, page).bytes();
+        match rng.below(10) {
+            0 => self.astray(),
+            1 => self.early(channel, now),
+            2 => frame(channel, time, rng.pick(&STRANGERS), "x", &bytes),
+            3 => frame(channel, time, page.id ^ 1 << rng.below(32), "x", &bytes),
+            4 => frame(channel, time, page.id, "s", &bytes),
+            5 => frame(channel, time, page.id, "x", &[]),
+            6 => {
+                bytes.truncate(rng.below(page.len as u64) as usize);
+                frame(channel, time, page.id, "x", &bytes)
+            }
+            7 => {
+                let surplus = rng.pick(&[1, 1, 2, 8, 56, 200]);
+                bytes.extend(rng.bytes(surplus));
+                frame(channel, time, page.id, "x", &bytes)
+            }
+            _ => {
+                let (id, bytes) = unlabelled(rng);
+                frame(channel, time, id, "x", &bytes)
+            }
+        }
+    }
+
+    /// A time before the post's clock, alone or with an identifier that would be refused as well.
+    fn early(&mut self, channel: u32, now: u32) -> String {
+        let rng = &mut self.rng;
+        let time = rng.pick(&[now.saturating_sub(1), now / 2, 0]);
+        let page = rng.pick(&PAGES.each_ref());
+        let bytes = any(rng, page).bytes();
+        match rng.below(4) {
+            0 | 1 => format!("tick {channel} {time}"),
+            2 => frame(channel, time, page.id, "x", &bytes),
+            _ => frame(channel, time, rng.pick(&STRANGERS), "x", &bytes),
+        }
+    }
+
+    /// A channel that nobody holds, or none at all.
+    fn astray(&mut self) -> String {
+        let free = self.free_channel();
+        let channel = self.rng.pick(&[free, free, 31, 32, 33, 4_294_967_295]);
+        let time = self.rng.below(100_000);
+        if self.rng.chance(50) {
+            return format!("tick {channel} {time}");
+        }
+        let page = self.rng.pick(&PAGES.each_ref());
+        frame(channel as u32, time as u32, page.id, "x", &any(&mut self.rng, page).bytes())
+    }
+}
+
+/// When the next event arrives: in step, at once, or just around one of the two limits of silence.
+fn moment(rng: &mut Rng, post: &Sketch) -> u32 {
+    let around = rng.pick(&[-1, 0, 1, 1]);
+    let aim = match rng.below(100) {
+        0..=24 => i64::from(post.now),
+        25..=54 => i64::from(post.now) + rng.pick(&[1, 10, 50, 99, 100, 100]),
+        55..=74 => i64::from(post.status_at.unwrap_or(post.now)) + 200 + around,
+        75..=97 => i64::from(post.heard_at) + i64::from(post.limits.silence) + around,
+        _ => i64::from(post.now) + rng.between(0, 70_000),
+    };
+    let late_enough = aim.max(i64::from(post.now));
+    u32::try_from(late_enough).unwrap_or(u32::MAX)
+}
+
+fn note(post: &mut Sketch, time: u32, message: Option<&Message>) {
+    post.now = time;
+    let Some(message) = message else {
+        return;
+    };
+    match message.kind {
+        Kind::AdvanticsControllerStatus => post.status_at = Some(time),
+        Kind::PowerModulesStatus if post.open => post.heard_at = time,
+        Kind::DcPowerParameters => post.received.copy_from_slice(&message.raws()[..3]),
+        Kind::NewChargeSession if !post.open => {
+            post.open = true;
+            post.heard_at = time;
+            post.first.copy_from_slice(message.raws());
+        }
+        Kind::ChargeSessionFinished => post.open = false,
+        _ => {}
+    }
+}
+
+fn frame(channel: u32, time: u32, id: u32, form: &str, bytes: &[u8]) -> String {
+    format!("frame {channel} {time} {id:x} {form} {}", hex(bytes))
+}

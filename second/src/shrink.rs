@@ -1,0 +1,209 @@
+//! Making a script that shows something shorter, while it still shows it.
+
+type Line = Vec<u8>;
+
+/// `shows` tells whether a script still shows it. The given script must.
+pub fn shrink(mut script: Vec<Line>, shows: &mut dyn FnMut(&[Line]) -> bool) -> Vec<Line> {
+    loop {
+        let before = script.clone();
+        remove_lines(&mut script, shows);
+        rename_channels(&mut script, shows);
+        close_gaps(&mut script, shows);
+        simplify_fields(&mut script, shows);
+        if script == before {
+            return script;
+        }
+    }
+}
+
+/// Chunks of half the script first, then smaller ones, single lines last and until none can go.
+fn remove_lines(script: &mut Vec<Line>, shows: &mut dyn FnMut(&[Line]) -> bool) {
+    let mut chunk = (script.len() / 2).max(1);
+    loop {
+        let mut removed = false;
+        let mut at = 0;
+        while at < script.len() {
+            let end = (at + chunk).min(script.len());
+            let mut shorter = script.clone();
+            shorter.drain(at..end);
+            if shows(&shorter) {
+                *script = shorter;
+                removed = true;
+            } else {
+                at = end;
+            }
+        }
+        if chunk == 1 && !removed {
+            return;
+        }
+        chunk = (chunk / 2).max(1);
+    }
+}
+
+/// A channel stands in several lines, so it changes in all of them at once.
+fn rename_channels(script: &mut Vec<Line>, shows: &mut dyn FnMut(&[Line]) -> bool) {
+    for old in (0..32).rev() {
+        for new in 0..old {
+            let renamed: Vec<Line> = script.iter().map(|line| on_channel(line, old, new)).collect();
+            if renamed != *script && shows(&renamed) {
+                *script = renamed;
+                break;
+            }
+        }
+    }
+}
+
+/// The time before each frame or tick shorter, with all that follows coming earlier by the same.
+fn close_gaps(script: &mut Vec<Line>, shows: &mut dyn FnMut(&[Line]) -> bool) {
+    let mut before = 0;
+    for at in 0..script.len() {
+        let Some(now) = time(&script[at]) else {
+            continue;
+        };
+        let gap = now - before;
+        // A time that runs back may be what is shown; it has no gap to close.
+        for smaller in simpler_numbers(gap.max(0)) {
+            let by = gap - smaller;
+            let (head, tail) = script.split_at(at);
+            let closed: Vec<Line> = head.iter().cloned().chain(tail.iter().map(|line| earlier(line, by))).collect();
+            if shows(&closed) {
+                *script = closed;
+                break;
+            }
+        }
+        before = time(&script[at]).unwrap_or(before);
+    }
+}
+
+fn fields(line: &[u8]) -> Vec<Line> {
+    line.split(|&byte| byte == b' ').map(<[u8]>::to_vec).collect()
+}
+
+fn decimal(field: &[u8]) -> Option<i64> {
+    std::str::from_utf8(field).ok()?.parse().ok()
+}
+
+fn time(line: &[u8]) -> Option<i64> {
+    let fields = fields(line);
+    let timed = matches!(fields[0].as_slice(), b"frame" | b"tick");
+    decimal(fields.get(2).filter(|_| timed)?)
+}
+
+fn on_channel(line: &[u8], old: i64, new: i64) -> Line {
+    let mut fields = fields(line);
+    let place = match fields[0].as_slice() {
+        b"setup" => 2,
+        b"frame" | b"tick" => 1,
+        _ => return line.to_vec(),
+    };
+    if let Some(channel) = fields.get_mut(place).filter(|channel| decimal(channel) == Some(old)) {
+        *channel = new.to_string().into_bytes();
+    }
+    fields.join(&b' ')
+}
+
+fn earlier(line: &[u8], by: i64) -> Line {
+    let Some(time) = time(line) else {
+        return line.to_vec();
+    };
+    let mut fields = fields(line);
+    fields[2] = (time - by).to_string().into_bytes();
+    fields.join(&b' ')
+}
+
+fn simplify_fields(script: &mut Vec<Line>, shows: &mut dyn FnMut(&[Line]) -> bool) {
+    for at in 0..script.len() {
+        for place in 1..fields(&script[at]).len() {
+            for simpler in simpler_fields(&fields(&script[at])[place]) {
+                let mut tried = script.clone();
+                let mut changed = fields(&script[at]);
+                changed[place] = simpler;
+                tried[at] = changed.join(&b' ');
+                if shows(&tried) {
+                    *script = tried;
+                    break;
+                }
+            }
+        }
+    }
+}
+
+/// Simpler ones first. Each is shorter or has smaller numbers, so that simplifying ends.
+fn simpler_fields(field: &[u8]) -> Vec<Line> {
+    if let Some(number) = decimal(field) {
+        return simpler_numbers(number).iter().map(|simpler| simpler.to_string().into_bytes()).collect();
+    }
+    if field.contains(&b',') {
+        return simpler_values(field);
+    }
+    let hex = field.len().is_multiple_of(2) && field.iter().all(u8::is_ascii_hexdigit);
+    if hex {
+        return simpler_bytes(field);
+    }
+    Vec::new()
+}
+
+/// Round numbers and edges of 01 first, then steps that get shorter, so that a large number comes down quickly.
+fn simpler_numbers(number: i64) -> Vec<i64> {
+    let steps = [number / 2, number - number / 4, number - number / 16];
+    let smaller = [0, 1, 2, 10, 100, 101, 200, 201, 1000].into_iter().chain(steps);
+    smaller.filter(|tried| tried.unsigned_abs() < number.unsigned_abs()).collect()
+}
+
+fn simpler_values(field: &[u8]) -> Vec<Line> {
+    let values: Vec<&[u8]> = field.split(|&byte| byte == b',').collect();
+    let nonzero = (0..values.len()).filter(|&place| values[place] != b"0");
+    let zeroed = nonzero.map(|place| {
+        let mut tried = values.clone();
+        tried[place] = b"0";
+        tried.join(&b',')
+    });
+    zeroed.collect()
+}
+
+fn simpler_bytes(field: &[u8]) -> Vec<Line> {
+    let all = b"0".repeat(field.len());
+    let digits = (0..field.len()).filter(|&place| field[place] != b'0').take(64);
+    let zeroed = digits.map(|place| {
+        let mut tried = field.to_vec();
+        tried[place] = b'0';
+        tried
+    });
+    std::iter::once(all).filter(|all| all.as_slice() != field).chain(zeroed).collect()
+}
+
+#[cfg(test)]
+mod tests {
+    use super::*;
+
+    fn script(text: &str) -> Vec<Line> {
+        text.lines().map(|line| line.as_bytes().to_vec()).collect()
+    }
+
+    #[test]
+    fn keeps_what_is_needed_only() {
+        let mut long = script("setup 3 4 5000 1000 500 500");
+        for n in 0..500 {
+            long.push(format!("tick 4 {}", 7000 + n).into_bytes());
+        }
+        long.push(b"record 3".to_vec());
+        let mut tries = 0;
+        let short = shrink(long, &mut |lines| {
+            tries += 1;
+            let at = |word: &[u8]| lines.iter().position(|line| line.starts_with(word));
+            matches!((at(b"setup"), at(b"record")), (Some(setup), Some(record)) if setup < record)
+        });
+        assert_eq!(short, script("setup 0 0 0 0 0 0\nrecord 0"));
+        assert!(tries < 1000, "{tries}");
+    }
+
+    #[test]
+    fn times_keep_their_distance() {
+        let long = script("tick 4 900100\ntick 4 900200\ntick 4 900901");
+        let short = shrink(long, &mut |lines| {
+            let times: Vec<i64> = lines.iter().filter_map(|line| time(line)).collect();
+            times.windows(2).any(|pair| pair[1] - pair[0] == 801)
+        });
+        assert_eq!(short, script("tick 0 0\ntick 0 801"));
+    }
+}

@@ -1,0 +1,154 @@
+//! Wrong readings of 01, kept to show that a comparison finds them.
+
+use crate::history::{latest, latest_message, latest_time, session, Event};
+use crate::pages::Kind;
+use crate::posts::{Post, Table};
+use crate::rules::{self, limit, live, poor_insulation, powers, Limits, Rule};
+
+/// Name, and the rule that stands in for the right one of that number.
+const WRONG_RULES: [(&str, usize, Rule); 17] = [
+    ("f1", 1, f1_restarted_by_repeats),
+    ("f1-edge", 1, f1_at_w_itself),
+    ("f2", 2, f2_at_200_itself),
+    ("f2-session", 2, f2_within_the_session),
+    ("f3", 3, f3_with_a_power_function),
+    ("f4", 4, f4_without_insulation_test),
+    ("f5", 5, f5_allowed_by_the_session_before),
+    ("f6", 6, f6_voltage_only),
+    ("f7-zero", 7, f7_received_zero_is_zero),
+    ("f7-cap", 7, f7_default_is_no_cap),
+    ("f7-standby", 7, f7_not_in_standby),
+    ("f8-sign", 8, f8_unsigned_current),
+    ("f8-edge", 8, f8_at_the_limit_itself),
+    ("f9-edge", 9, f9_at_the_limit_itself),
+    ("f9-session", 9, f9_control_before_the_opening),
+    ("f10", 10, f10_against_the_latest),
+    ("f11", 11, f11_never),
+];
+
+const SHARED_CLOCK: &str = "clock";
+
+pub fn names() -> Vec<&'static str> {
+    WRONG_RULES.iter().map(|(name, ..)| *name).chain([SHARED_CLOCK]).collect()
+}
+
+/// An empty table with the slip of that name, if there is one.
+pub fn table(name: &str) -> Option<Table> {
+    let mut table = Table::new();
+    if name == SHARED_CLOCK {
+        table.clock = shared_clock;
+    } else {
+        let (_, number, rule) = WRONG_RULES.iter().find(|(known, ..)| *known == name)?;
+        table.rules[number - 1] = *rule;
+    }
+    Some(table)
+}
+
+fn f1_restarted_by_repeats(limits: &Limits, past: &[Event], event: &Event) -> bool {
+    session(past).is_some_and(|session| {
+        let either = |seen: &&Event| seen.is(Kind::PowerModulesStatus) || seen.is(Kind::NewChargeSession);
+        session.iter().rev().find(either).is_some_and(|seen| event.time - seen.time > limits.silence)
+    })
+}
+
+fn f1_at_w_itself(limits: &Limits, past: &[Event], event: &Event) -> bool {
+    session(past).is_some_and(|session| {
+        let seen = latest(session, Kind::PowerModulesStatus).unwrap_or(&session[0]);
+        event.time - seen.time >= limits.silence
+    })
+}
+
+fn f2_at_200_itself(_: &Limits, past: &[Event], event: &Event) -> bool {
+    latest(past, Kind::AdvanticsControllerStatus).is_some_and(|status| event.time - status.time >= 200)
+}
+
+fn f2_within_the_session(_: &Limits, past: &[Event], event: &Event) -> bool {
+    let status = latest(session(past).unwrap_or(past), Kind::AdvanticsControllerStatus);
+    status.is_some_and(|status| event.time - status.time > 200)
+}
+
+fn f3_with_a_power_function(limits: &Limits, past: &[Event], event: &Event) -> bool {
+    rules::RULES[2](limits, past, event) && powers(event)
+}
+
+fn f4_without_insulation_test(_: &Limits, past: &[Event], event: &Event) -> bool {
+    event.of(Kind::DcPowerControl).is_some_and(live) && session(past).is_none()
+}
+
+fn f5_allowed_by_the_session_before(_: &Limits, past: &[Event], event: &Event) -> bool {
+    powers(event) && session(past).is_some() && !rules::allowed(past)
+}
+
+fn f6_voltage_only(_: &Limits, _: &[Event], event: &Event) -> bool {
+    event.of(Kind::DcPowerControl).is_some_and(|control| {
+        control.label("Lower_Output_Voltage") == "Lowering"
+            && (control.label("Power_Function") != "Standby" || control.raw("Target_Voltage") != 0)
+    })
+}
+
+fn f7_received_zero_is_zero(limits: &Limits, past: &[Event], event: &Event) -> bool {
+    let received = latest_message(past, Kind::DcPowerParameters).map(|parameters| parameters.raw("Maximum_Voltage"));
+    target_above(event, received.unwrap_or(i64::MAX).min(i64::from(limits.volt)))
+}
+
+fn f7_default_is_no_cap(limits: &Limits, past: &[Event], event: &Event) -> bool {
+    let received = latest_message(past, Kind::DcPowerParameters).map(|parameters| parameters.raw("Maximum_Voltage"));
+    target_above(event, received.filter(|&received| received != 0).unwrap_or(i64::from(limits.volt)))
+}
+
+fn target_above(event: &Event, limit: i64) -> bool {
+    event
+        .of(Kind::DcPowerControl)
+        .is_some_and(|control| control.label("Power_Function") != "Off" && control.raw("Target_Voltage") > limit)
+}
+
+fn f7_not_in_standby(limits: &Limits, past: &[Event], event: &Event) -> bool {
+    rules::RULES[6](limits, past, event) && powers(event)
+}
+
+fn f8_unsigned_current(limits: &Limits, past: &[Event], event: &Event) -> bool {
+    event.of(Kind::PowerModulesStatus).is_some_and(|status| {
+        let current = status.raw("Present_Current").rem_euclid(65_536);
+        session(past).is_some() && current > limit(limits.charge, past, "Maximum_Charge_Current")
+    })
+}
+
+fn f8_at_the_limit_itself(limits: &Limits, past: &[Event], event: &Event) -> bool {
+    event.of(Kind::PowerModulesStatus).is_some_and(|status| {
+        let current = status.raw("Present_Current");
+        session(past).is_some()
+            && (current > limit(limits.charge, past, "Maximum_Charge_Current")
+                || current <= -limit(limits.discharge, past, "Maximum_Discharge_Current"))
+    })
+}
+
+fn f9_at_the_limit_itself(_: &Limits, past: &[Event], event: &Event) -> bool {
+    event.of(Kind::PowerModulesStatus).is_some_and(|status| {
+        let control = session(past).and_then(|session| latest_message(session, Kind::DcPowerControl));
+        let equal = status.raw("Insulation_Resistance") * 200 == status.raw("Present_Voltage");
+        control.is_some_and(live) && (poor_insulation(status) || equal)
+    })
+}
+
+fn f9_control_before_the_opening(_: &Limits, past: &[Event], event: &Event) -> bool {
+    event.of(Kind::PowerModulesStatus).is_some_and(|status| {
+        let control = latest_message(past, Kind::DcPowerControl);
+        session(past).is_some() && control.is_some_and(live) && poor_insulation(status)
+    })
+}
+
+fn f10_against_the_latest(_: &Limits, past: &[Event], event: &Event) -> bool {
+    event.of(Kind::NewChargeSession).is_some_and(|repeat| {
+        let before = session(past).and_then(|session| latest_message(session, Kind::NewChargeSession));
+        before.is_some_and(|before| repeat != before)
+    })
+}
+
+fn f11_never(_: &Limits, _: &[Event], _: &Event) -> bool {
+    false
+}
+
+/// One clock for all posts, so that a later frame of one gets another's next one refused with 2.
+fn shared_clock(posts: &[Option<Post>], _: usize) -> Option<u32> {
+    posts.iter().flatten().filter_map(|post| latest_time(&post.history)).max()
+}

@@ -1,0 +1,101 @@
+//! The program as it is called: its comparison has to find what differs.
+
+use std::process::{Command, Output};
+
+const SECOND: &str = env!("CARGO_BIN_EXE_second");
+
+fn second(arguments: &[&str]) -> Output {
+    Command::new(SECOND).args(arguments).output().expect("the program runs")
+}
+
+fn text(bytes: &[u8]) -> String {
+    String::from_utf8_lossy(bytes).into_owned()
+}
+
+fn compare_with(program: &[&str]) -> Output {
+    second(&[&["compare", "--steps", "2500", "--seed", "1", "--seed", "2", "--"], program].concat())
+}
+
+#[test]
+fn agrees_with_itself() {
+    let run = compare_with(&[SECOND, "answer"]);
+    assert_eq!(run.status.code(), Some(0), "{}", text(&run.stdout));
+    assert!(text(&run.stdout).ends_with("all agree\n"));
+}
+
+#[test]
+fn agrees_on_explaining() {
+    let run = second(&["compare", "--explain", "--steps", "3000", "--seed", "3", "--", SECOND, "answer"]);
+    assert_eq!(run.status.code(), Some(0), "{}", text(&run.stdout));
+    assert!(text(&run.stdout).contains(" explain "));
+}
+
+#[test]
+fn a_wrong_f1_is_found_and_shrunk() {
+    let run = compare_with(&[SECOND, "answer", "--wrong", "f1"]);
+    assert_eq!(run.status.code(), Some(1));
+    let shown = text(&run.stdout);
+    let (_, shortest) = shown.split_once("# shortest script found").expect("a script is shown");
+    let steps: Vec<&str> = shortest.lines().skip(1).filter(|line| !line.starts_with('#')).collect();
+    assert!(!steps.is_empty() && steps.len() <= 5, "{shown}");
+    assert!(shown.contains("<- differs"), "{shown}");
+}
+
+#[test]
+fn crashes_and_wrong_counts_are_found() {
+    let answer = format!("{SECOND} answer");
+    for program in [
+        format!("{answer}; exit 3"),
+        format!("{answer}; kill -9 $$"),
+        format!("{answer} | sed '$d'"),
+        format!("{answer}; echo A"),
+        "exit 0".to_string(),
+    ] {
+        let run = second(&["compare", "--steps", "300", "--seed", "1", "--", "sh", "-c", &program]);
+        assert_eq!(run.status.code(), Some(1), "{program}: {}", text(&run.stdout));
+    }
+}
+
+#[test]
+fn too_few_steps_to_reach_everything_fail() {
+    let run = second(&["compare", "--steps", "5", "--seed", "1", "--", SECOND, "answer"]);
+    assert_eq!(run.status.code(), Some(1));
+    assert!(text(&run.stdout).contains("never reached"));
+}
+
+#[test]
+fn what_cannot_be_tried_is_said() {
+    let run = second(&["compare", "--seed", "1", "--", "/nowhere/desk"]);
+    assert_eq!(run.status.code(), Some(2));
+    assert!(text(&run.stderr).contains("cannot run /nowhere/desk"));
+    let run = second(&["check", "/nowhere/night", "/nowhere/answers", "--", SECOND, "answer"]);
+    assert_eq!(run.status.code(), Some(2));
+    assert!(text(&run.stderr).contains("cannot read /nowhere/night"));
+    for wrong in [&[][..], &["answers"], &["script", "1"], &["script", "x", "1"], &["compare"], &["compare", "--"]] {
+        let run = second(wrong);
+        assert_eq!(run.status.code(), Some(2));
+        assert!(text(&run.stderr).contains("usage: second"), "{wrong:?}");
+    }
+}
+
+#[test]
+fn a_night_is_checked() {
+    let folder = std::env::temp_dir().join(format!("second-check-{}", std::process::id()));
+    std::fs::create_dir_all(&folder).unwrap();
+    let (night, good, bad) = (folder.join("night"), folder.join("good"), folder.join("bad"));
+    std::fs::write(&night, "# a night\nsetup 0 4 5000 1000 500 500\n\ntick 4 10\n").unwrap();
+    std::fs::write(&good, "A\nA0\n").unwrap();
+    std::fs::write(&bad, "A\nA2\n").unwrap();
+    let check = |expected: &std::path::Path| {
+        second(&["check", night.to_str().unwrap(), expected.to_str().unwrap(), "--", SECOND, "answer"])
+    };
+    let (passed, failed) = (check(&good), check(&bad));
+    std::fs::remove_dir_all(&folder).unwrap();
+    assert_eq!(passed.status.code(), Some(0), "{}", text(&passed.stdout));
+    assert_eq!(failed.status.code(), Some(1));
+    assert!(
+        text(&failed.stdout).contains("night:4: tick 4 10\n  expected: A2\n  program:  A0"),
+        "{}",
+        text(&failed.stdout)
+    );
+}
