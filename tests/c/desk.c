@@ -1,0 +1,237 @@
+/* The desk's steps over the C interface alone: reads a script and answers it as the desk does, so that the same scripts hold both. */
+#define _DEFAULT_SOURCE
+#include "rokemaipu.h"
+
+#include <inttypes.h>
+#include <stdio.h>
+#include <stdlib.h>
+#include <string.h>
+
+enum { LONGEST = 65535, MOST = 64 };
+
+static rokemaipu_table table;
+
+/* ---- a line's fields */
+
+typedef struct { const char *at; size_t n; } word;
+
+static word words[MOST];
+static size_t count;
+
+static void split(const char *line, size_t n) {
+    const char *from = line, *end = line + n;
+    count = 0;
+    for (const char *p = line;; p++)
+        if (p == end || *p == ' ') {
+            if (count < MOST) words[count] = (word){from, (size_t)(p - from)};
+            count++;
+            if (p == end) return;
+            from = p + 1;
+        }
+}
+
+static int digit(char c) { return c >= '0' && c <= '9' ? c - '0' : c >= 'a' && c <= 'f' ? c - 'a' + 10 : 16; }
+
+static bool number(word w, uint64_t base, uint64_t most, uint64_t *out) {
+    uint64_t v = 0;
+    if (!w.n || (w.n > 1 && *w.at == '0')) return false;
+    for (size_t i = 0; i < w.n; i++) {
+        uint64_t d = (uint64_t)digit(w.at[i]);
+        if (d >= base || v > most / base || d > most - v * base) return false;
+        v = v * base + d;
+    }
+    return *out = v, true;
+}
+
+static bool u32(size_t i, uint32_t *out) {
+    uint64_t v;
+    return number(words[i], 10, UINT32_MAX, &v) && (*out = (uint32_t)v, true);
+}
+
+static bool whole(word w, int64_t *out) {
+    uint64_t v;
+    if (w.n && *w.at == '-') return number((word){w.at + 1, w.n - 1}, 10, (uint64_t)INT64_MAX + 1, &v) && v && (*out = -(int64_t)(v - 1) - 1, true);
+    return number(w, 10, INT64_MAX, &v) && (*out = (int64_t)v, true);
+}
+
+static bool frame_id(size_t i, uint32_t *id, bool *extended) {
+    uint64_t v;
+    char form = words[i + 1].n == 1 ? *words[i + 1].at : 0;
+    if (!number(words[i], 16, UINT32_MAX, &v) || (form != 'x' && form != 's')) return false;
+    return *id = (uint32_t)v, *extended = form == 'x', true;
+}
+
+static uint8_t bytes[LONGEST];
+static size_t size;
+
+static bool hex(word w) {
+    size = w.n / 2;
+    if (w.n == 1 && *w.at == '-') return true;
+    if (!w.n || w.n % 2) return false;
+    for (size_t i = 0; i < w.n; i++)
+        if (digit(w.at[i]) == 16) return false;
+    for (size_t i = 0; i < size; i++) bytes[i] = (uint8_t)(digit(w.at[2 * i]) * 16 + digit(w.at[2 * i + 1]));
+    return true;
+}
+
+/* ---- answers */
+
+static void put_hex(void) {
+    if (!size) putchar('-');
+    for (size_t i = 0; i < size; i++) printf("%02x", bytes[i]);
+}
+
+static void answer(uint32_t word, bool numbered) {
+    if (word >= ROKEMAIPU_REFUSED) printf("R%" PRIu32 "\n", word - ROKEMAIPU_REFUSED);
+    else if (numbered) printf("A%" PRIu32 "\n", word);
+    else puts("A");
+}
+
+/* ---- messages: identifier and number of fields of each kind; what is no raw number in Power_Modules_Status */
+
+static const struct { uint32_t id; size_t n; } kinds[ROKEMAIPU_KINDS] = {{0x63000, 6}, {0x63001, 4}, {0x6b000, 1}, {0x6b001, 2}, {0x6b002, 1}, {0x6b003, 8}, {0x6b004, 1}, {0x6b005, 1}, {0x6b105, 6}};
+
+static bool is_celsius(uint32_t kind, size_t i) { return kind == ROKEMAIPU_POWER_MODULES_STATUS && (i == 2 || i == 3); }
+static bool is_kilohms(uint32_t kind, size_t i) { return kind == ROKEMAIPU_POWER_MODULES_STATUS && i == 5; }
+
+static void put_message(uint32_t kind, const int64_t *raws) {
+    printf("%" PRIx32 "x:", kinds[kind].id);
+    for (size_t i = 0; i < kinds[kind].n; i++) printf("%s%" PRId64, i ? "," : "", is_celsius(kind, i) ? raws[i] - 40 : is_kilohms(kind, i) ? raws[i] * 2 : raws[i]);
+}
+
+static void put_dated(uint32_t kind, const uint8_t *payload, size_t n, uint32_t time) {
+    int64_t raws[ROKEMAIPU_SIGNALS];
+    if (rokemaipu_read(kinds[kind].id, true, payload, n, raws, ROKEMAIPU_SIGNALS) != kind) exit(fprintf(stderr, "desk.c: a kept frame is no frame\n"));
+    put_message(kind, raws);
+    printf("@%" PRIu32, time);
+}
+
+static void put_slot(const char *name, uint32_t kind, size_t n, const rokemaipu_slot *s) {
+    uint8_t payload[8];
+    printf(" %s=", name);
+    if (!s->known) {
+        putchar('-');
+        return;
+    }
+    for (size_t i = 0; i < n; i++) payload[i] = (uint8_t)(s->raw >> (8 * i));
+    put_dated(kind, payload, n, s->time);
+}
+
+static void record(uint32_t post) {
+    uint32_t n[ROKEMAIPU_NUMBERS], time[1];
+    uint8_t payload[8];
+    bool some = false;
+    uint32_t refused = rokemaipu_look_up(&table, post, n, ROKEMAIPU_NUMBERS);
+    if (refused) {
+        answer(refused, false);
+        return;
+    }
+    printf("K ch=%" PRIu32 " volt=%" PRIu32 " chg=%" PRIu32 " dis=%" PRIu32 " w=%" PRIu32, n[ROKEMAIPU_CHANNEL], n[ROKEMAIPU_VOLTAGE], n[ROKEMAIPU_CHARGE], n[ROKEMAIPU_DISCHARGE], n[ROKEMAIPU_SILENCE]);
+    if (n[ROKEMAIPU_HEARD]) printf(" last=%" PRIu32, n[ROKEMAIPU_TIME]);
+    else printf(" last=-");
+    if (n[ROKEMAIPU_OPENED]) {
+        printf(" open=1 since=%" PRIu32 " first=%" PRIu32 ",%" PRIu32, n[ROKEMAIPU_SINCE], n[ROKEMAIPU_PROTOCOL], n[ROKEMAIPU_PLUG]);
+        put_slot("spms", ROKEMAIPU_POWER_MODULES_STATUS, 8, &table.posts[post].session.status);
+        put_slot("sdpc", ROKEMAIPU_DC_POWER_CONTROL, 7, &table.posts[post].session.control);
+    } else
+        printf(" open=0 since=- first=- spms=- sdpc=-");
+    printf(" latest=");
+    for (uint32_t kind = 0; kind < ROKEMAIPU_KINDS; kind++) {
+        uint32_t length = rokemaipu_latest(&table, post, kind, time, 1, payload, sizeof payload);
+        if (!length) continue;
+        if (some) putchar(';');
+        put_dated(kind, payload, length, *time);
+        some = true;
+    }
+    puts(some ? "" : "-");
+}
+
+/* ---- steps; false: no step */
+
+static bool is(const char *name, size_t fields) { return words[0].n == strlen(name) && !memcmp(words[0].at, name, words[0].n) && count == fields + 1; }
+
+static bool write_step(void) {
+    int64_t raws[ROKEMAIPU_SIGNALS] = {0}, value;
+    uint32_t id, kind = 0, written;
+    bool extended, fits = true;
+    size_t n = 0;
+    if (!frame_id(1, &id, &extended) || !hex(words[4])) return false;
+    while (kind < ROKEMAIPU_KINDS && kinds[kind].id != id) kind++;
+    for (const char *p = words[3].at, *end = p + words[3].n;; p++, n++) {
+        const char *from = p;
+        while (p < end && *p != ',') p++;
+        if (!whole((word){from, (size_t)(p - from)}, &value)) return false;
+        if (n < ROKEMAIPU_SIGNALS) {
+            /* far outside every signal: no overflow below, and refused all the same */
+            if (value > 1000000 || value < -1000000) value = 1000000;
+            raws[n] = value;
+        }
+        if (p == end) break;
+    }
+    n++;
+    if (!extended || kind == ROKEMAIPU_KINDS) return puts("X"), true;
+    if (n != kinds[kind].n) return false;
+    for (size_t i = 0; i < n; i++) {
+        if (is_celsius(kind, i)) raws[i] += 40;
+        if (is_kilohms(kind, i)) fits = raws[i] % 2 == 0, raws[i] /= 2;
+    }
+    written = fits ? rokemaipu_write(kind, raws, ROKEMAIPU_SIGNALS, bytes, size) : ROKEMAIPU_REFUSED + 7;
+    if (written < ROKEMAIPU_REFUSED) printf("A %" PRIx32 " %" PRIu32 " ", id, written);
+    else printf("R%" PRIu32 " ", written - ROKEMAIPU_REFUSED);
+    put_hex();
+    return putchar('\n'), true;
+}
+
+static bool change_step(void) {
+    uint32_t id, start, changed;
+    int64_t raw;
+    bool extended;
+    if (!frame_id(1, &id, &extended) || !hex(words[3]) || !u32(4, &start) || !whole(words[5], &raw)) return false;
+    changed = rokemaipu_change(id, extended, bytes, size, start, raw);
+    if (changed < ROKEMAIPU_REFUSED) printf("A ");
+    else printf("R%" PRIu32 " ", changed - ROKEMAIPU_REFUSED);
+    put_hex();
+    return putchar('\n'), true;
+}
+
+static bool read_step(void) {
+    int64_t raws[ROKEMAIPU_SIGNALS];
+    uint32_t id, kind;
+    bool extended;
+    if (!frame_id(1, &id, &extended) || !hex(words[3])) return false;
+    kind = rokemaipu_read(id, extended, bytes, size, raws, ROKEMAIPU_SIGNALS);
+    if (kind >= ROKEMAIPU_REFUSED) return answer(kind, false), true;
+    printf("A ");
+    put_message(kind, raws);
+    return putchar('\n'), true;
+}
+
+static bool step(void) {
+    uint32_t a, b, c, d, e, f, id;
+    bool extended;
+    if (is("frame", 5)) return u32(1, &a) && u32(2, &b) && frame_id(3, &id, &extended) && hex(words[5]) && (answer(rokemaipu_frame(&table, a, b, id, extended, bytes, size), true), true);
+    if (is("tick", 2)) return u32(1, &a) && u32(2, &b) && (answer(rokemaipu_tick(&table, a, b), true), true);
+    if (is("setup", 6))
+        return u32(1, &a) && u32(2, &b) && u32(3, &c) && u32(4, &d) && u32(5, &e) && u32(6, &f) && (answer(rokemaipu_set_up(&table, a, b, c, d, e, f), false), true);
+    if (is("release", 1)) return u32(1, &a) && (answer(rokemaipu_release(&table, a), false), true);
+    if (is("record", 1)) return u32(1, &a) && (record(a), true);
+    if (is("read", 3)) return read_step();
+    if (is("change", 5)) return change_step();
+    if (is("write", 4)) return write_step();
+    return false;
+}
+
+int main(void) {
+    char *line = NULL;
+    size_t room = 0;
+    ssize_t n;
+    rokemaipu_start(&table);
+    while ((n = getline(&line, &room, stdin)) > 0) {
+        if (line[n - 1] == '\n') n--;
+        if (!n || *line == '#') continue;
+        split(line, (size_t)n);
+        if (n > LONGEST || !step()) puts("?");
+    }
+    free(line);
+    return ferror(stdin) || fflush(stdout) ? 1 : 0;
+}
