@@ -1,15 +1,19 @@
-# make run    the readings of paper 01, run through the library
-# make test   what .ci/run runs: the tables against the maker's document, the layout of the files, the gate, the C test; its last line is 'N passed, 0 failed'
+# make run    the March night through the desk, each finding explained; NIGHT=FILE for another, ALL=1 prints every step
+# make test   what .ci/run runs: the tables against the maker's document, the layout of the files, the gate, the C test, the desk against the
+#             second program; its last line is 'N passed, 0 failed'
 # make check  the proofs and the programs, without the must-fail edits
 # make lib    target/lib/librokemaipu.a and target/lib/rokemaipu.h, for C and Rust
 # make bench  the library beside plain C in one run
 
+NIGHT ?= nights/march.desk
+
 .PHONY: run test check lib bench
 
 run:
-	@rt check readings > run.log 2>&1 || { cat run.log; rm -f run.log; exit 1; }
+	@[ -x target/bin/desk ] || echo "proving and building the desk: about 10 minutes, once" >&2
+	@rt check desk > run.log 2>&1 || { cat run.log; rm -f run.log; exit 1; }
 	@rm -f run.log
-	@target/bin/readings
+	@tools/night $(NIGHT) $(if $(ALL),--all)
 
 test:
 	@tests/run
