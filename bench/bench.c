@@ -18,7 +18,7 @@ static const frame mix[] = {
     {0x6b003, 7, {0xa0, 0x0f, 0x92, 0x00, 0x00, 0x00, 0x48}},       {0x6b002, 1, {1}},
     {0x6b005, 1, {1}},                                              {0x6b004, 1, {0}},
 };
-enum { MIX = sizeof mix / sizeof *mix, TURNS = 200000 };
+enum { MIX = sizeof mix / sizeof *mix, TURNS = 40000 };
 
 static double now(void) {
     struct timespec t;
@@ -33,7 +33,7 @@ static void line(const char *what, double ours, double plain) { printf("%-34s %8
 #define TIMED(out, calls, body)                                      \
     do {                                                             \
         double best = 1e300;                                         \
-        for (int again = 0; again < 5; again++) {                    \
+        for (int again = 0; again < 40; again++) {                    \
             double from = now();                                     \
             for (int turn = 0; turn < TURNS; turn++) { body }        \
             double took = (now() - from) / ((double)TURNS * (calls)); \
