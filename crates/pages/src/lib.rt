@@ -57,6 +57,11 @@ enum Offence {
     Nothing,
 }
 
+struct Sifted {
+    offence: Offence,
+    rest: u64,
+}
+
 // The payload number of raw numbers that all fit and have their labels.
 enum Packed {
     Number(u64),

@@ -14,6 +14,7 @@ use crate::Offence;
 use crate::Packed;
 use crate::Refusal;
 use crate::Row;
+use crate::Sifted;
 use crate::table::ROW_COUNT;
 use crate::table::row_at;
 use crate::table::signal_at;
@@ -45,38 +46,32 @@ fn label_holds(labels: u64, bits: u64) -> bool
     (labels >> bits) % 2 == 1
 }
 
-fn offence(at: usize, kind: usize, n: u64) -> Offence
-    ensures { λ r. ⌜ r ≡ offenceOf n (block kind (drop at rows)) ⌝ }
-{
-    let mut i = at;
-    'rows: loop {
-        if ROW_COUNT <= i {
-            break 'rows Offence::Nothing;
-        }
-        let r = row_at(i);
-        if r.kind != kind {
-            break 'rows Offence::Nothing;
-        }
-        if !label_holds(r.labels, signal_bits(r, n)) {
-            break 'rows Offence::Start(r.start);
-        }
-        i += 1;
-    }
-}
-
-// n with every signal of the message cleared: what is left stands where no signal is.
-fn leftover(at: usize, kind: usize, n: u64) -> u64
-    ensures { λ r. ⌜ r ≡ cleared (block kind (drop at rows)) n ⌝ }
+// One walk over the message's rows: the first offence, and n with every signal before it cleared. Without an offence, what is left stands
+// where no signal is.
+fn sifted(at: usize, kind: usize, n: u64) -> Sifted
+    ensures { λ r. ⌜ judgedBy kind n (r .offence) (r .rest) ≡ judgedBy kind n (offenceOf n (block kind (drop at rows))) (cleared (block kind (drop at rows)) n) ⌝ }
 {
     let mut rest = n;
     let mut i = at;
     'rows: loop {
         if ROW_COUNT <= i {
-            break 'rows rest;
+            break 'rows Sifted {
+                offence: Offence::Nothing,
+                rest,
+            };
         }
         let r = row_at(i);
         if r.kind != kind {
-            break 'rows rest;
+            break 'rows Sifted {
+                offence: Offence::Nothing,
+                rest,
+            };
+        }
+        if !label_holds(r.labels, signal_bits(r, n)) {
+            break 'rows Sifted {
+                offence: Offence::Start(r.start),
+                rest,
+            };
         }
         rest = signal::put(rest, lowest_bit(r), r.width, 0);
         i += 1;
@@ -87,10 +82,12 @@ fn leftover(at: usize, kind: usize, n: u64) -> u64
 pub fn judge_number(at: usize, kind: usize, n: u64) -> Judged
     ensures { λ r. ⌜ r ≡ judgedBy kind n (offenceOf n (block kind (drop at rows))) (cleared (block kind (drop at rows)) n) ⌝ }
 {
-    let Offence::Nothing = offence(at, kind, n) else {
+    let s = sifted(at, kind, n);
+    let o = s.offence;
+    let Offence::Nothing = o else {
         return Judged::Refused(Refusal::NoLabel);
     };
-    if leftover(at, kind, n) != 0 {
+    if s.rest != 0 {
         return Judged::Refused(Refusal::UncoveredBit);
     }
     Judged::Frame(kind, n)

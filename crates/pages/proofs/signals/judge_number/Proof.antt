@@ -1,17 +1,17 @@
--- `pages::signals::judge_number` meets its contract: each answer is that of `judgedBy` at what `offence` and `leftover` found.
-use mathlib.Core.Path.{_≡_, sym, ap, ap₂, _∙_}
-use lib.ListN.{drop}
+-- `pages::signals::judge_number` meets its contract: each answer is that of `judgedBy` at what `sifted` found.
+use mathlib.Core.Path.{_≡_, sym, ap, _∙_}
 use borrow.Author.Tests.{eq-eqb, ne-eqb}
 use borrow.Author.Needs.{needs}
 use Rattle.pages.specs.declared.Offence.{Offence}
 use Rattle.pages.specs.declared.Offence.the-variants.{Nothing}
-use Rattle.pages.specs.Table.{rows, block}
-use Rattle.pages.specs.Steps.{offenceOf, cleared, judgedBy}
+use Rattle.pages.specs.declared.Judged.the-variants.{Frame, Refused}
+use Rattle.pages.specs.declared.Refusal.the-variants.{UncoveredBit}
+use Rattle.pages.specs.Steps.{judgedBy}
 use Rattle.pages.proofs.signals.judge_number.Statement.{statement}
 use Rattle.pages.proofs.signals.judge_number.Tie as tie
 
-offence-requires : tie.Need-offence-requires
-offence-requires c κs = search needs
+sifted-requires : tie.Need-sifted-requires
+sifted-requires c κs = search needs
 
 enum-told : tie.Need-enum-told
 enum-told c = search needs
@@ -21,32 +21,34 @@ enum-told-2 c = search needs
 
 returns : tie.Need-returns
 returns c =
-    let o = c .before .before in
-    let a = o .before .args in
-    sym
-    (ap (λ (x : Offence). judgedBy (a .kind) (a .n) x (cleared (block (a .kind) (drop (a .at) rows)) (a .n)))
-    (sym (o .offence .ensures) ∙ c .enum-told2 .given .1))
+    let s = c .before .before in
+    let a = s .before .args in
+    sym (ap (λ (o : Offence). judgedBy (a .kind) (a .n) o (s .sifted .result .rest)) (c .enum-told2 .given .1)) ∙ s .sifted .ensures
 
-leftover-requires : tie.Need-leftover-requires
-leftover-requires c κs = search needs
-
--- what `offence` and `leftover` found, where no signal offends
-found : (c : tie.After-leftover) → (
-    let a = c .before .before .before .before .args in
-    let rs = block (a .kind) (drop (a .at) rows) in
-    judgedBy (a .kind) (a .n) (offenceOf (a .n) rs) (cleared rs (a .n)) ≡ judgedBy (a .kind) (a .n) Nothing (c .leftover .result))
-found c =
-    let o = c .before .before .before in
-    let a = o .before .args in
-    ap₂ (judgedBy (a .kind) (a .n)) (sym (o .offence .ensures) ∙ c .before .enum-told .given .1) (sym (c .leftover .ensures))
+-- what `sifted` found, where no signal offends
+left : (c : tie.After-enum-told) → (
+    let s = c .before .before in
+    let a = s .before .args in
+    judgedBy (a .kind) (a .n) Nothing (s .sifted .result .rest) ≡ judgedBy (a .kind) (a .n) (s .sifted .result .offence) (s .sifted .result .rest))
+left c =
+    let s = c .before .before in
+    let a = s .before .args in
+    sym (ap (λ (o : Offence). judgedBy (a .kind) (a .n) o (s .sifted .result .rest)) (c .enum-told .given .1))
 
 returns-2 : tie.Need-returns-2
-returns-2 c = sym (found (c .before) ∙ rw (ne-eqb (c .before .leftover .result) 0 (c .if1 .taken)))
+returns-2 c =
+    let s = c .before .before .before .before in
+    let a = s .before .args in
+    let e : judgedBy (a .kind) (a .n) Nothing (s .sifted .result .rest) ≡ Refused UncoveredBit = rw (ne-eqb (s .sifted .result .rest) 0 (c .if1 .taken)) in
+    sym e ∙ left (c .before .before) ∙ s .sifted .ensures
 
 returns-3 : tie.Need-returns-3
-returns-3 c = sym (found (c .before) ∙ rw (eq-eqb (c .before .leftover .result) 0 (c .if1 .left)))
+returns-3 c =
+    let s = c .before .before .before .before in
+    let a = s .before .args in
+    let e : judgedBy (a .kind) (a .n) Nothing (s .sifted .result .rest) ≡ Frame (a .kind) (a .n) = rw (eq-eqb (s .sifted .result .rest) 0 (c .if1 .left)) in
+    sym e ∙ left (c .before .before) ∙ s .sifted .ensures
 
 pub judge-number-spec : {M : Type 1} → statement M
 judge-number-spec =
-    tie.close
-    (tie.spec offence-requires enum-told enum-told-2 returns leftover-requires returns-2 returns-3)
+    tie.close (tie.spec sifted-requires enum-told enum-told-2 returns returns-2 returns-3)
