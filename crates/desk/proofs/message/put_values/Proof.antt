@@ -1,13 +1,10 @@
+-- `desk::message::put_values`: the buffer keeps its length over the values.
 use mathlib.Core.Path.{_≡_}
-use Prim.Native.Nat.{ℕ, _-_, _+_, _≤_}
-use native.Mathlib.Omega.{arith}
+use Prim.Native.Nat.{_-_}
 use lib.ListN.{length}
 use borrow.Author.Needs.{needs}
 use Rattle.desk.proofs.message.put_values.Statement.{statement}
 use Rattle.desk.proofs.message.put_values.Tie as tie
-use Rattle.desk.proofs.message.put_values.Reads as reads
-use Rattle.desk.proofs.message.put_values.Lts as lts
-use Rattle.desk.proofs.message.put_value.Reads as put-value-reads
 
 abbrev Inv-loop : tie.InvT-loop
 Inv-loop out₀ all count p₀ i₀ out p i = (length out ≡ length out₀) × (length all ≡ 8)
@@ -15,47 +12,36 @@ Inv-loop out₀ all count p₀ i₀ out p i = (length out ≡ length out₀) × 
 abbrev μ-loop : tie.MeasureT-loop
 μ-loop out₀ all count p₀ i₀ out p i = 8 - i
 
--- src/message.rt:158:5
 loop-holds : tie.Need-loop-holds Inv-loop μ-loop
 loop-holds c = search needs
 
--- src/message.rt:160:13
 same-length : tie.Need-same-length Inv-loop μ-loop
 same-length c = search needs
 
--- src/message.rt:160:13
 returns : tie.Need-returns Inv-loop μ-loop
 returns c = search needs
 
--- src/message.rt:162:38
 mul-put-value : tie.Need-mul-put-value Inv-loop μ-loop
 mul-put-value c = search needs
 
--- src/message.rt:162:38
 array-copy-out-put-value : tie.Need-array-copy-out-put-value Inv-loop μ-loop
 array-copy-out-put-value c = search needs
 
--- src/message.rt:162:9
 put-value-requires : tie.Need-put-value-requires Inv-loop μ-loop
 put-value-requires c κs = search needs
 
--- src/message.rt:163:9
 add-i : tie.Need-add-i Inv-loop μ-loop
 add-i c = search needs
 
--- src/message.rt:158:5
 loop-less : tie.Need-loop-less Inv-loop μ-loop
 loop-less c = search needs
 
--- src/message.rt:158:5
 loop-again : tie.Need-loop-again Inv-loop μ-loop
 loop-again c = search needs
 
--- src/message.rt:153:1
 same-length-2 : tie.Need-same-length-2 Inv-loop μ-loop
 same-length-2 c = search needs
 
--- src/message.rt:153:1
 returns-2 : tie.Need-returns-2 Inv-loop μ-loop
 returns-2 c = search needs
 

@@ -1,13 +1,8 @@
-use mathlib.Core.Path.{_≡_}
-use Prim.Native.Nat.{ℕ, _-_, _+_, _≤_}
-use native.Mathlib.Omega.{arith}
-use lib.ListN.{length}
+-- `desk::values::kind_with`: every kind is looked at once.
+use Prim.Native.Nat.{_-_}
 use borrow.Author.Needs.{needs}
 use Rattle.desk.proofs.values.kind_with.Statement.{statement}
 use Rattle.desk.proofs.values.kind_with.Tie as tie
-use Rattle.desk.proofs.values.kind_with.Reads as reads
-use Rattle.desk.proofs.values.kind_with.Lts as lts
-use Rattle.pages.proofs.identifier_of.Reads as identifier-of-reads
 
 abbrev Inv-loop : tie.InvT-loop
 Inv-loop id extended k₀ k = Unit {0}
@@ -15,35 +10,27 @@ Inv-loop id extended k₀ k = Unit {0}
 abbrev μ-loop : tie.MeasureT-loop
 μ-loop id extended k₀ k = 9 - k
 
--- src/values.rt:67:9
 returns : tie.Need-returns Inv-loop μ-loop
 returns c = search needs
 
--- src/values.rt:70:5
 loop-holds : tie.Need-loop-holds Inv-loop μ-loop
 loop-holds c = search needs
 
--- src/values.rt:71:12
 identifier-of-requires : tie.Need-identifier-of-requires Inv-loop μ-loop
 identifier-of-requires c κs = search needs
 
--- src/values.rt:72:13
 returns-2 : tie.Need-returns-2 Inv-loop μ-loop
 returns-2 c = search needs
 
--- src/values.rt:74:9
 add-k : tie.Need-add-k Inv-loop μ-loop
 add-k c = search needs
 
--- src/values.rt:70:5
 loop-less : tie.Need-loop-less Inv-loop μ-loop
 loop-less c = search needs
 
--- src/values.rt:70:5
 loop-again : tie.Need-loop-again Inv-loop μ-loop
 loop-again c = search needs
 
--- src/values.rt:65:1
 returns-3 : tie.Need-returns-3 Inv-loop μ-loop
 returns-3 c = search needs
 

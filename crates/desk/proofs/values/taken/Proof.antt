@@ -1,16 +1,9 @@
-use mathlib.Core.Path.{_≡_}
-use Prim.Native.Nat.{ℕ, _-_, _+_, _≤_}
-use native.Mathlib.Omega.{arith}
+-- `desk::values::taken`: each turn starts a value within the text, or just behind its end.
+use Prim.Native.Nat.{_-_, _+_, _≤_}
 use lib.ListN.{length}
 use borrow.Author.Needs.{needs}
 use Rattle.desk.proofs.values.taken.Statement.{statement}
 use Rattle.desk.proofs.values.taken.Tie as tie
-use Rattle.desk.proofs.values.taken.Reads as reads
-use Rattle.desk.proofs.values.taken.Lts as lts
-use Rattle.desk.proofs.values.nothing.Reads as nothing-reads
-use Rattle.desk.proofs.values.value_end.Reads as value-end-reads
-use Rattle.desk.proofs.values.with.Reads as with-reads
-use Rattle.text.proofs.signed.Reads as signed-reads
 
 abbrev Inv-loop : tie.InvT-loop
 Inv-loop s v₀ at₀ v at = at ≤ length s + 1
@@ -18,63 +11,48 @@ Inv-loop s v₀ at₀ v at = at ≤ length s + 1
 abbrev μ-loop : tie.MeasureT-loop
 μ-loop s v₀ at₀ v at = length s + 1 - at
 
--- src/values.rt:42:5
 loop-holds : tie.Need-loop-holds Inv-loop μ-loop
 loop-holds c = search needs
 
--- src/values.rt:43:13
 value-end-requires : tie.Need-value-end-requires Inv-loop μ-loop
 value-end-requires c κs = search needs
 
--- src/values.rt:44:30
 sub-signed : tie.Need-sub-signed Inv-loop μ-loop
 sub-signed c = search needs
 
--- src/values.rt:44:30
 part-signed-start : tie.Need-part-signed-start Inv-loop μ-loop
 part-signed-start c = search needs
 
--- src/values.rt:44:30
 part-signed-end : tie.Need-part-signed-end Inv-loop μ-loop
 part-signed-end c = search needs
 
--- src/values.rt:44:13
 signed-requires : tie.Need-signed-requires Inv-loop μ-loop
 signed-requires c κs = search needs
 
--- src/values.rt:45:24
 enum-known-n : tie.Need-enum-known-n Inv-loop μ-loop
 enum-known-n c = search needs
 
--- src/values.rt:46:13
 enum-told : tie.Need-enum-told Inv-loop μ-loop
 enum-told c = search needs
 
--- src/values.rt:46:13
 nothing-requires : tie.Need-nothing-requires Inv-loop μ-loop
 nothing-requires c κs = search needs
 
--- src/values.rt:46:13
 returns : tie.Need-returns Inv-loop μ-loop
 returns c = search needs
 
--- src/values.rt:48:9
 with-requires : tie.Need-with-requires Inv-loop μ-loop
 with-requires c κs = search needs
 
--- src/values.rt:49:14
 add-at : tie.Need-add-at Inv-loop μ-loop
 add-at c = search needs
 
--- src/values.rt:42:5
 loop-less : tie.Need-loop-less Inv-loop μ-loop
 loop-less c = search needs
 
--- src/values.rt:42:5
 loop-again : tie.Need-loop-again Inv-loop μ-loop
 loop-again c = search needs
 
--- src/values.rt:36:1
 returns-2 : tie.Need-returns-2 Inv-loop μ-loop
 returns-2 c = search needs
 
