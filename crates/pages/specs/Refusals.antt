@@ -1,7 +1,7 @@
 -- 01, "Numbers given back": the number of each refusal.
 use Prim.Native.Nat.{ℕ}
 use Rattle.pages.specs.declared.Refusal.{Refusal}
-use Rattle.pages.specs.declared.Refusal.the-variants.{ChannelFree, Earlier, UnknownIdentifier, WrongLength, NoLabel, UncoveredBit, NoRawNumber, ShortBuffer, NoSuchPost, NoSuchChannel, ChannelTaken, LimitOutside, NoSignal, NotSetUp}
+use Rattle.pages.specs.declared.Refusal.the-variants.{ChannelFree, Earlier, UnknownIdentifier, WrongLength, NoLabel, UncoveredBit, NoRawNumber, ShortBuffer, NoSuchPost, NoSuchChannel, ChannelTaken, LimitOutside, NoSignal, NotSetUp, IllNumber, LogChannel, LogStandard, LogExtended, LogLength, LogTick}
 
 abbrev pub numberOf : Refusal → ℕ
 -- channel above 31, or held by no post
@@ -32,3 +32,16 @@ numberOf LimitOutside = 12
 numberOf NoSignal = 13
 -- post not set up
 numberOf NotSetUp = 14
+-- ---- 02, Req 01, the night log: "each get a refusal above 15"
+-- an ill-formed number: not in its shortest form, of more than five groups, or of more than 32 bits
+numberOf IllNumber = 16
+-- channel above 31
+numberOf LogChannel = 17
+-- standard identifier above 2,047
+numberOf LogStandard = 18
+-- extended identifier above 29 bits
+numberOf LogExtended = 19
+-- length above 9; in the writer 9 payload bytes count as above 9
+numberOf LogLength = 20
+-- length 9 with another identifier part than 0
+numberOf LogTick = 21

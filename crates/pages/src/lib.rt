@@ -16,7 +16,7 @@ use signals::change_number;
 use signals::judge_number;
 use signals::pack;
 
-// 01, "Numbers given back": a case for each number, in their order (`numberOf` in specs/).
+// 01, "Numbers given back": a case for each number, in their order (`numberOf` in specs/). Those of the night log (02, Req 01) follow.
 pub enum Refusal {
     ChannelFree,
     Earlier,
@@ -32,6 +32,12 @@ pub enum Refusal {
     LimitOutside,
     NoSignal,
     NotSetUp,
+    IllNumber,
+    LogChannel,
+    LogStandard,
+    LogExtended,
+    LogLength,
+    LogTick,
 }
 
 // 01: "a row holds message, start, width, signedness and labels or none". The message is its kind, its identifier and its length in bytes;
@@ -98,6 +104,12 @@ pub fn refusal_number(w: Refusal) -> u32
         Refusal::LimitOutside => 12,
         Refusal::NoSignal => 13,
         Refusal::NotSetUp => 14,
+        Refusal::IllNumber => 16,
+        Refusal::LogChannel => 17,
+        Refusal::LogStandard => 18,
+        Refusal::LogExtended => 19,
+        Refusal::LogLength => 20,
+        Refusal::LogTick => 21,
     }
 }
 

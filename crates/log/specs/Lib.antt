@@ -1,0 +1,5 @@
+pub mod Number
+pub mod Record
+pub mod Reading
+pub mod Scan
+pub mod Writing
