@@ -1,2 +1,4 @@
 pub mod Numbers
 pub mod Stages
+pub mod Wholes
+pub mod Records
