@@ -1,58 +1,54 @@
+-- `log::scan_log` meets its contract: after each record the rest of the log, with the records so far, gives the answer for the whole.
+use mathlib.Core.Path.{refl}
+use Prim.Native.Nat.{_-_}
+use native.Mathlib.Omega.{arith}
+use lib.ListN.{length}
+use borrow.Author.Needs.{needs}
+use Rattle.log.specs.Scan.{scanOf}
+use Rattle.log.proofs.Scans.{Scanned, scan-turn, scan-more, scan-end}
 use Rattle.log.proofs.scan_log.Statement.{statement}
 use Rattle.log.proofs.scan_log.Tie as tie
-use Rattle.log.proofs.scan_log.Reads as reads
-use Rattle.log.proofs.scan_log.Lts as lts
-use Rattle.log.proofs.stage.record_from.Reads as record-from-reads
 
 abbrev Inv-loop : tie.InvT-loop
-Inv-loop s at₀ records₀ at records = ?
+Inv-loop s at₀ records₀ at records = Scanned s at records
 
 abbrev μ-loop : tie.MeasureT-loop
-μ-loop s at₀ records₀ at records = ?
+μ-loop s at₀ records₀ at records = length s - at
 
--- src/lib.rt:118:5
 loop-holds : tie.Need-loop-holds Inv-loop μ-loop
-loop-holds c = ?
+loop-holds c = (omega arith, omega arith, refl)
 
--- src/lib.rt:119:15
 record-from-requires : tie.Need-record-from-requires Inv-loop μ-loop
-record-from-requires c κs = ?
+record-from-requires c κs = c .before .loop .inv .0
 
--- src/lib.rt:120:26
 enum-known-e : tie.Need-enum-known-e Inv-loop μ-loop
-enum-known-e c = ?
+enum-known-e c = search needs
 
--- src/lib.rt:122:27
 add-records : tie.Need-add-records Inv-loop μ-loop
-add-records c = ?
+add-records c = search (needs, c .before .before .before .before .before .loop .inv .0, c .before .before .before .before .before .loop .inv .1)
 
--- src/lib.rt:118:5
 loop-less : tie.Need-loop-less Inv-loop μ-loop
-loop-less c = ?
+loop-less c = omega (arith, scan-more (c .before .before .before .before .before .before .before .args .s .now) (c .before .before .before .before .before .loop .at) (c .before .before .before .before .before .loop .records) (c .before .e .given .0 .0) (omega arith) (c .before .before .before .before .before .loop .inv) (c .before .before .before .record-from .ensures) (c .before .e .given .1) .1)
 
--- src/lib.rt:118:5
 loop-again : tie.Need-loop-again Inv-loop μ-loop
-loop-again c = ?
+loop-again c = scan-more (c .before .before .before .before .before .before .before .args .s .now) (c .before .before .before .before .before .loop .at) (c .before .before .before .before .before .loop .records) (c .before .e .given .0 .0) (omega arith) (c .before .before .before .before .before .loop .inv) (c .before .before .before .record-from .ensures) (c .before .e .given .1) .0
 
--- src/lib.rt:125:17
 enum-told : tie.Need-enum-told Inv-loop μ-loop
-enum-told c = ?
+enum-told c = search needs
 
--- src/lib.rt:125:17
 returns : tie.Need-returns Inv-loop μ-loop
-returns c = ?
+unfolding scanOf
+returns c = scan-turn (c .before .before .before .before .before .before .args .s .now) (c .before .before .before .before .loop .at) (c .before .before .before .before .loop .records) (omega arith) (c .before .before .before .before .loop .inv) (c .before .before .record-from .ensures) (c .enum-told .given .1) .0
 
--- src/lib.rt:127:24
 enum-known-why : tie.Need-enum-known-why Inv-loop μ-loop
-enum-known-why c = ?
+enum-known-why c = search needs
 
--- src/lib.rt:128:17
 returns-2 : tie.Need-returns-2 Inv-loop μ-loop
-returns-2 c = ?
+unfolding scanOf
+returns-2 c = scan-turn (c .before .before .before .before .before .before .before .args .s .now) (c .before .before .before .before .before .loop .at) (c .before .before .before .before .before .loop .records) (omega arith) (c .before .before .before .before .before .loop .inv) (c .before .before .before .record-from .ensures) (c .before .why .given .1) .0
 
--- src/lib.rt:113:1
 returns-3 : tie.Need-returns-3 Inv-loop μ-loop
-returns-3 c = ?
+returns-3 c = scan-end (c .before .before .before .args .s .now) (c .before .loop .at) (c .before .loop .records) (omega arith) (c .before .loop .inv)
 
 pub scan-log-spec : {M : Type 1} → statement M
 scan-log-spec =
