@@ -1,1 +1,4 @@
 pub mod Numbers
+pub mod Stores
+pub mod Writings
+pub mod Ends
