@@ -103,9 +103,9 @@ short-loggable x out h e =
     let l = length (recordBytes x) in
     let s = judged-later x (cond (ltb (length out) l) (Refused ShortBuffer) (Bytes l)) (Refused ShortBuffer) h later-short e in
     (s .0, tight (ltb (length out) l) refl (s .1)) where
-  tight : (b : Bool) → ltb (length out) (length (recordBytes x)) ≡ b → cond b (Refused ShortBuffer) (Bytes (length (recordBytes x))) ≡ Refused ShortBuffer → length out < length (recordBytes x)
-  tight true t q = ltb-true (length out) (length (recordBytes x)) t
-  tight false t q = absurd (let z : _≡_ {A = ℕ} 0 1 = cc in omega arith)
+      tight : (b : Bool) → ltb (length out) (length (recordBytes x)) ≡ b → cond b (Refused ShortBuffer) (Bytes (length (recordBytes x))) ≡ Refused ShortBuffer → length out < length (recordBytes x)
+      tight true t q = ltb-true (length out) (length (recordBytes x)) t
+      tight false t q = absurd (let z : _≡_ {A = ℕ} 0 1 = cc in omega arith)
 
 -- ---- the buffer
 
