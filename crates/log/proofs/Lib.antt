@@ -4,3 +4,6 @@ pub mod Wholes
 pub mod Records
 pub mod Logs
 pub mod Scans
+pub mod Ends
+pub mod Stores
+pub mod Writings
