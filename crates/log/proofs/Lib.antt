@@ -7,3 +7,4 @@ pub mod Scans
 pub mod Ends
 pub mod Stores
 pub mod Writings
+pub mod Bads
