@@ -8,3 +8,4 @@ pub mod Ends
 pub mod Stores
 pub mod Writings
 pub mod Bads
+pub mod Pieces
