@@ -9,3 +9,4 @@ pub mod Stores
 pub mod Writings
 pub mod Bads
 pub mod Pieces
+pub mod Nights

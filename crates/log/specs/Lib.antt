@@ -4,3 +4,4 @@ pub mod Reading
 pub mod Malformed
 pub mod Scan
 pub mod Writing
+pub mod Readings
