@@ -8,9 +8,10 @@ use native.Mathlib.Omega.{arith}
 use lib.ListN.{length, take, drop}
 use lib.Seq.{sets, sets-eq, length-sets, take-at, drop-at}
 use lib.Dec.{ltb, leb}
-use borrow.Author.Tests.{lt-ltb, le-ltb, le-leb, lt-leb, ltb-true, ltb-false, leb-false}
+use borrow.Author.Tests.{lt-ltb, le-ltb, lt-leb, ltb-true, ltb-false, leb-false}
 use Rattle.pages.specs.declared.Refusal.{Refusal}
-use Rattle.pages.specs.declared.Refusal.the-variants.{LogChannel, LogStandard, LogExtended, LogLength, ShortBuffer}
+use Rattle.pages.specs.declared.Refusal.the-variants.{LogChannel, LogLength, ShortBuffer}
+use Rattle.pages.specs.Refusals.{numberOf}
 use Rattle.log.specs.declared.Logged.{Logged}
 use Rattle.log.specs.declared.Logged.the-variants.{Bytes, Refused}
 use Rattle.log.specs.Number.{InWord}
@@ -49,38 +50,29 @@ cond-else : (b : Bool) (x y r : Logged) → (x ≡ r → ⊥) → cond b x y ≡
 cond-else true x y r n e = absurd (n e)
 cond-else false x y r n e = (refl, e)
 
--- an answer of the buffer's judge, not of the record's
-Later : Logged → Type 0
-Later r = (v : Refusal) → (v ≡ ShortBuffer → ⊥) → Refused v ≡ r → ⊥
+-- 02: "each get a refusal above 15"; r is none of them
+abbrev Later : Logged → Type 0
+Later r = (v : Refusal) → 15 < numberOf v → Refused v ≡ r → ⊥
 
 later-bytes : (n : ℕ) → Later (Bytes n)
-unfolding Later
 later-bytes n v h e = let z : _≡_ {A = ℕ} 0 1 = cc in omega arith
 
 later-short : Later (Refused ShortBuffer)
-unfolding Later
-later-short v h e = h (cc)
+later-short v h e = let z : v ≡ ShortBuffer = cc in omega (arith, ap numberOf z)
 
-above-not-short : (x : Bool) → aboveOf x ≡ ShortBuffer → ⊥
-above-not-short true e = let z : _≡_ {A = ℕ} 0 1 = cc in omega arith
-above-not-short false e = let z : _≡_ {A = ℕ} 0 1 = cc in omega arith
-
-channel-not-short : LogChannel ≡ ShortBuffer → ⊥
-channel-not-short e = let z : _≡_ {A = ℕ} 0 1 = cc in omega arith
-
-length-not-short : LogLength ≡ ShortBuffer → ⊥
-length-not-short e = let z : _≡_ {A = ℕ} 0 1 = cc in omega arith
+above-high : (x : Bool) → 15 < numberOf (aboveOf x)
+above-high true = omega arith
+above-high false = omega arith
 
 judged-later : (x : Rec) (w r : Logged) → Timed x → Later r → judged x w ≡ r → Loggable x × (w ≡ r)
-unfolding Later
 judged-later (tick t c) w r h g e =
-    let s = cond-else (ltb 31 c) (Refused LogChannel) w r (g LogChannel channel-not-short) e in
+    let s = cond-else (ltb 31 c) (Refused LogChannel) w r (g LogChannel (omega arith)) e in
     ((h, ltb-false 31 c (s .0)), s .1)
 judged-later (frame t c x i p) w r h g e =
     let rest = cond (ltb 8 (length p)) (Refused LogLength) w in
-    let s₁ = cond-else (ltb 31 c) (Refused LogChannel) (cond (leb (identifiers x) i) (Refused (aboveOf x)) rest) r (g LogChannel channel-not-short) e in
-    let s₂ = cond-else (leb (identifiers x) i) (Refused (aboveOf x)) rest r (g (aboveOf x) (above-not-short x)) (s₁ .1) in
-    let s₃ = cond-else (ltb 8 (length p)) (Refused LogLength) w r (g LogLength length-not-short) (s₂ .1) in
+    let s₁ = cond-else (ltb 31 c) (Refused LogChannel) (cond (leb (identifiers x) i) (Refused (aboveOf x)) rest) r (g LogChannel (omega arith)) e in
+    let s₂ = cond-else (leb (identifiers x) i) (Refused (aboveOf x)) rest r (g (aboveOf x) (above-high x)) (s₁ .1) in
+    let s₃ = cond-else (ltb 8 (length p)) (Refused LogLength) w r (g LogLength (omega arith)) (s₂ .1) in
     ((h, ltb-false 31 c (s₁ .0), leb-false (identifiers x) i (s₂ .0), ltb-false 8 (length p) (s₃ .0)), s₃ .1)
 
 roomy : (b : Bool) (l m n : ℕ) → ltb m l ≡ b → cond b (Refused ShortBuffer) (Bytes l) ≡ Bytes n → (n ≡ l) × (n ≤ m)

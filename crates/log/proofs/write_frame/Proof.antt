@@ -13,14 +13,6 @@ use Rattle.log.proofs.Ends.{frame-channel, frame-above, frame-long, sho
 use Rattle.log.proofs.Stores.{head-le, frame-length, frame-bytes, body-stored}
 use Rattle.log.proofs.write_frame.Statement.{statement}
 use Rattle.log.proofs.write_frame.Tie as tie
-use Rattle.log.proofs.write_frame.Reads as reads
-use Rattle.log.proofs.write_frame.Lts as lts
-use Rattle.log.proofs.above.Reads as above-reads
-use Rattle.log.proofs.has_identifier.Reads as has-identifier-reads
-use Rattle.log.proofs.store.head_size.Reads as head-size-reads
-use Rattle.log.proofs.store.part_of.Reads as part-of-reads
-use Rattle.log.proofs.store.store_bytes.Reads as store-bytes-reads
-use Rattle.log.proofs.store.store_head.Reads as store-head-reads
 
 -- what `has_identifier` told
 has : (i : ℕ) (x : Bool) (r : Bool) → r ≡ ltb i (identifiers x) → not r ≡ false → i < identifiers x
