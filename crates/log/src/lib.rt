@@ -132,6 +132,9 @@ pub fn scan_log(s: &[u8]) -> Scan
     Scan::End { records }
 }
 
+// 02: "channels above 31 [..] get a refusal"
+const LAST_CHANNEL: u32 = 31;
+
 fn above(extended: bool) -> Refusal
     ensures { λ r. ⌜ r ≡ aboveOf extended ⌝ }
 {
@@ -161,7 +164,7 @@ pub fn write_frame(
         ⌜ (r ≡ writtenOf (frame time channel extended id (now (payload .entry))) (now (out .entry)))
         × (now (out .exit) ≡ bufferAfter (frame time channel extended id (now (payload .entry))) (now (out .entry))) ⌝ }
 {
-    if 31 < channel {
+    if LAST_CHANNEL < channel {
         return Logged::Refused(Refusal::LogChannel);
     }
     if !has_identifier(id, extended) {
@@ -185,7 +188,7 @@ pub fn write_frame(
 pub fn write_tick(time: u32, channel: u32, out: &mut [u8]) -> Logged
     ensures { λ r. ⌜ (r ≡ writtenOf (tick time channel) (now (out .entry))) × (now (out .exit) ≡ bufferAfter (tick time channel) (now (out .entry))) ⌝ }
 {
-    if 31 < channel {
+    if LAST_CHANNEL < channel {
         return Logged::Refused(Refusal::LogChannel);
     }
     let size = head_size(time, channel, 0, 9);

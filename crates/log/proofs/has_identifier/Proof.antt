@@ -1,8 +1,6 @@
 -- `log::has_identifier` meets its contract: each branch compares with the count of its kind of identifier.
 use Rattle.log.proofs.has_identifier.Statement.{statement}
 use Rattle.log.proofs.has_identifier.Tie as tie
-use Rattle.log.proofs.has_identifier.Reads as reads
-use Rattle.log.proofs.has_identifier.Lts as lts
 
 returns : tie.Need-returns
 returns c = rw (c .if1 .taken)

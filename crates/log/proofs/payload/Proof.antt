@@ -8,8 +8,6 @@ use borrow.Author.Needs.{needs}
 use borrow.Author.Tests.{le-leb, lt-leb, lt-ltb, le-ltb}
 use Rattle.log.proofs.payload.Statement.{statement}
 use Rattle.log.proofs.payload.Tie as tie
-use Rattle.log.proofs.payload.Reads as reads
-use Rattle.log.proofs.payload.Lts as lts
 
 sub-result : tie.Need-sub-result
 sub-result c = search needs

@@ -8,10 +8,6 @@ use Rattle.log.proofs.Ends.{tick-channel, short, logged}
 use Rattle.log.proofs.Stores.{tick-length, tick-bytes}
 use Rattle.log.proofs.write_tick.Statement.{statement}
 use Rattle.log.proofs.write_tick.Tie as tie
-use Rattle.log.proofs.write_tick.Reads as reads
-use Rattle.log.proofs.write_tick.Lts as lts
-use Rattle.log.proofs.store.head_size.Reads as head-size-reads
-use Rattle.log.proofs.store.store_head.Reads as store-head-reads
 
 returns : tie.Need-returns
 returns c = let a = c .before .before .args in tick-channel (a .time) (a .channel) (a .out .now) (c .if1 .taken)

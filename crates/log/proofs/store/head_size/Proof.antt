@@ -4,8 +4,6 @@ use borrow.Author.Needs.{needs}
 use Rattle.log.proofs.Stores.{head-le}
 use Rattle.log.proofs.store.head_size.Statement.{statement}
 use Rattle.log.proofs.store.head_size.Tie as tie
-use Rattle.log.proofs.store.head_size.Reads as reads
-use Rattle.log.proofs.store.head_size.Lts as lts
 
 number-size-requires : tie.Need-number-size-requires
 number-size-requires c κs = search needs

@@ -3,8 +3,6 @@ use native.Mathlib.Omega.{arith}
 use Rattle.log.proofs.Stores.{identifiers-top}
 use Rattle.log.proofs.store.part_of.Statement.{statement}
 use Rattle.log.proofs.store.part_of.Tie as tie
-use Rattle.log.proofs.store.part_of.Reads as reads
-use Rattle.log.proofs.store.part_of.Lts as lts
 
 mul-result : tie.Need-mul-result
 mul-result c = omega (arith, c .before .pre, identifiers-top (c .before .args .extended))

@@ -1,14 +1,11 @@
 -- `log::store::store_bytes` meets its contract: what is stored and what is left to store are together the bytes.
 use Prim.Native.Nat.{_-_}
-use mathlib.Core.Path.{_∙_}
 use native.Mathlib.Omega.{arith}
 use lib.ListN.{length}
 use borrow.Author.Needs.{needs}
 use Rattle.log.proofs.Stores.{Copied, copied-none, copied-more, copied-all}
 use Rattle.log.proofs.store.store_bytes.Statement.{statement}
 use Rattle.log.proofs.store.store_bytes.Tie as tie
-use Rattle.log.proofs.store.store_bytes.Reads as reads
-use Rattle.log.proofs.store.store_bytes.Lts as lts
 
 abbrev Inv-loop : tie.InvT-loop
 Inv-loop out₀ at bytes i₀ out i = Copied out₀ at bytes out i

@@ -3,9 +3,6 @@ use borrow.Author.Needs.{needs}
 use Rattle.log.proofs.Stores.{head-stored}
 use Rattle.log.proofs.store.store_head.Statement.{statement}
 use Rattle.log.proofs.store.store_head.Tie as tie
-use Rattle.log.proofs.store.store_head.Reads as reads
-use Rattle.log.proofs.store.store_head.Lts as lts
-use Rattle.log.proofs.number.store_number.Reads as store-number-reads
 
 store-number-requires : tie.Need-store-number-requires
 store-number-requires c κs = search needs
