@@ -1,11 +1,11 @@
 // The steps on a frame by itself: read, change, write.
-use crate::answer;
-use crate::message;
 use crate::step::field_end;
-use crate::values;
-use crate::values::Made;
 use messages::Message;
 use messages::Reading;
+use notation::answer;
+use notation::message;
+use notation::values;
+use notation::values::Made;
 use pages::Judged;
 use pages::Refusal;
 use pages::Written;

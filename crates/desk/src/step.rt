@@ -1,10 +1,10 @@
 // A line of a script, and its answer.
 ghost use Prim.Native.Nat.{_≤_};
 ghost use lib.ListN.{length};
-use crate::answer;
 use crate::codec;
 use crate::watching;
-use crate::words;
+use notation::answer;
+use notation::words;
 use text::Pen;
 use watch::Table;
 

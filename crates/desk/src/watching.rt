@@ -1,8 +1,8 @@
 // The steps on the table: setup, release, frame, tick, record.
-use crate::answer;
 use crate::both;
-use crate::record;
 use crate::step::Line;
+use notation::answer;
+use notation::record;
 use text::Bytes;
 use text::Field;
 use text::Pen;

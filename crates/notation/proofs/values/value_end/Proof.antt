@@ -1,7 +1,7 @@
--- `desk::values::value_end` meets its contract, by what `part_end` ensures.
+-- `notation::values::value_end` meets its contract, by what `part_end` ensures.
 use borrow.Author.Needs.{needs}
-use Rattle.desk.proofs.values.value_end.Statement.{statement}
-use Rattle.desk.proofs.values.value_end.Tie as tie
+use Rattle.notation.proofs.values.value_end.Statement.{statement}
+use Rattle.notation.proofs.values.value_end.Tie as tie
 
 part-end-requires : tie.Need-part-end-requires
 part-end-requires c κs = search needs
