@@ -125,23 +125,9 @@ fn has_label(z: i64, number: u8) -> bool {
 // ---- the messages
 
 fn status(f: [i64; 8]) -> Made {
-    if !is_word(f[0]) {
-        return Made::Nothing;
-    }
-    if !is_short(f[1]) {
-        return Made::Nothing;
-    }
-    if !is_short(f[2]) {
-        return Made::Nothing;
-    }
-    if !is_short(f[3]) {
-        return Made::Nothing;
-    }
     let enable = labels::enable_of(natural(f[4]));
-    if !has_label(f[4], labels::enable_number(enable)) {
-        return Made::Nothing;
-    }
-    if !is_word(f[5]) {
+    let sized = is_word(f[0]) & is_short(f[1]) & is_short(f[2]) & is_short(f[3]) & is_word(f[5]);
+    if !(sized & has_label(f[4], labels::enable_number(enable))) {
         return Made::Nothing;
     }
     Made::Message(Message::Status(PowerModulesStatus {
@@ -155,16 +141,7 @@ fn status(f: [i64; 8]) -> Made {
 }
 
 fn parameters(f: [i64; 8]) -> Made {
-    if !is_word(f[0]) {
-        return Made::Nothing;
-    }
-    if !is_word(f[1]) {
-        return Made::Nothing;
-    }
-    if !is_word(f[2]) {
-        return Made::Nothing;
-    }
-    if !is_short(f[3]) {
+    if !(is_word(f[0]) & is_word(f[1]) & is_word(f[2]) & is_short(f[3])) {
         return Made::Nothing;
     }
     Made::Message(Message::Parameters(DcPowerParameters {
@@ -185,11 +162,9 @@ fn controller(z: i64) -> Made {
 
 fn session(p: i64, q: i64) -> Made {
     let protocol = labels::protocol_of(natural(p));
-    if !has_label(p, labels::protocol_number(protocol)) {
-        return Made::Nothing;
-    }
     let plug = labels::plug_of(natural(q));
-    if !has_label(q, labels::plug_number(plug)) {
+    if !(has_label(p, labels::protocol_number(protocol))
+        & has_label(q, labels::plug_number(plug))) {
         return Made::Nothing;
     }
     Made::Message(Message::Session(NewChargeSession { protocol, plug }))
@@ -204,32 +179,16 @@ fn change(z: i64) -> Made {
 }
 
 fn control(f: [i64; 8]) -> Made {
-    if !is_word(f[0]) {
-        return Made::Nothing;
-    }
-    if !is_short(f[1]) {
-        return Made::Nothing;
-    }
-    if !is_short(f[2]) {
-        return Made::Nothing;
-    }
     let function = labels::function_of(natural(f[3]));
-    if !has_label(f[3], labels::function_number(function)) {
-        return Made::Nothing;
-    }
-    if !is_bit(f[4]) {
-        return Made::Nothing;
-    }
     let mode = labels::mode_of(natural(f[5]));
-    if !has_label(f[5], labels::mode_number(mode)) {
-        return Made::Nothing;
-    }
     let contactors = labels::contactors_of(natural(f[6]));
-    if !has_label(f[6], labels::contactors_number(contactors)) {
-        return Made::Nothing;
-    }
     let lowering = labels::lowering_of(natural(f[7]));
-    if !has_label(f[7], labels::lowering_number(lowering)) {
+    let sized = is_word(f[0]) & is_short(f[1]) & is_short(f[2]) & is_bit(f[4]);
+    let labelled = has_label(f[3], labels::function_number(function))
+        & has_label(f[5], labels::mode_number(mode))
+        & has_label(f[6], labels::contactors_number(contactors))
+        & has_label(f[7], labels::lowering_number(lowering));
+    if !(sized & labelled) {
         return Made::Nothing;
     }
     Made::Message(Message::Control(DcPowerControl {
@@ -261,22 +220,8 @@ fn stop(z: i64) -> Made {
 }
 
 fn id(f: [i64; 8]) -> Made {
-    if !is_byte(f[0]) {
-        return Made::Nothing;
-    }
-    if !is_byte(f[1]) {
-        return Made::Nothing;
-    }
-    if !is_byte(f[2]) {
-        return Made::Nothing;
-    }
-    if !is_byte(f[3]) {
-        return Made::Nothing;
-    }
-    if !is_byte(f[4]) {
-        return Made::Nothing;
-    }
-    if !is_byte(f[5]) {
+    let front = is_byte(f[0]) & is_byte(f[1]) & is_byte(f[2]);
+    if !(front & is_byte(f[3]) & is_byte(f[4]) & is_byte(f[5])) {
         return Made::Nothing;
     }
     Made::Message(Message::Id(EvId {
