@@ -1,4 +1,4 @@
--- Fields of a line that stand together. desk.md: `CHANNEL TIME`, `ID x|s`, and `HEX` at the line's end.
+-- Fields of a line that stand together. desk.md: `CHANNEL TIME`, `ID x|s`; and `N` and `HEX` at the line's end.
 use Prim.Native.Nat.{ℕ}
 use mathlib.Core.Bool.{cond}
 use mathlib.Core.List.{List}
@@ -10,10 +10,20 @@ use Rattle.text.specs.declared.Field.{Field}
 use Rattle.text.specs.declared.Field.the-variants.{Bad, Is}
 use Rattle.text.specs.declared.Bytes.{Bytes}
 use Rattle.text.specs.declared.Bytes.the-variants.{Bad as NoBytes}
+use Rattle.notation.specs.declared.fields.Last.{Last}
+use Rattle.notation.specs.declared.fields.Last.the-variants.{Bad as NoLast, Is as IsLast}
 use Rattle.notation.specs.declared.fields.Stamp.{Stamp}
 use Rattle.notation.specs.declared.fields.Stamp.the-variants.{Bad as NoStamp, Is as IsStamp}
 use Rattle.notation.specs.declared.fields.Head.{Head}
 use Rattle.notation.specs.declared.fields.Head.the-variants.{Bad as NoHead, Is as IsHead}
+
+-- a field that the line ends with
+abbrev pub lastBy : List ℕ → Field → Last
+lastBy s Bad = NoLast
+lastBy s (Is n next) = cond (leb next (length s)) NoLast (IsLast n)
+
+unfoldable pub lastOf : List ℕ → ℕ → Last
+lastOf s at = lastBy s (fieldOf 10 s at)
 
 -- `TIME` behind its channel, and where the next field starts
 abbrev pub withTime : ℕ → Field → Stamp

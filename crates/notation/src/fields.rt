@@ -1,9 +1,15 @@
 // Fields of a line that stand together. `at` is where the first starts; `next` is where the one behind them does.
 ghost use mathlib.Core.Path.{_≡_};
 ghost use lib.ListN.{length};
-ghost use Rattle.notation.specs.Fields.{stampOf, headOf, restOf, restIn};
+ghost use Rattle.notation.specs.Fields.{lastOf, stampOf, headOf, restOf, restIn};
 use text::Bytes;
 use text::Field;
+
+// A number that the line ends with.
+pub enum Last {
+    Bad,
+    Is(u32),
+}
 
 // `CHANNEL TIME`
 pub enum Stamp {
@@ -23,6 +29,18 @@ pub enum Head {
         extended: bool,
         next: usize,
     },
+}
+
+pub fn take_last(s: &[u8], at: usize) -> Last
+    ensures { λ r. ⌜ r ≡ lastOf (now (s .entry)) at ⌝ }
+{
+    let Field::Is(n, next) = text::take_u32(s, at) else {
+        return Last::Bad;
+    };
+    if next <= s.len() {
+        return Last::Bad;
+    }
+    Last::Is(n)
 }
 
 pub fn take_stamp(s: &[u8], at: usize) -> Stamp

@@ -1,6 +1,4 @@
 // `VALUES` of a step: numbers joined by commas, and the message that they are the fields of.
-ghost use Prim.Native.Nat.{_≤_};
-ghost use lib.ListN.{length};
 use crate::message::Values;
 use messages::ChargeSessionFinished;
 use messages::ChargeStatusChange;
@@ -25,13 +23,6 @@ pub enum Made {
     Nothing,
 }
 
-fn value_end(s: &[u8], at: usize) -> usize
-    requires { ⌜ at ≤ length (now s) ⌝ }
-    ensures { λ r. ⌜ (at ≤ r) × (r ≤ length (now (s .entry))) ⌝ }
-{
-    text::part_end(s, at, b',')
-}
-
 // The numbers, counted up to 9; a count of 0 where one of them is none.
 pub fn taken(s: &[u8]) -> Values {
     let mut v = Values {
@@ -40,7 +31,7 @@ pub fn taken(s: &[u8]) -> Values {
     };
     let mut at = 0;
     while at <= s.len() {
-        let e = value_end(s, at);
+        let e = text::part_end(s, at, b',');
         let n = text::signed(&s[at..e]);
         let Signed::Is(z) = n else {
             return nothing();

@@ -14,8 +14,8 @@ abbrev μ-loop : tie.MeasureT-loop
 loop-holds : tie.Need-loop-holds Inv-loop μ-loop
 loop-holds c = search needs
 
-value-end-requires : tie.Need-value-end-requires Inv-loop μ-loop
-value-end-requires c κs = search needs
+part-end-requires : tie.Need-part-end-requires Inv-loop μ-loop
+part-end-requires c κs = search needs
 
 sub-signed : tie.Need-sub-signed Inv-loop μ-loop
 sub-signed c = search needs
@@ -63,7 +63,7 @@ taken-spec =
     Inv-loop
     μ-loop
     loop-holds
-    value-end-requires
+    part-end-requires
     sub-signed
     part-signed-start
     part-signed-end
