@@ -388,6 +388,13 @@ fn explaining() {
          explain R14 => E R14 post not set up
          explain R0 => ?
          explain R15 => ?
+         explain R16 => E R16 a number in the log that is not in its shortest form, or has more than five groups or 32 bits
+         explain R17 => E R17 a channel above 31 in a log record
+         explain R18 => E R18 a standard identifier above 2,047 in a log record
+         explain R19 => E R19 an extended identifier above 29 bits in a log record
+         explain R20 => E R20 a length above 9 in a log record, or more than 8 payload bytes to be logged
+         explain R21 => E R21 a tick's length, 9, with an identifier part other than 0
+         explain R22 => ?
          explain R01 => ?
          explain r1 => ?
          explain R => ?
