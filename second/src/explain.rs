@@ -31,9 +31,9 @@ const REFUSALS: [&str; 14] = [
     "post not set up",
 ];
 
+/// No step is refused with 15.
 const FIRST_LOG_REFUSAL: u32 = 16;
 
-/// No answer has a 15.
 const LOG_REFUSALS: [&str; 6] = [
     "a number in the log that is not in its shortest form, or has more than five groups or 32 bits",
     "a channel above 31 in a log record",
