@@ -203,7 +203,7 @@ mod tests {
                 Verdict::Differs(found) => {
                     let (lines, bytes) = (found.shortest.len(), joined(&found.shortest).len());
                     // A log stands by itself, and little of it is needed.
-                    let few = if name.starts_with("log-") { lines == 1 && bytes <= 20 } else { lines <= 6 };
+                    let few = if name.starts_with("log-") { lines == 1 && bytes <= 40 } else { lines <= 6 };
                     assert!(few, "{name}: {lines} lines, {bytes} bytes");
                 }
             }

@@ -1,5 +1,6 @@
 //! Night logs to read: whole, cut, damaged, and with each part bad in each way; and records to write.
 
+use super::stateless::buffer;
 use super::Generator;
 use crate::fields::hex;
 use crate::log;
@@ -33,7 +34,7 @@ impl Generator {
         let flaws = rng.pick(&[0, 0, 0, 0, 0, 0, 1, 1, 2, 2, 2, 2, 4, 4, 4, 3, 5, 6, 7]);
         let (time, channel) = (time(rng), if flaws & 1 != 0 { rng.pick(&CHANNELS_BEYOND) } else { channel(rng) });
         if rng.chance(15) {
-            let buffer = buffer(rng, &Arrival { channel, time, frame: None });
+            let buffer = buffer(rng, log::bytes(&Arrival { channel, time, frame: None }).len());
             return format!("logw t {time} {channel} {}", hex(&buffer));
         }
         let extended = rng.chance(50);
@@ -46,7 +47,7 @@ impl Generator {
         let length = if flaws & 4 != 0 { rng.pick(&[9, 9, 10, 11, 64, 128, 300]) } else { rng.below(9) };
         let payload = rng.bytes(length as usize);
         let frame = Some(Frame { id, extended, bytes: &payload });
-        let buffer = buffer(rng, &Arrival { channel, time, frame });
+        let buffer = buffer(rng, log::bytes(&Arrival { channel, time, frame }).len());
         let form = if extended { "x" } else { "s" };
         format!("logw f {time} {channel} {id:x} {form} {} {}", hex(&payload), hex(&buffer))
     }
@@ -74,6 +75,10 @@ fn with_a_bad_record(rng: &mut Rng) -> Vec<u8> {
     let mut parts = parts(rng);
     let place = rng.pick(&[0, 1, 2, 2, 2, 3, 3, 3, 3]);
     parts[place] = bad_part(rng, place);
+    if place == 3 && rng.chance(40) {
+        // Close to a tick's 0, for length 9.
+        parts[2] = vec![rng.pick(&[1, 1, 2, 3, 126])];
+    }
     if rng.chance(25) {
         let other = rng.below(4) as usize;
         parts[other] = bad_part(rng, other);
@@ -120,13 +125,17 @@ fn bad_part(rng: &mut Rng, place: usize) -> Vec<u8> {
 fn ill_formed(rng: &mut Rng) -> Vec<u8> {
     match rng.below(4) {
         0 => log::groups(rng.pick(&[1 << 32, (1 << 32) + 1, 1 << 33, (1 << 35) - 1])),
-        1 => log::groups(rng.pick(&[1 << 35, (1 << 35) + 5, u64::MAX])),
+        1 => {
+            let mut groups = log::groups(rng.pick(&[1 << 35, (1 << 35) + 5, u64::MAX]));
+            // The fifth group decides already, also where the sixth is cut off.
+            groups.truncate(rng.pick(&[5, 5, 6, 10]));
+            groups
+        }
         _ => {
             let mut groups = log::groups(u64::from(time(rng)));
-            let surplus = rng.pick(&[1, 1, 1, 2, 3, 4, 5]);
-            groups.resize(groups.len() + surplus, 0);
-            let last = groups.len() - 1;
-            groups[..last].iter_mut().for_each(|group| *group |= 0x80);
+            let length = rng.pick(&[0, 0, 5, 5, 6]).max(groups.len() + 1);
+            groups.resize(length, 0);
+            groups[..length - 1].iter_mut().for_each(|group| *group |= 0x80);
             groups
         }
     }
@@ -177,23 +186,5 @@ fn identifier(rng: &mut Rng, extended: bool) -> u32 {
         rng.pick(edges)
     } else {
         rng.below(most) as u32
-    }
-}
-
-/// Empty, short, exactly long enough and longer, with something in it.
-fn buffer(rng: &mut Rng, record: &Arrival) -> Vec<u8> {
-    let exact = log::bytes(record).len();
-    let length = match rng.below(10) {
-        0 => 0,
-        1 | 2 => exact - 1,
-        3 => rng.below(exact as u64) as usize,
-        4 | 5 => exact + 1,
-        6 => exact + 57,
-        _ => exact,
-    };
-    if rng.chance(30) {
-        vec![0xff; length]
-    } else {
-        rng.bytes(length)
     }
 }
