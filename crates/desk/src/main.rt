@@ -3,7 +3,9 @@
 mod both; // both.rt: a step on the table, by value or lent
 mod watching; // watching.rt: the steps on the table
 mod codec; // codec.rt: the steps on a frame by itself
+mod logging; // logging.rt: the steps of the night log
 mod step; // step.rt: a line and its answer
+mod paper; // paper.rt: the output buffer
 
 use notation::answer;
 use text::Pen;
@@ -22,30 +24,6 @@ struct Desk {
 // desk.md: "a line over 65,535 bytes"
 const LONGEST: usize = 65535;
 
-// What an answer may have beyond its line's length: a record, or every finding in words.
-const SPARE: usize = 2048;
-
-fn flushed(pen: Pen, out: &[u8]) -> Pen {
-    let at = pen.at;
-    if at <= out.len() {
-        if !io::write_all(libc::STDOUT_FILENO, &out[0..at]) {
-            os::fail(b"desk: writing standard output");
-        }
-    }
-    Pen { at: 0, full: false }
-}
-
-// The pen with room for the answer to a line of this length: no answer is longer than its line and SPARE.
-fn with_room(pen: Pen, out: &[u8], have: usize) -> Pen {
-    if pen.at > 32768 {
-        return flushed(pen, out);
-    }
-    if have > 32768 - SPARE {
-        return flushed(pen, out);
-    }
-    pen
-}
-
 // A comment may be of any length.
 fn is_comment(line: &[u8], have: usize) -> bool {
     if have == 0 {
@@ -63,7 +41,7 @@ fn ended(desk: Desk, line: &[u8], room: &mut [u8], out: &mut [u8]) -> Desk {
     let lent = desk.lent;
     let table = desk.table;
     let p = desk.pen;
-    let pen = with_room(p, out, have);
+    let pen = paper::with_room(p, out, have);
     if desk.over {
         if is_comment(line, have) {
             return Desk {
@@ -152,11 +130,11 @@ fn run(desk: Desk, piece: &mut [u8], line: &mut [u8], room: &mut [u8], out: &mut
 fn finish(desk: Desk, line: &[u8], room: &mut [u8], out: &mut [u8]) {
     let have = desk.have;
     if have == 0 {
-        flushed(desk.pen, out);
+        paper::flushed(desk.pen, out);
         return;
     }
     let d = ended(desk, line, room, out);
-    flushed(d.pen, out);
+    paper::flushed(d.pen, out);
 }
 
 fn serve(lent: bool) {

@@ -1,5 +1,6 @@
 // A line of a script, and its answer.
 use crate::codec;
+use crate::logging;
 use crate::watching;
 use notation::answer;
 use notation::words;
@@ -70,6 +71,12 @@ fn shown(
     }
     if check::same(word, b"write") {
         return codec::write(s, at, room, out, pen);
+    }
+    if check::same(word, b"logw") {
+        return logging::write(s, at, room, out, pen);
+    }
+    if check::same(word, b"logr") {
+        return logging::read(s, at, room, out, pen);
     }
     if check::same(word, b"explain") {
         return words::explain(s, at, out, pen);

@@ -1,0 +1,32 @@
+// The output buffer, on its way to standard output.
+use text::Pen;
+
+const HALF: usize = 32768;
+
+// What an answer may have beyond its line's length: a record, or every finding in words. A log's answer goes out between its records.
+const SPARE: usize = 2048;
+
+pub fn flushed(pen: Pen, out: &[u8]) -> Pen {
+    let at = pen.at;
+    if at <= out.len() {
+        if !io::write_all(libc::STDOUT_FILENO, &out[0..at]) {
+            os::fail(b"desk: writing standard output");
+        }
+    }
+    Pen { at: 0, full: false }
+}
+
+pub fn half_full(pen: Pen, out: &[u8]) -> Pen {
+    if pen.at > HALF {
+        return flushed(pen, out);
+    }
+    pen
+}
+
+// The pen with room for the answer to a line of this length: no answer is longer than its line and SPARE.
+pub fn with_room(pen: Pen, out: &[u8], have: usize) -> Pen {
+    if have > HALF - SPARE {
+        return flushed(pen, out);
+    }
+    half_full(pen, out)
+}
