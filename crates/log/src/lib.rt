@@ -132,7 +132,7 @@ pub fn scan_log(s: &[u8]) -> Scan
     Scan::End { records }
 }
 
-// 02: "channels above 31 [..] get a refusal"
+// 02 refuses "channels above 31".
 const LAST_CHANNEL: u32 = 31;
 
 fn above(extended: bool) -> Refusal
