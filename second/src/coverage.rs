@@ -3,16 +3,23 @@
 use std::collections::BTreeMap;
 use std::fmt;
 
-const WORDS: [&[u8]; 9] =
-    [b"setup", b"release", b"frame", b"tick", b"record", b"read", b"change", b"write", b"explain"];
+const WORDS: [&[u8]; 11] =
+    [b"setup", b"release", b"frame", b"tick", b"record", b"read", b"change", b"write", b"explain", b"logr", b"logw"];
 
 /// Refusal 6 cannot occur: every bit of the nine messages is covered (reading M1).
 const REFUSALS: [u32; 13] = [1, 2, 3, 4, 5, 7, 8, 9, 10, 11, 12, 13, 14];
+
+/// The writer and the reader give some of the same refusals, so what each comes to is counted apart.
+const LOGS: [&str; 14] = [
+    "logr END", "logr CUT", "logr R16", "logr R17", "logr R18", "logr R19", "logr R20", "logr R21", "logw A",
+    "logw R8", "logw R17", "logw R18", "logw R19", "logw R20",
+];
 
 #[derive(Default)]
 pub struct Coverage {
     steps: BTreeMap<&'static str, u64>,
     refusals: BTreeMap<u32, u64>,
+    logs: BTreeMap<String, u64>,
     findings: [u64; 11],
     clean: u64,
     accepted: u64,
@@ -28,6 +35,7 @@ impl Coverage {
         match answer.split_first() {
             Some((b'?', _)) => self.no_step += 1,
             Some((b'X', _)) => self.no_message += 1,
+            _ if matches!(word, "logr" | "logw") => *self.logs.entry(log_outcome(word, answer)).or_default() += 1,
             Some((b'R', rest)) => *self.refusals.entry(leading_number(rest)).or_default() += 1,
             Some((b'A', rest)) if matches!(word, "frame" | "tick") => self.count_findings(leading_number(rest)),
             _ => self.accepted += 1,
@@ -47,6 +55,9 @@ impl Coverage {
         let findings = (1..).zip(self.findings).filter(|(_, count)| *count == 0);
         let mut missing: Vec<String> = refusals.map(|number| format!("R{number}")).collect();
         missing.extend(findings.map(|(number, _)| format!("F{number}")));
+        missing.extend(
+            LOGS.iter().filter(|outcome| !self.logs.contains_key(**outcome)).map(|outcome| outcome.to_string()),
+        );
         missing.extend((self.no_step == 0).then(|| "?".to_string()));
         missing.extend((self.no_message == 0).then(|| "X".to_string()));
         missing
@@ -67,8 +78,20 @@ impl fmt::Display for Coverage {
         for (number, count) in (1..).zip(self.findings) {
             write!(out, " F{number} {count}")?;
         }
+        write!(out, "\nlogs:    ")?;
+        for (outcome, count) in &self.logs {
+            write!(out, " {outcome} {count}")?;
+        }
         write!(out, "\nother:    accepted {} ? {} X {}", self.accepted, self.no_step, self.no_message)
     }
+}
+
+/// The kind of ending of a log that was read, or the first field of what writing a record came to.
+fn log_outcome(word: &str, answer: &[u8]) -> String {
+    let mut fields = answer.split(|&byte| byte == b' ');
+    let field = if word == "logr" { fields.next_back() } else { fields.next() };
+    let kind = field.and_then(|field| field.split(|&byte| byte == b'@').next()).unwrap_or_default();
+    format!("{word} {}", String::from_utf8_lossy(kind))
 }
 
 fn leading_number(text: &[u8]) -> u32 {

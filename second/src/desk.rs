@@ -5,6 +5,8 @@ use std::io::{self, BufRead, Write};
 use crate::codec::{self, Refusal};
 use crate::explain;
 use crate::fields::{bytes, extended, hex, identifier, natural, number, values};
+use crate::log::{self, Reader, Writer};
+use crate::log_line;
 use crate::pages;
 use crate::posts::{Arrival, Frame, Table};
 use crate::record;
@@ -13,13 +15,26 @@ use crate::rules::Limits;
 /// A longer line is no step.
 pub const LONGEST: usize = 65_535;
 
+/// What a script runs on.
+pub struct Desk {
+    pub table: Table,
+    pub log_writer: Writer,
+    pub log_reader: Reader,
+}
+
+impl Desk {
+    pub fn new() -> Desk {
+        Desk { table: Table::new(), log_writer: log::write, log_reader: log::read }
+    }
+}
+
 /// Blank lines and comments are no steps and get no answer.
 pub fn is_step(line: &[u8]) -> bool {
     !matches!(line.first(), None | Some(b'#'))
 }
 
 /// Answers a whole script, line by line as it comes.
-pub fn run(mut script: impl BufRead, mut answers: impl Write, table: &mut Table) -> io::Result<()> {
+pub fn run(mut script: impl BufRead, mut answers: impl Write, desk: &mut Desk) -> io::Result<()> {
     let mut line = Vec::new();
     loop {
         line.clear();
@@ -30,21 +45,29 @@ pub fn run(mut script: impl BufRead, mut answers: impl Write, table: &mut Table)
             line.pop();
         }
         if is_step(&line) {
-            writeln!(answers, "{}", answer(table, &line))?;
+            writeln!(answers, "{}", answer(desk, &line))?;
         }
     }
 }
 
 /// The answer to one step.
-pub fn answer(table: &mut Table, line: &[u8]) -> String {
-    let known = if line.len() > LONGEST { None } else { step(table, line) };
+pub fn answer(desk: &mut Desk, line: &[u8]) -> String {
+    let known = if line.len() > LONGEST { None } else { step(desk, line) };
     known.unwrap_or_else(|| "?".to_string())
 }
 
 /// `None` where the line is no step.
-fn step(table: &mut Table, line: &[u8]) -> Option<String> {
+fn step(desk: &mut Desk, line: &[u8]) -> Option<String> {
     let fields: Vec<&[u8]> = line.split(|&byte| byte == b' ').collect();
-    match fields[..] {
+    match fields[0] {
+        b"logw" => log_write(desk.log_writer, &fields[1..]),
+        b"logr" => log_read(desk.log_reader, &fields[1..]),
+        _ => table_step(&mut desk.table, &fields),
+    }
+}
+
+fn table_step(table: &mut Table, fields: &[&[u8]]) -> Option<String> {
+    match *fields {
         [b"setup", post, channel, volt, charge, discharge, silence] => {
             let (post, channel) = (natural(post)?, natural(channel)?);
             let limits = Limits {
@@ -104,6 +127,28 @@ fn write(id: u32, extended: bool, values: &[i64], mut buffer: Vec<u8>) -> Option
     let written = codec::write(page, values, &mut buffer);
     let outcome = said(written, |()| format!("A {id:x} {}", page.len));
     Some(format!("{outcome} {}", hex(&buffer)))
+}
+
+fn log_write(writer: Writer, fields: &[&[u8]]) -> Option<String> {
+    let (time, channel, frame, buffer) = match *fields {
+        [b"t", time, channel, buffer] => (time, channel, None, buffer),
+        [b"f", time, channel, id, form, payload, buffer] => {
+            (time, channel, Some((identifier(id)?, extended(form)?, bytes(payload)?)), buffer)
+        }
+        _ => return None,
+    };
+    let frame = frame.as_ref().map(|(id, extended, bytes)| Frame { id: *id, extended: *extended, bytes });
+    let record = Arrival { channel: natural(channel)?, time: natural(time)?, frame };
+    let mut buffer = bytes(buffer)?;
+    let written = writer(&record, &mut buffer);
+    Some(format!("{} {}", said(written, |length| format!("A {length}")), hex(&buffer)))
+}
+
+fn log_read(reader: Reader, fields: &[&[u8]]) -> Option<String> {
+    match *fields {
+        [log] => Some(log_line::line(&reader(&bytes(log)?))),
+        _ => None,
+    }
 }
 
 fn explain_number(field: &[u8]) -> Option<String> {

@@ -31,6 +31,18 @@ const REFUSALS: [&str; 14] = [
     "post not set up",
 ];
 
+/// No step is refused with 15.
+const FIRST_LOG_REFUSAL: u32 = 16;
+
+const LOG_REFUSALS: [&str; 6] = [
+    "a number in the log that is not in its shortest form, or has more than five groups or 32 bits",
+    "a channel above 31 in a log record",
+    "a standard identifier above 2,047 in a log record",
+    "an extended identifier above 29 bits in a log record",
+    "a length above 9 in a log record, or more than 8 payload bytes to be logged",
+    "a tick's length, 9, with an identifier part other than 0",
+];
+
 /// The words of each finding in the number; none where it has a bit that is no finding.
 pub fn findings(number: u32) -> Option<String> {
     if number >> FINDINGS.len() != 0 {
@@ -45,6 +57,8 @@ pub fn findings(number: u32) -> Option<String> {
 }
 
 pub fn refusal(number: u32) -> Option<String> {
-    let place = usize::try_from(number).ok()?.checked_sub(1)?;
-    REFUSALS.get(place).map(|words| format!("R{number} {words}"))
+    let (first, list) =
+        if number < FIRST_LOG_REFUSAL { (1, &REFUSALS[..]) } else { (FIRST_LOG_REFUSAL, &LOG_REFUSALS[..]) };
+    let place = usize::try_from(number.checked_sub(first)?).ok()?;
+    list.get(place).map(|words| format!("R{number} {words}"))
 }

@@ -9,6 +9,11 @@ mod desk;
 mod explain;
 mod fields;
 mod history;
+mod log;
+mod log_line;
+#[cfg(test)]
+mod log_readings;
+mod log_slips;
 mod pages;
 mod posts;
 mod program;
@@ -30,7 +35,7 @@ use std::time::{Duration, SystemTime, UNIX_EPOCH};
 
 use arguments::{Call, Compare, USAGE};
 use compare::{Plan, Verdict};
-use posts::Table;
+use desk::Desk;
 use program::Program;
 use rng::Rng;
 use script::Extras;
@@ -59,13 +64,13 @@ fn main() -> ExitCode {
 }
 
 fn answer(wrong: Option<String>) -> Result<ExitCode, String> {
-    let mut table = match wrong {
-        None => Table::new(),
+    let mut desk = match wrong {
+        None => Desk::new(),
         Some(name) => {
-            slips::table(&name).ok_or_else(|| format!("no slip {name}; there are {}", slips::names().join(", ")))?
+            slips::desk(&name).ok_or_else(|| format!("no slip {name}; there are {}", slips::names().join(", ")))?
         }
     };
-    let done = desk::run(io::stdin().lock(), BufWriter::new(io::stdout().lock()), &mut table);
+    let done = desk::run(io::stdin().lock(), BufWriter::new(io::stdout().lock()), &mut desk);
     done.map_err(|error| format!("cannot read the script or write its answers: {error}"))?;
     Ok(ExitCode::SUCCESS)
 }

@@ -14,12 +14,14 @@ pub struct Post {
 }
 
 /// A frame as it comes from the bus, or a tick where there is nothing but the time.
+#[derive(Clone, Debug, PartialEq, Eq)]
 pub struct Arrival<'a> {
     pub channel: u32,
     pub time: u32,
     pub frame: Option<Frame<'a>>,
 }
 
+#[derive(Clone, Debug, PartialEq, Eq)]
 pub struct Frame<'a> {
     pub id: u32,
     pub extended: bool,

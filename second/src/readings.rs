@@ -1,14 +1,13 @@
 //! 01's readings from both sides of each edge (E1 to E16), and the decided readings of messages (M) and watch (W).
 
-use crate::desk;
-use crate::posts::Table;
+use crate::desk::{self, Desk};
 
 /// Each line is a step, ` => `, and its answer.
-fn holds(story: &str) {
-    let mut table = Table::new();
+pub fn holds(story: &str) {
+    let mut desk = Desk::new();
     for line in story.lines().map(str::trim).filter(|line| !line.is_empty()) {
         let (step, expected) = line.split_once(" => ").expect("a step and its answer");
-        assert_eq!(desk::answer(&mut table, step.as_bytes()), expected, "{step}");
+        assert_eq!(desk::answer(&mut desk, step.as_bytes()), expected, "{step}");
     }
 }
 
@@ -389,6 +388,13 @@ fn explaining() {
          explain R14 => E R14 post not set up
          explain R0 => ?
          explain R15 => ?
+         explain R16 => E R16 a number in the log that is not in its shortest form, or has more than five groups or 32 bits
+         explain R17 => E R17 a channel above 31 in a log record
+         explain R18 => E R18 a standard identifier above 2,047 in a log record
+         explain R19 => E R19 an extended identifier above 29 bits in a log record
+         explain R20 => E R20 a length above 9 in a log record, or more than 8 payload bytes to be logged
+         explain R21 => E R21 a tick's length, 9, with an identifier part other than 0
+         explain R22 => ?
          explain R01 => ?
          explain r1 => ?
          explain R => ?
@@ -399,21 +405,21 @@ fn explaining() {
 
 #[test]
 fn lines_that_are_no_steps() {
-    let mut table = Table::new();
+    let mut desk = Desk::new();
     for line in
         [&b" "[..], b"tick 4 20\r", b"tick  4 20", b" tick 4 20", b"tick 4 20 ", b"tick 4", b"\xff", b"read 6b000 x "]
     {
-        assert_eq!(desk::answer(&mut table, line), "?", "{}", line.escape_ascii());
+        assert_eq!(desk::answer(&mut desk, line), "?", "{}", line.escape_ascii());
     }
 }
 
 #[test]
 fn a_line_of_65535_bytes_is_read_and_one_more_is_not() {
-    let mut table = Table::new();
+    let mut desk = Desk::new();
     let longest = format!("read 63000 x {}", "00".repeat((desk::LONGEST - 13) / 2));
     assert_eq!(longest.len(), desk::LONGEST);
-    assert_eq!(desk::answer(&mut table, longest.as_bytes()), "R4");
-    assert_eq!(desk::answer(&mut table, format!("{longest}00").as_bytes()), "?");
+    assert_eq!(desk::answer(&mut desk, longest.as_bytes()), "R4");
+    assert_eq!(desk::answer(&mut desk, format!("{longest}00").as_bytes()), "?");
 }
 
 #[test]
@@ -421,6 +427,6 @@ fn skipped_lines_and_a_last_line_without_line_feed() {
     let comment = format!("#{}", "x".repeat(100_000));
     let script = format!("\n# a comment\n{comment}\ntick 4 0\n\nrecord 9");
     let mut answers = Vec::new();
-    desk::run(script.as_bytes(), &mut answers, &mut Table::new()).unwrap();
+    desk::run(script.as_bytes(), &mut answers, &mut Desk::new()).unwrap();
     assert_eq!(answers, b"R1\nR9\n");
 }

@@ -130,17 +130,19 @@ fn simplify_fields(script: &mut Vec<Line>, shows: &mut dyn FnMut(&[Line]) -> boo
 
 /// Simpler ones first. Each is shorter or has smaller numbers, so that simplifying ends.
 fn simpler_fields(field: &[u8]) -> Vec<Line> {
-    if let Some(number) = decimal(field) {
-        return simpler_numbers(number).iter().map(|simpler| simpler.to_string().into_bytes()).collect();
-    }
     if field.contains(&b',') {
         return simpler_values(field);
     }
-    let hex = field.len().is_multiple_of(2) && field.iter().all(u8::is_ascii_hexdigit);
-    if hex {
-        return simpler_bytes(field);
+    let mut simpler = Vec::new();
+    if let Some(number) = decimal(field) {
+        simpler.extend(simpler_numbers(number).iter().map(|simpler| simpler.to_string().into_bytes()));
     }
-    Vec::new()
+    // Bytes may happen to have no digit above 9, so that a number is tried as bytes as well.
+    if field.len().is_multiple_of(2) && field.iter().all(u8::is_ascii_hexdigit) {
+        simpler.extend(fewer_bytes(field));
+        simpler.extend(simpler_bytes(field));
+    }
+    simpler
 }
 
 /// Round numbers and edges of 01 first, then steps that get shorter, so that a large number comes down quickly.
@@ -159,6 +161,25 @@ fn simpler_values(field: &[u8]) -> Vec<Line> {
         tried.join(&b',')
     });
     zeroed.collect()
+}
+
+/// Without a half, then without smaller pieces, single bytes last where there are few.
+fn fewer_bytes(field: &[u8]) -> Vec<Line> {
+    let bytes: Vec<&[u8]> = field.chunks(2).collect();
+    let pieces = [1, 2, 4, 8, 16, 32, 64].map(|pieces| bytes.len().div_ceil(pieces)).into_iter();
+    let mut sizes: Vec<usize> = pieces.filter(|&size| size > 0).collect();
+    sizes.dedup();
+    let starts = sizes.into_iter().flat_map(|size| (0..bytes.len()).step_by(size).map(move |start| (start, size)));
+    starts
+        .map(|(start, size)| {
+            let kept = [&bytes[..start], &bytes[(start + size).min(bytes.len())..]].concat().concat();
+            if kept.is_empty() {
+                b"-".to_vec()
+            } else {
+                kept
+            }
+        })
+        .collect()
 }
 
 fn simpler_bytes(field: &[u8]) -> Vec<Line> {
@@ -195,6 +216,18 @@ mod tests {
         });
         assert_eq!(short, script("setup 0 0 0 0 0 0\nrecord 0"));
         assert!(tries < 1000, "{tries}");
+    }
+
+    #[test]
+    fn bytes_go_where_they_can() {
+        let log = format!("logr {}07{}", "2a".repeat(4000), "15".repeat(4001));
+        let mut tries = 0;
+        let short = shrink(vec![log.into_bytes()], &mut |lines| {
+            tries += 1;
+            lines.iter().any(|line| line.starts_with(b"logr ") && line.windows(2).any(|pair| pair == b"07"))
+        });
+        assert_eq!(short, script("logr 07"));
+        assert!(tries < 500, "{tries}");
     }
 
     #[test]

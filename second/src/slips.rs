@@ -1,8 +1,10 @@
-//! Wrong readings of 01, kept to show that a comparison finds them.
+//! Wrong readings of 01 and 02, kept to show that a comparison finds them.
 
+use crate::desk::Desk;
 use crate::history::{latest, latest_message, latest_time, session, Event};
+use crate::log_slips;
 use crate::pages::Kind;
-use crate::posts::{Post, Table};
+use crate::posts::Post;
 use crate::rules::{self, limit, live, poor_insulation, powers, Limits, Rule};
 
 /// Name, and the rule that stands in for the right one of that number.
@@ -29,19 +31,20 @@ const WRONG_RULES: [(&str, usize, Rule); 17] = [
 const SHARED_CLOCK: &str = "clock";
 
 pub fn names() -> Vec<&'static str> {
-    WRONG_RULES.iter().map(|(name, ..)| *name).chain([SHARED_CLOCK]).collect()
+    WRONG_RULES.iter().map(|(name, ..)| *name).chain([SHARED_CLOCK]).chain(log_slips::names()).collect()
 }
 
-/// An empty table with the slip of that name, if there is one.
-pub fn table(name: &str) -> Option<Table> {
-    let mut table = Table::new();
+/// An empty desk with the slip of that name, if there is one.
+pub fn desk(name: &str) -> Option<Desk> {
+    let mut desk = Desk::new();
     if name == SHARED_CLOCK {
-        table.clock = shared_clock;
+        desk.table.clock = shared_clock;
+    } else if let Some((_, number, rule)) = WRONG_RULES.iter().find(|(known, ..)| *known == name) {
+        desk.table.rules[number - 1] = *rule;
     } else {
-        let (_, number, rule) = WRONG_RULES.iter().find(|(known, ..)| *known == name)?;
-        table.rules[number - 1] = *rule;
+        log_slips::put_into(&mut desk, name)?;
     }
-    Some(table)
+    Some(desk)
 }
 
 fn f1_restarted_by_repeats(limits: &Limits, past: &[Event], event: &Event) -> bool {

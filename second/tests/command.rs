@@ -60,7 +60,11 @@ fn crashes_and_wrong_counts_are_found() {
 fn too_few_steps_to_reach_everything_fail() {
     let run = second(&["compare", "--steps", "5", "--seed", "1", "--", SECOND, "answer"]);
     assert_eq!(run.status.code(), Some(1));
-    assert!(text(&run.stdout).contains("never reached"));
+    let shown = text(&run.stdout);
+    let (_, missing) = shown.trim_end().split_once("never reached: ").expect("what was not reached");
+    for outcome in ["R12", "F11", "logr END", "logr CUT", "logr R16", "logr R21", "logw R17"] {
+        assert!(missing.split(", ").any(|known| known == outcome), "{outcome}: {missing}");
+    }
 }
 
 #[test]

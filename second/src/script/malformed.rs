@@ -4,7 +4,7 @@ use super::Generator;
 use crate::desk::LONGEST;
 use crate::rng::Rng;
 
-const ODD_LINES: [&[u8]; 22] = [
+const ODD_LINES: [&[u8]; 32] = [
     b" ",
     b"  ",
     b"\t",
@@ -27,7 +27,21 @@ const ODD_LINES: [&[u8]; 22] = [
     b"read 63000 x ",
     b"write 6b000 x - 00",
     b"write 6b000 x  00",
+    b"logr",
+    b"logr ",
+    b"logr - -",
+    b"logw",
+    b"logw t 0 0",
+    b"logw t 0 4294967296 -",
+    b"logw t 4294967296 0 -",
+    b"logw x 0 0 -",
+    b"logw f 0 0 0 s -",
+    b"logw f 0 0 100000000 x - -",
 ];
+
+/// Records of four bytes; no other of any length makes so much text of a byte.
+const LONG_ANSWER: &[u8] = b"7f1f7f00";
+const TICK: &[u8] = b"00000009";
 
 impl Generator {
     pub fn malformed(&mut self) -> Vec<u8> {
@@ -35,12 +49,14 @@ impl Generator {
             0 => self.long(),
             1..=4 => self.rng.pick(&ODD_LINES).to_vec(),
             _ => {
-                let line = match self.rng.below(6) {
+                let line = match self.rng.below(8) {
                     0 => "setup 9 40 5000 1000 500 500".to_string(),
                     1 => self.record(),
                     2 => self.read(),
                     3 => self.change(),
                     4 => self.write(),
+                    5 => self.log_read(),
+                    6 => self.log_write(),
                     _ => self.refused(),
                 };
                 spoilt(&mut self.rng, line.into_bytes())
@@ -53,16 +69,21 @@ impl Generator {
         let length = self.rng.pick(&[LONGEST - 1, LONGEST, LONGEST, LONGEST + 1, LONGEST + 1, 70_000]);
         // Bytes are pairs of digits, so that each ending goes with lengths of one parity.
         let even = length.is_multiple_of(2);
-        let (head, tail): (&[u8], &[u8]) = match self.rng.below(4) {
-            0 | 1 if even => (b"change 63000 x ", b" 16 1"),
-            2 if even => (b"write 6b000 x 7 ", b""),
-            _ if even => (b"frame 4 100 6b000 x ", b""),
-            0 | 1 => (b"read 63000 x ", b""),
-            2 => (b"change 63000 x ", b" 16 -1"),
-            _ => (b"write 63000 x 0,0,0,0,0,10 ", b""),
+        let (head, fill, tail): (&[u8], &[u8], &[u8]) = match self.rng.below(6) {
+            0 | 1 if even => (b"change 63000 x ", b"7", b" 16 1"),
+            2 if even => (b"write 6b000 x 7 ", b"7", b""),
+            3 if even => (b"logw f 0 0 0 s ", b"7", b" 00"),
+            4 if even => (b"logw f 0 0 0 s 00 ", b"7", b""),
+            _ if even => (b"frame 4 100 6b000 x ", b"7", b""),
+            0 => (b"read 63000 x ", b"7", b""),
+            1 => (b"change 63000 x ", b"7", b" 16 -1"),
+            2 => (b"write 63000 x 0,0,0,0,0,10 ", b"7", b""),
+            3 => (b"logr ", LONG_ANSWER, b""),
+            4 => (b"logr ", TICK, b""),
+            _ => (b"logw t 0 0 ", b"7", b""),
         };
-        let fill = b"7".repeat(length - head.len() - tail.len());
-        [head, &fill, tail].concat()
+        let fill = fill.iter().copied().cycle().take(length - head.len() - tail.len());
+        head.iter().copied().chain(fill).chain(tail.iter().copied()).collect()
     }
 }
 

@@ -1,5 +1,6 @@
-//! Seeded desk scripts that go to the edges of 01.
+//! Seeded desk scripts that go to the edges of 01 and of the log.
 
+mod logs;
 mod malformed;
 mod messages;
 mod setups;
@@ -57,6 +58,8 @@ enum Sort {
     Read,
     Change,
     Write,
+    LogRead,
+    LogWrite,
     Malformed,
     Remark,
     Explain,
@@ -80,6 +83,8 @@ impl Generator {
             Sort::Read => self.read().into_bytes(),
             Sort::Change => self.change().into_bytes(),
             Sort::Write => self.write().into_bytes(),
+            Sort::LogRead => self.log_read().into_bytes(),
+            Sort::LogWrite => self.log_write().into_bytes(),
             Sort::Malformed => self.malformed(),
             Sort::Remark => self.remark(),
             Sort::Explain => self.explain().into_bytes(),
@@ -103,6 +108,8 @@ impl Generator {
             (45, Sort::Read),
             (65, Sort::Change),
             (75, Sort::Write),
+            (60, Sort::LogRead),
+            (35, Sort::LogWrite),
             (35, Sort::Malformed),
             (12, Sort::Remark),
             (explain, Sort::Explain),
@@ -125,7 +132,7 @@ impl Generator {
             0 => self.rng.below(2048),
             1 => 1 << self.rng.below(13),
             2 => self.rng.pick(&[0, 2047, 2048, 4_294_967_295, 4_294_967_296]),
-            _ => return format!("explain R{}", self.rng.below(17)),
+            _ => return format!("explain R{}", self.rng.below(24)),
         };
         format!("explain {number}")
     }

@@ -50,7 +50,7 @@ impl Generator {
             _ => (page.id, "x"),
         };
         let values: Vec<String> = values.iter().map(i64::to_string).collect();
-        format!("write {id:x} {form} {} {}", values.join(","), hex(&buffer(rng, page)))
+        format!("write {id:x} {form} {} {}", values.join(","), hex(&buffer(rng, page.len)))
     }
 
     /// A lent frame: mostly one to be read, else one with something wrong.
@@ -106,14 +106,14 @@ fn value(rng: &mut Rng, signal: &Signal) -> i64 {
 }
 
 /// Short, exact and longer buffers with something in them.
-fn buffer(rng: &mut Rng, page: &Page) -> Vec<u8> {
+pub fn buffer(rng: &mut Rng, exact: usize) -> Vec<u8> {
     let length = match rng.below(8) {
         0 => 0,
-        1 => page.len - 1,
-        2 => rng.below(page.len as u64) as usize,
-        3 => page.len + 1,
-        4 => page.len + 57,
-        _ => page.len,
+        1 => exact - 1,
+        2 => rng.below(exact as u64) as usize,
+        3 => exact + 1,
+        4 => exact + 57,
+        _ => exact,
     };
     if rng.chance(30) {
         vec![0xff; length]

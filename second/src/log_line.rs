@@ -1,0 +1,27 @@
+//! A log that was read, as one line.
+
+use crate::codec::Refusal;
+use crate::fields::hex;
+use crate::log::{Ending, Log};
+use crate::posts::Arrival;
+
+pub fn line(log: &Log) -> String {
+    let mut parts = vec![format!("L {}", log.records.len())];
+    parts.extend(log.records.iter().map(record));
+    parts.push(match log.ending {
+        Ending::End => "END".to_string(),
+        Ending::Cut => format!("CUT@{}", log.at),
+        Ending::Bad(Refusal(number)) => format!("BAD R{number}@{}", log.at),
+    });
+    parts.join(" ")
+}
+
+fn record(Arrival { channel, time, frame }: &Arrival) -> String {
+    match frame {
+        None => format!("t,{time},{channel}"),
+        Some(frame) => {
+            let form = if frame.extended { "x" } else { "s" };
+            format!("f,{time},{channel},{:x},{form},{}", frame.id, hex(frame.bytes))
+        }
+    }
+}
