@@ -22,5 +22,5 @@ pub written-short : (x : Rec) (out : List ℕ) → Timed x → Short (writtenOf 
 written-short x out h = go (writtenOf x out) refl
   where
     go : (w : Logged) → writtenOf x out ≡ w → Short w
-    go (Bytes n) e = let s = written-loggable x out n h e in omega (arith, s .1, longest x (s .0))
+    go (Bytes n) e = let s = written-loggable x out n e in omega (arith, s .1, longest x (s .0 h))
     go (Refused w) e = tt
