@@ -6,6 +6,7 @@ use crate::steps::record;
 use crate::steps::release;
 use crate::steps::set_up;
 use crate::steps::tick;
+use watch::Table;
 
 const STATUS: u32 = 0x63000;
 
@@ -98,37 +99,31 @@ fn channels() {
     t = tick(t, 4, 5);
     t = set_up(t, 8, 5, limits());
     t = set_up(t, 1, 32, limits());
-    t = set_up(
-        t,
-        1,
-        5,
-        post::Limits {
-            voltage: 0,
-            charge: 1,
-            discharge: 0,
-            silence: 100,
-        },
-    );
-    t = set_up(
-        t,
-        1,
-        5,
-        post::Limits {
-            voltage: 1,
-            charge: 1,
-            discharge: 0,
-            silence: 100,
-        },
-    );
+    t = set_up(t, 1, 5, lowest(0));
+    t = set_up(t, 1, 5, lowest(1));
     t = release(t, 0);
     t = release(t, 0);
     t = tick(t, 4, 6);
     t = tick(t, 32, 6);
-    t = tick(t, 5, 6);
+    clocks(tick(t, 5, 6));
+}
+
+// The lowest of each limit, and a voltage.
+fn lowest(voltage: u32) -> post::Limits {
+    post::Limits {
+        voltage,
+        charge: 1,
+        discharge: 0,
+        silence: 100,
+    }
+}
+
+// Post 0 is free, and post 1 heard channel 5 at 6.
+fn clocks(table: Table) {
     text(
         b"E14 after time 100: 99, 100; one post's clock is its own; an early unknown frame; a refused frame moves nothing\n",
     );
-    t = set_up(t, 0, 4, limits());
+    let mut t = set_up(table, 0, 4, limits());
     t = tick(t, 4, 100);
     t = tick(t, 4, 99);
     t = tick(t, 4, 100);

@@ -1,0 +1,55 @@
+-- Answers, as the words that the pen puts one after the other. desk.md: `A`, `A<number>`, `R<n>`, `R.. HEX`, `?`, each with its line feed.
+use mathlib.Core.Path.{_≡_}
+use mathlib.Core.Bool.{cond}
+use mathlib.Core.List.{List, [], _∷_, _++_}
+use Prim.Native.Nat.{ℕ, _-_}
+use lib.Dec.{ltb}
+use lib.ListN.{length}
+use Rattle.text.specs.Ascii.{space}
+use Rattle.text.specs.Numbers.{numeral}
+use Rattle.text.specs.Pens.{movedBy, inkedBy, hexWords}
+use Rattle.text.specs.declared.Pen.{Pen}
+
+-- the pen p over the buffer out put the words ws: it is r then, and the buffer is after
+abbrev pub Wrote : List ℕ → Pen → List (List ℕ) → Pen → List ℕ → Type 0
+Wrote out p ws r after = (r ≡ movedBy (length out) p ws) × (after ≡ inkedBy out p ws)
+
+-- ---- signs, as ASCII codes them
+
+abbrev pub lineFeed : ℕ
+lineFeed = 10
+
+abbrev pub questionMark : ℕ
+questionMark = 63
+
+abbrev pub capitalA : ℕ
+capitalA = 65
+
+abbrev pub capitalR : ℕ
+capitalR = 82
+
+-- ---- words
+
+abbrev pub unknownWords : List (List ℕ)
+unknownWords = (questionMark ∷ lineFeed ∷ []) ∷ []
+
+abbrev pub endWords : List (List ℕ)
+endWords = (lineFeed ∷ []) ∷ []
+
+-- a name and its number
+abbrev pub namedWords : List ℕ → ℕ → List (List ℕ)
+namedWords name n = name ∷ numeral 10 n ∷ []
+
+abbrev pub numberedWords : List ℕ → ℕ → List (List ℕ)
+numberedWords name n = namedWords name n ++ endWords
+
+-- an answer word below 65,536 is accepted, and any other is 65,536 and the refusal's number
+unfoldable pub findingsWords : ℕ → List (List ℕ)
+findingsWords w = cond (ltb w 65536) (numberedWords (capitalA ∷ []) w) (numberedWords (capitalR ∷ []) (w - 65536))
+
+unfoldable pub settingWords : ℕ → List (List ℕ)
+settingWords w = cond (ltb w 65536) ((capitalA ∷ lineFeed ∷ []) ∷ []) (numberedWords (capitalR ∷ []) (w - 65536))
+
+-- a space, the bytes and a line feed
+abbrev pub bytesWords : List ℕ → List (List ℕ)
+bytesWords bs = (space ∷ []) ∷ (hexWords bs ++ endWords)
