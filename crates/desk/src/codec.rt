@@ -1,13 +1,13 @@
 // The steps on a frame by itself: read, change, write.
+use crate::message;
+use crate::message::Values;
+use crate::values;
+use crate::values::Made;
 use messages::Message;
 use messages::Reading;
 use notation::answer;
 use notation::fields;
 use notation::fields::Head;
-use notation::message;
-use notation::message::Values;
-use notation::values;
-use notation::values::Made;
 use pages::Judged;
 use pages::Refusal;
 use pages::Written;

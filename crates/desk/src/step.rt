@@ -2,8 +2,8 @@
 use crate::codec;
 use crate::logging;
 use crate::watching;
+use crate::words;
 use notation::answer;
-use notation::words;
 use text::Pen;
 use watch::Table;
 

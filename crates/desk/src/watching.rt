@@ -1,5 +1,6 @@
 // The steps on the table: setup, release, frame, tick, record. A line is read before the table is touched.
 use crate::both;
+use crate::record;
 use crate::step::Line;
 use gateway::Lent;
 use notation::answer;
@@ -7,7 +8,6 @@ use notation::fields;
 use notation::fields::Last;
 use notation::heard;
 use notation::heard::Heard;
-use notation::record;
 use text::Field;
 use text::Pen;
 use watch::Setting;

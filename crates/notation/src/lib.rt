@@ -1,8 +1,5 @@
-// The desk's notation: numbers, messages, records, findings and refusals as text, and back. Every public function takes any input.
+// The desk's notation, for every program that reads or writes it: the fields of a line, a frame's and a tick's line, and answers. Every public
+// function takes any input.
 pub mod fields; // fields.rt: fields of a line that stand together
 pub mod heard; // heard.rt: a frame and a tick of a line
 pub mod answer; // answer.rt: answers as text
-pub mod message; // message.rt: a message and its values
-pub mod values; // values.rt: a message of values
-pub mod record; // record.rt: a post's record as text
-pub mod words; // words.rt: findings and refusals in words

@@ -1,7 +1,7 @@
 // Findings and refusals in words: 01's sentences, in short.
-use crate::answer;
-use crate::fields;
-use crate::fields::Last;
+use notation::answer;
+use notation::fields;
+use notation::fields::Last;
 use text::Pen;
 
 // Findings 1 to 6, of the watch over a session.

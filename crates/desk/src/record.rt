@@ -1,10 +1,10 @@
 // A post's record as one line.
-use crate::answer::named;
 use crate::message;
 use messages::Plug;
 use messages::Protocol;
 use messages::labels::plug_number;
 use messages::labels::protocol_number;
+use notation::answer::named;
 use post::Dated;
 use post::LastTime;
 use post::Limits;

@@ -1,10 +1,10 @@
--- `notation::values::same`: every place is looked at once.
+-- `desk::values::same`: every place is looked at once.
 use mathlib.Core.Path.{_≡_}
 use Prim.Native.Nat.{_-_}
 use lib.ListN.{length}
 use borrow.Author.Needs.{needs}
-use Rattle.notation.proofs.values.same.Statement.{statement}
-use Rattle.notation.proofs.values.same.Tie as tie
+use Rattle.desk.proofs.values.same.Statement.{statement}
+use Rattle.desk.proofs.values.same.Tie as tie
 
 abbrev Inv-loop : tie.InvT-loop
 Inv-loop v w i₀ i = (length v ≡ 8) × (length w ≡ 8)

@@ -1,9 +1,9 @@
--- `notation::values::taken`: each turn starts a value within the text, or just behind its end.
+-- `desk::values::taken`: each turn starts a value within the text, or just behind its end.
 use Prim.Native.Nat.{_-_, _+_, _≤_}
 use lib.ListN.{length}
 use borrow.Author.Needs.{needs}
-use Rattle.notation.proofs.values.taken.Statement.{statement}
-use Rattle.notation.proofs.values.taken.Tie as tie
+use Rattle.desk.proofs.values.taken.Statement.{statement}
+use Rattle.desk.proofs.values.taken.Tie as tie
 
 abbrev Inv-loop : tie.InvT-loop
 Inv-loop s v₀ at₀ v at = at ≤ length s + 1
