@@ -1,1 +1,10 @@
 pub mod Numbers
+pub mod Stages
+pub mod Wholes
+pub mod Records
+pub mod Logs
+pub mod Scans
+pub mod Ends
+pub mod Stores
+pub mod Writings
+pub mod Bads

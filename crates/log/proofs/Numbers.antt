@@ -234,6 +234,28 @@ size-le (suc k) n = size-pick (ltb n 128) (size-le k (n / 128)) where
   size-pick true h = omega arith
   size-pick false h = omega arith
 
+-- ---- a number takes a byte at least
+abbrev pub Some : Num → Type 0
+Some (Value n j) = 0 < j
+Some Cut = Unit {0}
+Some Ill = Unit {0}
+
+some-cond : (t : Bool) (x y : Num) → Some x → Some y → Some (cond t x y)
+some-cond true x y p q = p
+some-cond false x y p q = q
+
+some-more : (b : ℕ) (r : Num) → Some (moreOf b r)
+some-more b (Value n j) = some-cond (eqb n 0) Ill (Value (n * 128 + b % 128) (j + 1)) tt (omega arith)
+some-more b Cut = tt
+some-more b Ill = tt
+
+pub some : (k : ℕ) (s : List ℕ) → Some (readGroups k s)
+unfolding readGroups
+some zero [] = tt
+some (suc k) [] = tt
+some zero (b ∷ bs) = some-cond (ltb b 16) (Value b 1) Ill (omega arith) tt
+some (suc k) (b ∷ bs) = some-cond (ltb b 128) (Value b 1) (moreOf b (readGroups k bs)) (omega arith) (some-more b (readGroups k bs))
+
 -- a number that was read lies within the bytes
 pub within : (k : ℕ) (s : List ℕ) → Under (top k) (length s) (readGroups k s)
 unfolding readGroups top

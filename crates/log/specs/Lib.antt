@@ -1,5 +1,6 @@
 pub mod Number
 pub mod Record
 pub mod Reading
+pub mod Malformed
 pub mod Scan
 pub mod Writing

@@ -15,7 +15,7 @@ use Rattle.log.specs.declared.Taken.the-variants.{Whole, Cut, Bad}
 use Rattle.log.specs.declared.Found.{Found}
 use Rattle.log.specs.declared.Found.the-variants as found
 use Rattle.log.specs.Number.{readNumber}
-use Rattle.log.specs.Record.{Rec, tick, frame, identifiers}
+use Rattle.log.specs.Record.{Rec, tick, frame, identifiers, recordBytes}
 
 -- ---- a record, part by part
 
@@ -110,3 +110,20 @@ logOf s = readFrom (length s) s 0
 unfoldable pub whole : List Rec → Log
 whole [] = ends clean
 whole (r ∷ rs) = then r (whole rs)
+
+-- records rs from byte `at` on, cut i bytes further: "exactly the records wholly before the cut, and tells whether a piece is left over"
+unfoldable pub wholly : ℕ → ℕ → List Rec → Log
+wholly at i [] = ends clean
+wholly at i (r ∷ rs) =
+    cond (leb (length (recordBytes r)) i) (then r (wholly (at + length (recordBytes r)) (i - length (recordBytes r)) rs)) (ends (cond (eqb i 0) clean (piece at)))
+
+unfoldable pub recordsIn : Log → List Rec
+recordsIn (ends e) = []
+recordsIn (then r l) = r ∷ recordsIn l
+
+-- the byte up to which there are whole records, in a log of n bytes
+unfoldable pub endIn : ℕ → Log → ℕ
+endIn n (ends clean) = n
+endIn n (ends (piece at)) = at
+endIn n (ends (refused w at)) = at
+endIn n (then r l) = endIn n l
