@@ -1,11 +1,13 @@
 // The steps on a frame by itself: read, change, write.
-use crate::answer;
-use crate::message;
-use crate::step::field_end;
-use crate::values;
-use crate::values::Made;
 use messages::Message;
 use messages::Reading;
+use notation::answer;
+use notation::fields;
+use notation::fields::Head;
+use notation::message;
+use notation::message::Values;
+use notation::values;
+use notation::values::Made;
 use pages::Judged;
 use pages::Refusal;
 use pages::Written;
@@ -16,22 +18,16 @@ use text::sign::Signed;
 
 // `read ID x|s HEX`
 pub fn read(s: &[u8], at: usize, room: &mut [u8], out: &mut [u8], pen: Pen) -> Pen {
-    let Field::Is(id, a) = text::take_id(s, at) else {
+    let Head::Is { id, extended, next } = fields::take_head(s, at) else {
         return answer::unknown(out, pen);
     };
-    let Field::Is(form, b) = text::take_form(s, a) else {
-        return answer::unknown(out, pen);
-    };
-    if b > s.len() {
-        return answer::unknown(out, pen);
-    }
-    let Bytes::Is(n) = text::hex_bytes(&s[b..], room) else {
+    let Bytes::Is(n) = fields::take_rest(s, next, room) else {
         return answer::unknown(out, pen);
     };
     if n > room.len() {
         return answer::unknown(out, pen);
     }
-    put_reading(out, pen, messages::read(id, form == 1, &room[0..n]))
+    put_reading(out, pen, messages::read(id, extended, &room[0..n]))
 }
 
 fn put_reading(out: &mut [u8], pen: Pen, r: Reading) -> Pen {
@@ -45,35 +41,64 @@ fn put_reading(out: &mut [u8], pen: Pen, r: Reading) -> Pen {
     }
 }
 
-// `change ID x|s HEX START RAW`
-pub fn change(s: &[u8], at: usize, room: &mut [u8], out: &mut [u8], pen: Pen) -> Pen {
-    let Field::Is(id, a) = text::take_id(s, at) else {
-        return answer::unknown(out, pen);
+enum Asked {
+    Bad,
+    Change {
+        id: u32,
+        extended: bool,
+        length: usize,
+        start: u32,
+        raw: i64,
+    },
+}
+
+// `ID x|s HEX START RAW`
+fn change_line(s: &[u8], at: usize, room: &mut [u8]) -> Asked {
+    let Head::Is { id, extended, next } = fields::take_head(s, at) else {
+        return Asked::Bad;
     };
-    let Field::Is(form, b) = text::take_form(s, a) else {
-        return answer::unknown(out, pen);
-    };
-    if b > s.len() {
-        return answer::unknown(out, pen);
+    if next > s.len() {
+        return Asked::Bad;
     }
-    let e = field_end(s, b);
-    let Bytes::Is(n) = text::hex_bytes(&s[b..e], room) else {
-        return answer::unknown(out, pen);
+    let e = text::word_end(s, next);
+    let Bytes::Is(length) = text::hex_bytes(&s[next..e], room) else {
+        return Asked::Bad;
     };
     let Field::Is(start, c) = text::take_u32(s, e + 1) else {
-        return answer::unknown(out, pen);
+        return Asked::Bad;
     };
     if c > s.len() {
-        return answer::unknown(out, pen);
+        return Asked::Bad;
     }
     let Signed::Is(raw) = text::signed(&s[c..]) else {
+        return Asked::Bad;
+    };
+    Asked::Change {
+        id,
+        extended,
+        length,
+        start,
+        raw,
+    }
+}
+
+// `change ID x|s HEX START RAW`
+pub fn change(s: &[u8], at: usize, room: &mut [u8], out: &mut [u8], pen: Pen) -> Pen {
+    let Asked::Change {
+        id,
+        extended,
+        length,
+        start,
+        raw,
+    } = change_line(s, at, room)
+    else {
         return answer::unknown(out, pen);
     };
-    if n > room.len() {
+    if length > room.len() {
         return answer::unknown(out, pen);
     }
-    let changed = pages::change(id, form == 1, &mut room[0..n], start, raw);
-    put_changed(out, pen, changed, &room[0..n])
+    let changed = pages::change(id, extended, &mut room[0..length], start, raw);
+    put_changed(out, pen, changed, &room[0..length])
 }
 
 fn put_changed(out: &mut [u8], pen: Pen, changed: Judged, bytes: &[u8]) -> Pen {
@@ -86,41 +111,75 @@ fn put_changed(out: &mut [u8], pen: Pen, changed: Judged, bytes: &[u8]) -> Pen {
     }
 }
 
+// The order to write a message; a count of 0 where the line is none.
+struct Order {
+    id: u32,
+    extended: bool,
+    values: Values,
+    length: usize,
+}
+
+fn no_order() -> Order {
+    Order {
+        id: 0,
+        extended: false,
+        values: Values {
+            count: 0,
+            all: [0; 8],
+        },
+        length: 0,
+    }
+}
+
+// `ID x|s VALUES HEX`
+fn write_line(s: &[u8], at: usize, room: &mut [u8]) -> Order {
+    let Head::Is { id, extended, next } = fields::take_head(s, at) else {
+        return no_order();
+    };
+    if next > s.len() {
+        return no_order();
+    }
+    let e = text::word_end(s, next);
+    let Bytes::Is(length) = fields::take_rest(s, e + 1, room) else {
+        return no_order();
+    };
+    Order {
+        id,
+        extended,
+        values: values::taken(&s[next..e]),
+        length,
+    }
+}
+
 // `write ID x|s VALUES HEX`
 pub fn write(s: &[u8], at: usize, room: &mut [u8], out: &mut [u8], pen: Pen) -> Pen {
-    let Field::Is(id, a) = text::take_id(s, at) else {
-        return answer::unknown(out, pen);
-    };
-    let Field::Is(form, b) = text::take_form(s, a) else {
-        return answer::unknown(out, pen);
-    };
-    if b > s.len() {
-        return answer::unknown(out, pen);
-    }
-    let e = field_end(s, b);
-    let v = values::taken(&s[b..e]);
+    let o = write_line(s, at, room);
+    let length = o.length;
+    let v = o.values;
     if v.count == 0 {
         return answer::unknown(out, pen);
     }
-    if e + 1 > s.len() {
+    if length > room.len() {
         return answer::unknown(out, pen);
     }
-    let Bytes::Is(n) = text::hex_bytes(&s[e + 1..], room) else {
-        return answer::unknown(out, pen);
-    };
-    if n > room.len() {
-        return answer::unknown(out, pen);
-    }
-    let kind = values::kind_with(id, form == 1);
+    let kind = values::kind_with(o.id, o.extended);
+    ordered(kind, v, &mut room[0..length], out, pen)
+}
+
+fn ordered(kind: usize, v: Values, buf: &mut [u8], out: &mut [u8], pen: Pen) -> Pen {
     if 9 <= kind {
         return text::put(out, pen, b"X\n");
     }
     if v.count != values::count_of(kind) {
         return answer::unknown(out, pen);
     }
-    match values::message_of(kind, v) {
-        Made::Message(m) => written(m, &mut room[0..n], out, pen),
-        Made::Nothing => answer::refusal_bytes(out, pen, Refusal::NoRawNumber, &room[0..n]),
+    made(values::message_of(kind, v), buf, out, pen)
+}
+
+fn made(m: Made, buf: &mut [u8], out: &mut [u8], pen: Pen) -> Pen {
+    match m {
+        Made::Message(m) => written(m, buf, out, pen),
+        Made::Nothing => answer::refusal_bytes(out, pen, Refusal::NoRawNumber, buf),
     }
 }
 

@@ -1,15 +1,11 @@
 // The desk: reads a script on standard input and writes one answer line for each step, in order. Every step runs by value; with the argument
 // `lent` it runs through the entries that change a lent table in place.
 mod both; // both.rt: a step on the table, by value or lent
-mod answer; // answer.rt: answers as text
-mod message; // message.rt: a message and its values
-mod values; // values.rt: a message of values
-mod record; // record.rt: a post's record as text
 mod watching; // watching.rt: the steps on the table
 mod codec; // codec.rt: the steps on a frame by itself
-mod words; // words.rt: findings and refusals in words
 mod step; // step.rt: a line and its answer
 
+use notation::answer;
 use text::Pen;
 use watch::Table;
 

@@ -1,24 +1,14 @@
 // A line of a script, and its answer.
-ghost use Prim.Native.Nat.{_≤_};
-ghost use lib.ListN.{length};
-use crate::answer;
 use crate::codec;
 use crate::watching;
-use crate::words;
+use notation::answer;
+use notation::words;
 use text::Pen;
 use watch::Table;
 
 pub struct Line {
     pub table: Table,
     pub pen: Pen,
-}
-
-// The end of a field that starts in the line, or at its end.
-pub fn field_end(s: &[u8], at: usize) -> usize
-    requires { ⌜ at ≤ length (now s) ⌝ }
-    ensures { λ r. ⌜ (at ≤ r) × (r ≤ length (now (s .entry))) ⌝ }
-{
-    text::word_end(s, at)
 }
 
 // "Blank lines and lines whose first character is `#` .. are skipped and give no answer."
@@ -40,7 +30,7 @@ pub fn answered(
     if is_skipped(s) {
         return Line { table, pen };
     }
-    let e = field_end(s, 0);
+    let e = text::word_end(s, 0);
     let at = e + 1;
     let word = &s[0..e];
     if check::same(word, b"frame") {

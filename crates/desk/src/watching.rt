@@ -1,9 +1,13 @@
-// The steps on the table: setup, release, frame, tick, record.
-use crate::answer;
+// The steps on the table: setup, release, frame, tick, record. A line is read before the table is touched.
 use crate::both;
-use crate::record;
 use crate::step::Line;
-use text::Bytes;
+use gateway::Lent;
+use notation::answer;
+use notation::fields;
+use notation::fields::Last;
+use notation::heard;
+use notation::heard::Heard;
+use notation::record;
 use text::Field;
 use text::Pen;
 use watch::Setting;
@@ -16,29 +20,79 @@ fn unknown(table: Table, out: &mut [u8], pen: Pen) -> Line {
     }
 }
 
-// `setup POST CHANNEL VOLT CHG DIS W`
-pub fn setup(lent: bool, table: Table, s: &[u8], at: usize, out: &mut [u8], pen: Pen) -> Line {
+// The table after a set-up or a release, and its answer.
+fn set(r: Lent, out: &mut [u8], pen: Pen) -> Line {
+    let table = r.table;
+    Line {
+        table,
+        pen: answer::setting(out, pen, r.answer),
+    }
+}
+
+// The table after a frame or a tick, and its answer.
+fn found(r: Lent, out: &mut [u8], pen: Pen) -> Line {
+    let table = r.table;
+    Line {
+        table,
+        pen: answer::findings(out, pen, r.answer),
+    }
+}
+
+enum Asked {
+    Bad,
+    Setup {
+        post: u32,
+        channel: u32,
+        voltage: u32,
+        charge: u32,
+        discharge: u32,
+        silence: u32,
+    },
+}
+
+// `POST CHANNEL VOLT CHG DIS W`
+fn setup_line(s: &[u8], at: usize) -> Asked {
     let Field::Is(post, a) = text::take_u32(s, at) else {
-        return unknown(table, out, pen);
+        return Asked::Bad;
     };
     let Field::Is(channel, b) = text::take_u32(s, a) else {
-        return unknown(table, out, pen);
+        return Asked::Bad;
     };
     let Field::Is(voltage, c) = text::take_u32(s, b) else {
-        return unknown(table, out, pen);
+        return Asked::Bad;
     };
     let Field::Is(charge, d) = text::take_u32(s, c) else {
-        return unknown(table, out, pen);
+        return Asked::Bad;
     };
     let Field::Is(discharge, e) = text::take_u32(s, d) else {
-        return unknown(table, out, pen);
+        return Asked::Bad;
     };
-    let Field::Is(silence, f) = text::take_u32(s, e) else {
-        return unknown(table, out, pen);
+    let Last::Is(silence) = fields::take_last(s, e) else {
+        return Asked::Bad;
     };
-    if f <= s.len() {
-        return unknown(table, out, pen);
+    Asked::Setup {
+        post,
+        channel,
+        voltage,
+        charge,
+        discharge,
+        silence,
     }
+}
+
+// `setup POST CHANNEL VOLT CHG DIS W`
+pub fn setup(lent: bool, table: Table, s: &[u8], at: usize, out: &mut [u8], pen: Pen) -> Line {
+    let Asked::Setup {
+        post,
+        channel,
+        voltage,
+        charge,
+        discharge,
+        silence,
+    } = setup_line(s, at)
+    else {
+        return unknown(table, out, pen);
+    };
     let r = both::set_up(
         lent,
         table,
@@ -49,27 +103,15 @@ pub fn setup(lent: bool, table: Table, s: &[u8], at: usize, out: &mut [u8], pen:
         discharge,
         silence,
     );
-    let t = r.table;
-    Line {
-        table: t,
-        pen: answer::setting(out, pen, r.answer),
-    }
+    set(r, out, pen)
 }
 
 // `release POST`
 pub fn release(lent: bool, table: Table, s: &[u8], at: usize, out: &mut [u8], pen: Pen) -> Line {
-    let Field::Is(post, a) = text::take_u32(s, at) else {
+    let Last::Is(post) = fields::take_last(s, at) else {
         return unknown(table, out, pen);
     };
-    if a <= s.len() {
-        return unknown(table, out, pen);
-    }
-    let r = both::release(lent, table, post);
-    let t = r.table;
-    Line {
-        table: t,
-        pen: answer::setting(out, pen, r.answer),
-    }
+    set(both::release(lent, table, post), out, pen)
 }
 
 // `frame CHANNEL TIME ID x|s HEX`
@@ -82,62 +124,36 @@ pub fn frame(
     out: &mut [u8],
     pen: Pen,
 ) -> Line {
-    let Field::Is(channel, a) = text::take_u32(s, at) else {
+    let Heard::Frame {
+        channel,
+        time,
+        id,
+        extended,
+        length,
+    } = heard::frame_line(s, at, room)
+    else {
         return unknown(table, out, pen);
     };
-    let Field::Is(time, b) = text::take_u32(s, a) else {
-        return unknown(table, out, pen);
-    };
-    let Field::Is(id, c) = text::take_id(s, b) else {
-        return unknown(table, out, pen);
-    };
-    let Field::Is(form, d) = text::take_form(s, c) else {
-        return unknown(table, out, pen);
-    };
-    if d > s.len() {
+    if length > room.len() {
         return unknown(table, out, pen);
     }
-    let Bytes::Is(n) = text::hex_bytes(&s[d..], room) else {
-        return unknown(table, out, pen);
-    };
-    if n > room.len() {
-        return unknown(table, out, pen);
-    }
-    let r = both::frame(lent, table, channel, time, id, form == 1, &room[0..n]);
-    let t = r.table;
-    Line {
-        table: t,
-        pen: answer::findings(out, pen, r.answer),
-    }
+    let r = both::frame(lent, table, channel, time, id, extended, &room[0..length]);
+    found(r, out, pen)
 }
 
 // `tick CHANNEL TIME`
 pub fn tick(lent: bool, table: Table, s: &[u8], at: usize, out: &mut [u8], pen: Pen) -> Line {
-    let Field::Is(channel, a) = text::take_u32(s, at) else {
+    let Heard::Tick { channel, time } = heard::tick_line(s, at) else {
         return unknown(table, out, pen);
     };
-    let Field::Is(time, b) = text::take_u32(s, a) else {
-        return unknown(table, out, pen);
-    };
-    if b <= s.len() {
-        return unknown(table, out, pen);
-    }
-    let r = both::tick(lent, table, channel, time);
-    let t = r.table;
-    Line {
-        table: t,
-        pen: answer::findings(out, pen, r.answer),
-    }
+    found(both::tick(lent, table, channel, time), out, pen)
 }
 
 // `record POST`
 pub fn record(table: Table, s: &[u8], at: usize, out: &mut [u8], pen: Pen) -> Pen {
-    let Field::Is(post, next) = text::take_u32(s, at) else {
+    let Last::Is(post) = fields::take_last(s, at) else {
         return answer::unknown(out, pen);
     };
-    if next <= s.len() {
-        return answer::unknown(out, pen);
-    }
     let r = watch::look_up(table, post);
     let shown = r.shown;
     let a = r.answer;

@@ -34,9 +34,9 @@ within stop (c ∷ cs) = go (eqb c stop) (within stop cs)
     go true h = omega arith
     go false h = omega arith
 
-pub to-high : (stop : ℕ) (s : List ℕ) (i : ℕ) → i ≤ length s → partEnd stop s i ≤ length s
+pub to-high : (stop : ℕ) (s : List ℕ) (i : ℕ) → partEnd stop s i ≤ i + (length s - i)
 unfolding partEnd
-to-high stop s i h = omega (arith, within stop (drop i s), length-drop i s)
+to-high stop s i = omega (arith, within stop (drop i s), length-drop i s)
 
 pub the-word : (s : List ℕ) (i e : ℕ) → e ≡ wordEnd s i → take (e - i) (drop i s) ≡ wordAt s i
 unfolding partEnd wordAt

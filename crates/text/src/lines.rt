@@ -1,6 +1,6 @@
 // A line's words, separated by single spaces, and its fields. `at` is where a field starts; past the line's end there is none.
 ghost use mathlib.Core.Path.{_≡_};
-ghost use Prim.Native.Nat.{_≤_};
+ghost use Prim.Native.Nat.{_+_, _-_, _≤_};
 ghost use lib.ListN.{length};
 ghost use Rattle.text.specs.Lines.{partEnd, wordEnd, asField, fieldOf, formOf, formAt, Short};
 use crate::Field;
@@ -9,7 +9,7 @@ use crate::numbers;
 
 // The first `stop` at or after `from`, or the line's end; `from` itself where that is past the end.
 pub fn part_end(s: &[u8], from: usize, stop: u8) -> usize
-    ensures { λ r. ⌜ (r ≡ partEnd stop (now (s .entry)) from) × (from ≤ r) × (from ≤ length (now (s .entry)) → r ≤ length (now (s .entry))) ⌝ }
+    ensures { λ r. ⌜ (r ≡ partEnd stop (now (s .entry)) from) × (from ≤ r) × (r ≤ from + (length (now (s .entry)) - from)) ⌝ }
 {
     let mut i = from;
     while i < s.len() {
@@ -23,7 +23,7 @@ pub fn part_end(s: &[u8], from: usize, stop: u8) -> usize
 
 // A word ends at a space.
 pub fn word_end(s: &[u8], from: usize) -> usize
-    ensures { λ r. ⌜ (r ≡ wordEnd (now (s .entry)) from) × (from ≤ r) × (from ≤ length (now (s .entry)) → r ≤ length (now (s .entry))) ⌝ }
+    ensures { λ r. ⌜ (r ≡ wordEnd (now (s .entry)) from) × (from ≤ r) × (r ≤ from + (length (now (s .entry)) - from)) ⌝ }
 {
     part_end(s, from, b' ')
 }

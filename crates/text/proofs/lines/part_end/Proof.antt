@@ -26,7 +26,7 @@ returns c =
     let a = c .before .before .before in
     let g = a .before .args in
     let h = c .before .before .loop-test .taken in
-    (sym (a .loop .inv .0 ∙ stops (g .stop) (g .s .now) (a .loop .i) h (c .if1 .taken)), a .loop .inv .1, λ l. omega (arith, h))
+    (sym (a .loop .inv .0 ∙ stops (g .stop) (g .s .now) (a .loop .i) h (c .if1 .taken)), a .loop .inv .1, omega (arith, h, a .loop .inv .1))
 
 add-i : tie.Need-add-i Inv-loop μ-loop
 add-i c = search needs
@@ -45,7 +45,7 @@ returns-2 c =
     let a = c .before in
     let g = a .before .args in
     let e : a .loop .i ≡ partEnd (g .stop) (g .s .now) (g .from) = sym (a .loop .inv .0 ∙ is-past (g .stop) (g .s .now) (a .loop .i) (c .loop-test .left)) in
-    (e, a .loop .inv .1, λ l. rw e (to-high (g .stop) (g .s .now) (g .from) l))
+    (e, a .loop .inv .1, rw e (to-high (g .stop) (g .s .now) (g .from)))
 
 pub part-end-spec : {M : Type 1} → statement M
 part-end-spec =

@@ -1,8 +1,7 @@
 -- `text::lines::take` meets its contract. Assumes nothing.
 use mathlib.Core.Path.{sym, ap, _∙_, subst}
-use Prim.Native.Nat.{_+_, _≤_}
+use Prim.Native.Nat.{_+_}
 use native.Mathlib.Omega.{arith}
-use lib.ListN.{length}
 use borrow.Author.Needs.{needs}
 use Rattle.text.specs.Lines.{asField, fieldOf, Short, u32Max}
 use Rattle.text.specs.Numbers.{numberOf}
@@ -18,25 +17,20 @@ returns c = past-end (numberOf (c .before .before .args .base) u32Max) (c .befor
 word-end-requires : tie.Need-word-end-requires
 word-end-requires c κs = search needs
 
-ends : (c : tie.After-word-end) → (c .before .before .before .args .at ≤ c .word-end .result) × (c .word-end .result ≤ length (c .before .before .before .args .s .now))
-ends c =
-    let e = c .word-end .ensures in
-    (e .1, e .2 (omega arith))
-
 sub-whole : tie.Need-sub-whole
-sub-whole c = ends c .0
+sub-whole c = search needs
 
 part-whole-start : tie.Need-part-whole-start
-part-whole-start c = let e = ends c in search needs
+part-whole-start c = search needs
 
 part-whole-end : tie.Need-part-whole-end
-part-whole-end c = let e = ends c in search needs
+part-whole-end c = search needs
 
 whole-requires : tie.Need-whole-requires
 whole-requires c κs = search needs
 
 add-in-field : tie.Need-add-in-field
-add-in-field c = let e = ends (c .before .before) in search needs
+add-in-field c = search needs
 
 in-field-requires : tie.Need-in-field-requires
 in-field-requires c κs = subst (λ (n : Number). Short n) (sym (c .whole .ensures)) (number-within (c .before .before .before .before .before .args .base) u32Max _)

@@ -1,8 +1,7 @@
 -- `text::lines::take_form` meets its contract. Assumes nothing.
 use mathlib.Core.Path.{sym, ap, _∙_, subst}
-use Prim.Native.Nat.{_+_, _≤_}
+use Prim.Native.Nat.{_+_}
 use native.Mathlib.Omega.{arith}
-use lib.ListN.{length}
 use borrow.Author.Needs.{needs}
 use Rattle.text.specs.Lines.{asField, formOf, formAt, Short}
 use Rattle.text.specs.declared.Number.{Number}
@@ -17,25 +16,20 @@ returns c = past-end formOf (c .before .before .args .s .now) (c .before .before
 word-end-requires : tie.Need-word-end-requires
 word-end-requires c κs = search needs
 
-ends : (c : tie.After-word-end) → (c .before .before .before .args .at ≤ c .word-end .result) × (c .word-end .result ≤ length (c .before .before .before .args .s .now))
-ends c =
-    let e = c .word-end .ensures in
-    (e .1, e .2 (omega arith))
-
 sub-form : tie.Need-sub-form
-sub-form c = ends c .0
+sub-form c = search needs
 
 part-form-start : tie.Need-part-form-start
-part-form-start c = let e = ends c in search needs
+part-form-start c = search needs
 
 part-form-end : tie.Need-part-form-end
-part-form-end c = let e = ends c in search needs
+part-form-end c = search needs
 
 form-requires : tie.Need-form-requires
 form-requires c κs = search needs
 
 add-in-field : tie.Need-add-in-field
-add-in-field c = let e = ends (c .before .before) in search needs
+add-in-field c = search needs
 
 in-field-requires : tie.Need-in-field-requires
 in-field-requires c κs = subst (λ (n : Number). Short n) (sym (c .form .ensures)) (form-within _)

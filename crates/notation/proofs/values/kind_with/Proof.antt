@@ -1,8 +1,8 @@
--- `desk::values::kind_with`: every kind is looked at once.
+-- `notation::values::kind_with`: every kind is looked at once.
 use Prim.Native.Nat.{_-_}
 use borrow.Author.Needs.{needs}
-use Rattle.desk.proofs.values.kind_with.Statement.{statement}
-use Rattle.desk.proofs.values.kind_with.Tie as tie
+use Rattle.notation.proofs.values.kind_with.Statement.{statement}
+use Rattle.notation.proofs.values.kind_with.Tie as tie
 
 abbrev Inv-loop : tie.InvT-loop
 Inv-loop id extended k₀ k = Unit {0}

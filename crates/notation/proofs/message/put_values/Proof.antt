@@ -1,10 +1,10 @@
--- `desk::message::put_values`: the buffer keeps its length over the values.
+-- `notation::message::put_values`: the buffer keeps its length over the values.
 use mathlib.Core.Path.{_≡_}
 use Prim.Native.Nat.{_-_}
 use lib.ListN.{length}
 use borrow.Author.Needs.{needs}
-use Rattle.desk.proofs.message.put_values.Statement.{statement}
-use Rattle.desk.proofs.message.put_values.Tie as tie
+use Rattle.notation.proofs.message.put_values.Statement.{statement}
+use Rattle.notation.proofs.message.put_values.Tie as tie
 
 abbrev Inv-loop : tie.InvT-loop
 Inv-loop out₀ all count p₀ i₀ out p i = (length out ≡ length out₀) × (length all ≡ 8)

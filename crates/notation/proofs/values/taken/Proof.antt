@@ -1,9 +1,9 @@
--- `desk::values::taken`: each turn starts a value within the text, or just behind its end.
+-- `notation::values::taken`: each turn starts a value within the text, or just behind its end.
 use Prim.Native.Nat.{_-_, _+_, _≤_}
 use lib.ListN.{length}
 use borrow.Author.Needs.{needs}
-use Rattle.desk.proofs.values.taken.Statement.{statement}
-use Rattle.desk.proofs.values.taken.Tie as tie
+use Rattle.notation.proofs.values.taken.Statement.{statement}
+use Rattle.notation.proofs.values.taken.Tie as tie
 
 abbrev Inv-loop : tie.InvT-loop
 Inv-loop s v₀ at₀ v at = at ≤ length s + 1
@@ -14,8 +14,8 @@ abbrev μ-loop : tie.MeasureT-loop
 loop-holds : tie.Need-loop-holds Inv-loop μ-loop
 loop-holds c = search needs
 
-value-end-requires : tie.Need-value-end-requires Inv-loop μ-loop
-value-end-requires c κs = search needs
+part-end-requires : tie.Need-part-end-requires Inv-loop μ-loop
+part-end-requires c κs = search needs
 
 sub-signed : tie.Need-sub-signed Inv-loop μ-loop
 sub-signed c = search needs
@@ -63,7 +63,7 @@ taken-spec =
     Inv-loop
     μ-loop
     loop-holds
-    value-end-requires
+    part-end-requires
     sub-signed
     part-signed-start
     part-signed-end

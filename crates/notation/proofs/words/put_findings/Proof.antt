@@ -1,10 +1,10 @@
--- `desk::words::put_findings`: the buffer keeps its length over the findings.
+-- `notation::words::put_findings`: the buffer keeps its length over the findings.
 use mathlib.Core.Path.{_≡_}
 use Prim.Native.Nat.{_-_, _≤_}
 use lib.ListN.{length}
 use borrow.Author.Needs.{needs}
-use Rattle.desk.proofs.words.put_findings.Statement.{statement}
-use Rattle.desk.proofs.words.put_findings.Tie as tie
+use Rattle.notation.proofs.words.put_findings.Statement.{statement}
+use Rattle.notation.proofs.words.put_findings.Tie as tie
 
 abbrev Inv-loop : tie.InvT-loop
 Inv-loop out₀ n p₀ rest₀ k₀ out p rest k = (length out ≡ length out₀) × (k ≤ 12)

@@ -1,9 +1,11 @@
 // Findings and refusals in words: 01's sentences, in short.
 use crate::answer;
-use text::Field;
+use crate::fields;
+use crate::fields::Last;
 use text::Pen;
 
-fn finding(out: &mut [u8], pen: Pen, k: u32) -> Pen {
+// Findings 1 to 6, of the watch over a session.
+fn finding_low(out: &mut [u8], pen: Pen, k: u32) -> Pen {
     match k {
         1 => text::put(
             out,
@@ -22,11 +24,17 @@ fn finding(out: &mut [u8], pen: Pen, k: u32) -> Pen {
             pen,
             b"insulation test, precharge or power transfer without Allowed in this session",
         ),
-        6 => text::put(
+        _ => text::put(
             out,
             pen,
             b"lowering with a function other than standby or a setpoint not 0",
         ),
+    }
+}
+
+// Findings 7 to 11.
+fn finding_high(out: &mut [u8], pen: Pen, k: u32) -> Pen {
+    match k {
         7 => text::put(out, pen, b"target voltage above the voltage limit"),
         8 => text::put(
             out,
@@ -47,7 +55,15 @@ fn finding(out: &mut [u8], pen: Pen, k: u32) -> Pen {
     }
 }
 
-fn refusal(out: &mut [u8], pen: Pen, n: u32) -> Pen {
+fn finding(out: &mut [u8], pen: Pen, k: u32) -> Pen {
+    if k <= 6 {
+        return finding_low(out, pen, k);
+    }
+    finding_high(out, pen, k)
+}
+
+// Refusals 1 to 8, of a frame and its bytes.
+fn of_frame(out: &mut [u8], pen: Pen, n: u32) -> Pen {
     match n {
         1 => text::put(out, pen, b"channel above 31, or held by no post\n"),
         2 => text::put(
@@ -64,7 +80,13 @@ fn refusal(out: &mut [u8], pen: Pen, n: u32) -> Pen {
             pen,
             b"a value has no raw number, or a raw number does not fit its signal\n",
         ),
-        8 => text::put(out, pen, b"lent buffer shorter than the message\n"),
+        _ => text::put(out, pen, b"lent buffer shorter than the message\n"),
+    }
+}
+
+// Refusals 9 to 14, of a post's set-up, release and record, and of a change.
+fn of_post(out: &mut [u8], pen: Pen, n: u32) -> Pen {
+    match n {
         9 => text::put(out, pen, b"post number above 7\n"),
         10 => text::put(out, pen, b"channel above 31 at set-up\n"),
         11 => text::put(out, pen, b"channel held by another post\n"),
@@ -72,6 +94,48 @@ fn refusal(out: &mut [u8], pen: Pen, n: u32) -> Pen {
         13 => text::put(out, pen, b"no signal of the message starts at that bit\n"),
         _ => text::put(out, pen, b"post not set up\n"),
     }
+}
+
+// Refusals 16 to 21, of a log.
+fn of_log(out: &mut [u8], pen: Pen, n: u32) -> Pen {
+    match n {
+        16 => text::put(
+            out,
+            pen,
+            b"a number in the log that is not in its shortest form, or has more than five groups or 32 bits\n",
+        ),
+        17 => text::put(out, pen, b"a channel above 31 in a log record\n"),
+        18 => text::put(
+            out,
+            pen,
+            b"a standard identifier above 2,047 in a log record\n",
+        ),
+        19 => text::put(
+            out,
+            pen,
+            b"an extended identifier above 29 bits in a log record\n",
+        ),
+        20 => text::put(
+            out,
+            pen,
+            b"a length above 9 in a log record, or more than 8 payload bytes to be logged\n",
+        ),
+        _ => text::put(
+            out,
+            pen,
+            b"a tick's length, 9, with an identifier part other than 0\n",
+        ),
+    }
+}
+
+fn refusal(out: &mut [u8], pen: Pen, n: u32) -> Pen {
+    if n <= 8 {
+        return of_frame(out, pen, n);
+    }
+    if n <= 14 {
+        return of_post(out, pen, n);
+    }
+    of_log(out, pen, n)
 }
 
 // The findings whose bits are in n, in order, each with its name.
@@ -111,14 +175,19 @@ pub fn explain(s: &[u8], at: usize, out: &mut [u8], pen: Pen) -> Pen {
         return answer::unknown(out, pen);
     }
     if s[at] == b'R' {
-        return explain_refusal(s, at + 1, out, pen);
+        return explain_refusal(out, pen, fields::take_last(s, at + 1));
     }
-    let Field::Is(n, a) = text::take_u32(s, at) else {
-        return answer::unknown(out, pen);
-    };
-    if a <= s.len() {
-        return answer::unknown(out, pen);
+    explain_findings(out, pen, fields::take_last(s, at))
+}
+
+fn explain_findings(out: &mut [u8], pen: Pen, n: Last) -> Pen {
+    match n {
+        Last::Bad => answer::unknown(out, pen),
+        Last::Is(n) => put_all(out, pen, n),
     }
+}
+
+fn put_all(out: &mut [u8], pen: Pen, n: u32) -> Pen {
     if n > 2047 {
         return answer::unknown(out, pen);
     }
@@ -130,22 +199,24 @@ pub fn explain(s: &[u8], at: usize, out: &mut [u8], pen: Pen) -> Pen {
     answer::line_end(out, q)
 }
 
-// `R`'s number: 1 to 14
-fn explain_refusal(s: &[u8], at: usize, out: &mut [u8], pen: Pen) -> Pen {
-    let Field::Is(n, a) = text::take_u32(s, at) else {
-        return answer::unknown(out, pen);
-    };
-    if a <= s.len() {
-        return answer::unknown(out, pen);
+fn explain_refusal(out: &mut [u8], pen: Pen, n: Last) -> Pen {
+    match n {
+        Last::Bad => answer::unknown(out, pen),
+        Last::Is(n) => put_refusal(out, pen, n),
     }
-    if n > 14 {
-        return answer::unknown(out, pen);
+}
+
+// The numbers that refusals have: 1 to 14 and 16 to 21.
+fn is_refusal(n: u32) -> bool {
+    match n {
+        1..=14 => true,
+        16..=21 => true,
+        _ => false,
     }
-    put_refusal(out, pen, n)
 }
 
 fn put_refusal(out: &mut [u8], pen: Pen, n: u32) -> Pen {
-    if n == 0 {
+    if !is_refusal(n) {
         return answer::unknown(out, pen);
     }
     let p = answer::named(out, pen, b"E R", n);

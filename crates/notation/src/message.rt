@@ -16,7 +16,7 @@ use messages::fields::word_raw;
 use messages::labels;
 use text::Pen;
 
-// The first `count` of them are the message's.
+// The first `count` of them are the message's, and the rest are 0.
 pub struct Values {
     pub count: usize,
     pub all: [i64; 8],
@@ -136,7 +136,7 @@ fn of_id(m: EvId) -> Values {
     }
 }
 
-fn values_of(m: Message) -> Values {
+pub fn values_of(m: Message) -> Values {
     match m {
         Message::Status(s) => of_status(s),
         Message::Parameters(s) => of_parameters(s),

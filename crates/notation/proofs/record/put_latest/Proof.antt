@@ -1,10 +1,10 @@
--- `desk::record::put_latest`: the buffer keeps its length over the kinds.
+-- `notation::record::put_latest`: the buffer keeps its length over the kinds.
 use mathlib.Core.Path.{_≡_}
 use Prim.Native.Nat.{_-_}
 use lib.ListN.{length}
 use borrow.Author.Needs.{needs}
-use Rattle.desk.proofs.record.put_latest.Statement.{statement}
-use Rattle.desk.proofs.record.put_latest.Tie as tie
+use Rattle.notation.proofs.record.put_latest.Statement.{statement}
+use Rattle.notation.proofs.record.put_latest.Tie as tie
 
 abbrev Inv-loop : tie.InvT-loop
 Inv-loop out₀ r p₀ some₀ k₀ out p some k = length out ≡ length out₀
