@@ -72,7 +72,7 @@ cut-turn x rs s at i (suc k) true e h le d f =
     let fits : n ≤ i = leb-true n i e in
     let sum : i ≡ n + (i - n) = omega arith in
     let d1 : drop at s ≡ recordBytes x ++ take (i - n) (logBytes rs) =
-        d ∙ ap (λ (j : ℕ). take j (recordBytes x ++ logBytes rs)) sum ∙ take-append-add (recordBytes x) (logBytes rs) (i - n) in
+    d ∙ ap (λ (j : ℕ). take j (recordBytes x ++ logBytes rs)) sum ∙ take-append-add (recordBytes x) (logBytes rs) (i - n) in
     step x s at _ h d1 k ∙ ap (then x) (f (at + n) (i - n) k (omega (arith, record-some x)) (rest x s at _ h d1))
 cut-turn x rs s at i k false e h le d f =
     let short : i < length (recordBytes x) = leb-false (length (recordBytes x)) i e in

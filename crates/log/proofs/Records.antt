@@ -57,13 +57,14 @@ module _ (s : List ℕ) where
   unfolding recordAt timePart channelPart identifierPart
   to-length at t c p r ht hc hw hp e =
       let e1 : drop (at + sizeOf t) s ≡ numberBytes c ++ (numberBytes p ++ r) = next s at t _ e in
-      let e2 : drop (at + sizeOf t + sizeOf c) s ≡ numberBytes p ++ r = next s (at + sizeOf t) c _ e1 in
-      (part-reads s at t _ (timePart s) ht e
-      ∙ part-reads s (at + sizeOf t) c _ (channelPart s t) (omega arith) e1
-      ∙ ap (λ (b : Bool). cond b (Bad LogChannel) (part s (at + sizeOf t + sizeOf c) (identifierPart s t c))) (le-ltb 31 c hc)
-      ∙ part-reads s (at + sizeOf t + sizeOf c) p _ (identifierPart s t c) hw e2
-      ∙ ap (λ (b : Bool). cond b (Bad (aboveOf (eqb (p % 2) 1))) (part s (at + sizeOf t + sizeOf c + sizeOf p) (lengthPart s t c p))) (lt-leb (identifiers (eqb (p % 2) 1)) (p / 2) hp),
-      next s (at + sizeOf t + sizeOf c) p _ e2)
+      let e2 : drop (at + sizeOf t + sizeOf c) s ≡ numberBytes p ++ r = next s (at + sizeOf t) c _ e1 in (
+        part-reads s at t _ (timePart s) ht e
+            ∙ part-reads s (at + sizeOf t) c _ (channelPart s t) (omega arith) e1
+            ∙ ap (λ (b : Bool). cond b (Bad LogChannel) (part s (at + sizeOf t + sizeOf c) (identifierPart s t c))) (le-ltb 31 c hc)
+            ∙ part-reads s (at + sizeOf t + sizeOf c) p _ (identifierPart s t c) hw e2
+            ∙ ap (λ (b : Bool). cond b (Bad (aboveOf (eqb (p % 2) 1))) (part s (at + sizeOf t + sizeOf c + sizeOf p) (lengthPart s t c p))) (lt-leb (identifiers (eqb (p % 2) 1)) (p / 2) hp),
+        next s (at + sizeOf t + sizeOf c) p _ e2,
+      )
 
   tick-is : (t c i : ℕ) (r : List ℕ) → drop i s ≡ numberBytes 9 ++ r → part s i (lengthPart s t c 0) ≡ Whole (tickEntry t c (i + sizeOf 9))
   unfolding lengthPart

@@ -36,7 +36,7 @@ same-bytes : (s : List ℕ) (i n j : ℕ) → j ≤ length (drop i s) → Sound 
 same-bytes s i n j h e =
     let l : sizeOf n ≡ j = omega (arith, sym (length-append (numberBytes n) (drop j (drop i s))) ∙ ap length e, length-drop j (drop i s)) in
     let t : take j (drop i s) ≡ numberBytes n =
-        ap (take j) (sym e) ∙ ap (λ (k : ℕ). take k (numberBytes n ++ drop j (drop i s))) (sym l) ∙ take-append-seam (numberBytes n) (drop j (drop i s)) in
+    ap (take j) (sym e) ∙ ap (λ (k : ℕ). take k (numberBytes n ++ drop j (drop i s))) (sym l) ∙ take-append-seam (numberBytes n) (drop j (drop i s)) in
     take-add i j s ∙ ap (λ (x : List ℕ). take i s ++ x) t
 
 as-read-of : (s : List ℕ) (i : ℕ) (r : Num) → i ≤ length s → Some r → Under (top 4) (length (drop i s)) r → (Bytes s → Sound 4 (drop i s) r) → AsRead s i r
@@ -84,20 +84,22 @@ module _ (s : List ℕ) (at : ℕ) where
   whole-tick : (t c p l i : ℕ) → InWord t → c ≤ 31 → l ≡ 9 → p ≡ 0 → Head t c p l i → Bytes s
       → Loggable (tick t c) × (take i s ≡ take at s ++ recordBytes (tick t c))
   unfolding recordBytes
-  whole-tick t c p l i ht hc l9 p0 h b =
-      ((ht, hc),
-      h b ∙ ap₂ (λ (x y : ℕ). (((take at s ++ numberBytes t) ++ numberBytes c) ++ numberBytes x) ++ numberBytes y) p0 l9
-      ∙ sym (append-nil _) ∙ five (take at s) (numberBytes t) (numberBytes c) (numberBytes 0) (numberBytes 9) [])
+  whole-tick t c p l i ht hc l9 p0 h b = (
+    (ht, hc),
+    h b ∙ ap₂ (λ (x y : ℕ). (((take at s ++ numberBytes t) ++ numberBytes c) ++ numberBytes x) ++ numberBytes y) p0 l9
+        ∙ sym (append-nil _) ∙ five (take at s) (numberBytes t) (numberBytes c) (numberBytes 0) (numberBytes 9) [],
+  )
 
   whole-frame : (t c p l i : ℕ) → InWord t → c ≤ 31 → p / 2 < identifiers (eqb (p % 2) 1) → l ≤ 8 → l ≤ length s - i → Head t c p l i → Bytes s
       → Loggable (frame t c (eqb (p % 2) 1) (p / 2) (take l (drop i s))) × (take (i + l) s ≡ take at s ++ recordBytes (frame t c (eqb (p % 2) 1) (p / 2) (take l (drop i s))))
   unfolding recordBytes
   whole-frame t c p l i ht hc hp hl room h b =
-      let len : length (take l (drop i s)) ≡ l = length-take-le l (drop i s) (omega (arith, length-drop i s)) in
-      ((ht, hc, hp, omega (arith, len)),
-      take-add i l s ∙ ap (λ (x : List ℕ). x ++ take l (drop i s)) (h b)
-      ∙ five (take at s) (numberBytes t) (numberBytes c) (numberBytes p) (numberBytes l) (take l (drop i s))
-      ∙ ap₂ (λ (x y : ℕ). take at s ++ partsBytes t c x y (take l (drop i s))) (sym (part-back p (eqb (p % 2) 1) refl)) (sym len))
+      let len : length (take l (drop i s)) ≡ l = length-take-le l (drop i s) (omega (arith, length-drop i s)) in (
+        (ht, hc, hp, omega (arith, len)),
+        take-add i l s ∙ ap (λ (x : List ℕ). x ++ take l (drop i s)) (h b)
+            ∙ five (take at s) (numberBytes t) (numberBytes c) (numberBytes p) (numberBytes l) (take l (drop i s))
+            ∙ ap₂ (λ (x y : ℕ). take at s ++ partsBytes t c x y (take l (drop i s))) (sym (part-back p (eqb (p % 2) 1) refl)) (sym len),
+      )
 
   test : (t : Bool) (x y : Taken) → (t ≡ true → Exact s at x) → (t ≡ false → Exact s at y) → Exact s at (cond t x y)
   test = by-test (Exact s at)

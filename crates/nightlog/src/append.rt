@@ -103,13 +103,7 @@ fn too_long(night: Night, line: &[u8], out: &mut [u8]) -> Night {
 }
 
 // The line in the buffer is whole.
-fn ended(
-    night: Night,
-    name: &[u8],
-    line: &[u8],
-    room: &mut [u8],
-    out: &mut [u8],
-) -> Night {
+fn ended(night: Night, name: &[u8], line: &[u8], room: &mut [u8], out: &mut [u8]) -> Night {
     let have = night.have;
     let mut n = night;
     n.have = 0;
@@ -197,13 +191,7 @@ fn run(
 }
 
 // desk.md: "The last line may lack its line feed."
-fn last_line(
-    night: Night,
-    name: &[u8],
-    line: &[u8],
-    room: &mut [u8],
-    out: &mut [u8],
-) -> Night {
+fn last_line(night: Night, name: &[u8], line: &[u8], room: &mut [u8], out: &mut [u8]) -> Night {
     if night.stopped {
         return night;
     }
@@ -240,7 +228,7 @@ fn appended(fd: i32, name: &[u8], piece: &mut [u8], out: &mut [u8]) {
     say::appended(name, n.records, out);
 }
 
-pub fn night(name: &[u8]) {
+pub fn from_input(name: &[u8]) {
     let mut piece = io::large_buffer();
     let mut out = io::large_buffer();
     let fd = file::opened(name, &mut out);

@@ -55,14 +55,7 @@ fn record_in(h: Heard, room: &[u8], out: &mut [u8]) -> Record {
             if length > room.len() {
                 return Record::Bad;
             }
-            as_record(log::write_frame(
-                time,
-                channel,
-                id,
-                extended,
-                &room[0..length],
-                out,
-            ))
+            as_record(log::write_frame(time, channel, id, extended, &room[0..length], out))
         }
         Heard::Tick { channel, time } => as_record(log::write_tick(time, channel, out)),
     }

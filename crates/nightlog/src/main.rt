@@ -15,7 +15,7 @@ fn usage() {
 
 fn run(word: &[u8], name: &[u8]) {
     if check::same(word, b"append") {
-        append::night(name);
+        append::from_input(name);
         return;
     }
     if check::same(word, b"show") {

@@ -26,7 +26,7 @@ pub struct Walk {
 }
 
 // The whole records of a piece, and how many bytes they take.
-struct Taken {
+struct Passed {
     records: u64,
     at: usize,
     pen: Pen,
@@ -45,7 +45,7 @@ fn ended(w: Walk, ending: Ending) -> Walk {
 }
 
 fn changed(w: Walk, name: &[u8], out: &mut [u8]) -> Walk {
-    say::about(name, b": the file changed while it was read", out);
+    say::words(name, b"the file changed while it was read", out);
     ended(w, Ending::Failed)
 }
 
@@ -80,14 +80,14 @@ fn shown_if(shown: bool, piece: &[u8], e: log::Entry, out: &mut [u8], pen: Pen) 
     pen
 }
 
-fn records_in(piece: &[u8], shown: bool, pen: Pen, out: &mut [u8]) -> Taken {
+fn records_in(piece: &[u8], shown: bool, pen: Pen, out: &mut [u8]) -> Passed {
     let mut at = 0;
     let mut records = 0;
     let mut p = pen;
     let mut turns = piece.len();
     while turns > 0 {
         let Found::Record(e) = log::record_at(piece, at) else {
-            return Taken {
+            return Passed {
                 records,
                 at,
                 pen: p,
@@ -98,7 +98,7 @@ fn records_in(piece: &[u8], shown: bool, pen: Pen, out: &mut [u8]) -> Taken {
         records = wrapping_add_u64(records, 1);
         turns -= 1;
     }
-    Taken {
+    Passed {
         records,
         at,
         pen: p,
@@ -182,10 +182,7 @@ fn fresh(size: u64) -> Walk {
         at: 0,
         more: true,
         ending: Ending::End,
-        pen: Pen {
-            at: 0,
-            full: false,
-        },
+        pen: Pen { at: 0, full: false },
     }
 }
 

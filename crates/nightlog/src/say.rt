@@ -2,28 +2,20 @@
 use text::Pen;
 
 // `nightlog: FILE`
-pub fn named(name: &[u8], out: &mut [u8]) -> Pen {
-    let p = text::put(
-        out,
-        Pen {
-            at: 0,
-            full: false,
-        },
-        b"nightlog: ",
-    );
+fn named(name: &[u8], out: &mut [u8]) -> Pen {
+    let p = text::put(out, Pen { at: 0, full: false }, b"nightlog: ");
     text::put(out, p, name)
+}
+
+// `nightlog: FILE: `
+pub fn about(name: &[u8], out: &mut [u8]) -> Pen {
+    let p = named(name, out);
+    text::put(out, p, b": ")
 }
 
 // `nightlog: line N`
 fn at_line(line: u64, out: &mut [u8]) -> Pen {
-    let p = text::put(
-        out,
-        Pen {
-            at: 0,
-            full: false,
-        },
-        b"nightlog: line ",
-    );
+    let p = text::put(out, Pen { at: 0, full: false }, b"nightlog: line ");
     text::put_decimal(out, p, line)
 }
 
@@ -60,9 +52,9 @@ pub fn fail_line(name: &[u8], line: u64, out: &mut [u8]) {
     failed(r.at, out);
 }
 
-pub fn about(name: &[u8], words: &[u8], out: &mut [u8]) {
-    let p = named(name, out);
-    let q = text::put(out, p, words);
+pub fn words(name: &[u8], said: &[u8], out: &mut [u8]) {
+    let p = about(name, out);
+    let q = text::put(out, p, said);
     ended(q, out);
 }
 
@@ -85,14 +77,15 @@ fn put_left(left: u64, pen: Pen, out: &mut [u8]) -> Pen {
 }
 
 pub fn cut_back(name: &[u8], at: u64, left: u64, out: &mut [u8]) {
-    let p = named(name, out);
-    let q = text::put(out, p, b": cut back to byte ");
+    let p = about(name, out);
+    let q = text::put(out, p, b"cut back to byte ");
     let r = text::put_decimal(out, q, at);
-    ended(put_left(left, r, out), out);
+    let t = put_left(left, r, out);
+    ended(t, out);
 }
 
 pub fn appended(name: &[u8], records: u64, out: &mut [u8]) {
-    let p = text::put(out, named(name, out), b": ");
+    let p = about(name, out);
     let q = text::put_decimal(out, p, records);
     let r = text::put(out, q, b" records appended");
     ended(r, out);

@@ -12,10 +12,7 @@ fn flushed(out: &[u8], pen: Pen) -> Pen {
         return pen;
     }
     if io::write_all(libc::STDOUT_FILENO, &out[0..at]) {
-        return Pen {
-            at: 0,
-            full: false,
-        };
+        return Pen { at: 0, full: false };
     }
     os::fail(b"nightlog: writing standard output");
     Pen { at: 0, full: true }
@@ -57,13 +54,7 @@ pub fn record(s: &[u8], e: Entry, out: &mut [u8], pen: Pen) -> Pen {
         return notation::answer::line_end(out, q);
     }
     let q = put_stamp(out, p, b"frame ", e.channel, e.time);
-    put_frame(
-        out,
-        q,
-        e.id,
-        e.extended,
-        log::payload(s, e.start, e.length),
-    )
+    put_frame(out, q, e.id, e.extended, log::payload(s, e.start, e.length))
 }
 
 fn put_at(out: &mut [u8], pen: Pen, at: u64) -> Pen {
@@ -108,7 +99,7 @@ fn is_failed(ending: Ending) -> bool {
 
 // `nightlog: FILE: ENDING` and further words
 pub fn say_ending(name: &[u8], ending: Ending, at: u64, words: &[u8], out: &mut [u8]) {
-    let p = text::put(out, say::named(name, out), b": ");
+    let p = say::about(name, out);
     let q = put_ending(out, p, ending, at);
     let r = text::put(out, q, words);
     say::ended(r, out);
@@ -129,14 +120,7 @@ pub fn lines(name: &[u8]) {
 
 // `N records, ENDING`
 fn put_count(out: &mut [u8], records: u64, ending: Ending, at: u64) -> Pen {
-    let p = text::put_decimal(
-        out,
-        Pen {
-            at: 0,
-            full: false,
-        },
-        records,
-    );
+    let p = text::put_decimal(out, Pen { at: 0, full: false }, records);
     let q = text::put(out, p, b" records, ");
     let r = put_ending(out, q, ending, at);
     notation::answer::line_end(out, r)
