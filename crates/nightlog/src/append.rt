@@ -201,7 +201,7 @@ fn last_line(night: Night, name: &[u8], line: &[u8], room: &mut [u8], out: &mut 
     ended(night, name, line, room, out)
 }
 
-fn fresh(fd: i32, end: u64) -> Night {
+fn fresh(fd: i32, end: u64, unflushed: bool) -> Night {
     Night {
         fd,
         end,
@@ -209,7 +209,7 @@ fn fresh(fd: i32, end: u64) -> Night {
         line: 0,
         have: 0,
         over: false,
-        unflushed: true,
+        unflushed,
         second: 0,
         stopped: false,
     }
@@ -222,7 +222,8 @@ fn appended(fd: i32, name: &[u8], piece: &mut [u8], out: &mut [u8]) {
     }
     let mut line = io::large_buffer();
     let mut room = io::large_buffer();
-    let a = run(fresh(fd, w.at), name, piece, &mut line, &mut room, out);
+    let start = fresh(fd, w.at, w.at < w.size);
+    let a = run(start, name, piece, &mut line, &mut room, out);
     let b = last_line(a, name, &line, &mut room, out);
     let n = flushed(b, name, out);
     say::appended(name, n.records, out);
