@@ -24,6 +24,7 @@ struct Night {
 // desk.md: "a line over 65,535 bytes"
 const LONGEST: usize = 65535;
 
+// The system's clock. The monotonic one is told through a reference to a struct, which would have its caller proved by hand.
 fn second() -> i64 {
     let mut t: i64 = 0;
     libc::time(&mut t)
@@ -45,7 +46,7 @@ fn flushed(night: Night, name: &[u8], out: &mut [u8]) -> Night {
     n
 }
 
-// A clock that is set moves the second too, so that no flush is put off by it.
+// A clock that is set moves the second too; only one set back by less than a second puts a flush off, and by no more than that.
 fn flushed_in_time(night: Night, name: &[u8], out: &mut [u8]) -> Night {
     if second() == night.second {
         return night;
@@ -215,18 +216,26 @@ fn fresh(fd: i32, end: u64, unflushed: bool) -> Night {
     }
 }
 
+fn finish(night: Night, name: &[u8], out: &mut [u8]) {
+    let n = flushed(night, name, out);
+    say::appended(name, n.records, out);
+}
+
+fn all_lines(start: Night, name: &[u8], piece: &mut [u8], out: &mut [u8]) {
+    let mut line = io::large_buffer();
+    let mut room = io::large_buffer();
+    let a = run(start, name, piece, &mut line, &mut room, out);
+    let b = last_line(a, name, &line, &mut room, out);
+    finish(b, name, out);
+}
+
 fn appended(fd: i32, name: &[u8], piece: &mut [u8], out: &mut [u8]) {
     let w = pieces::read_file(name, false, piece, out);
     if !file::is_ready(fd, name, w, out) {
         return;
     }
-    let mut line = io::large_buffer();
-    let mut room = io::large_buffer();
     let start = fresh(fd, w.at, w.at < w.size);
-    let a = run(start, name, piece, &mut line, &mut room, out);
-    let b = last_line(a, name, &line, &mut room, out);
-    let n = flushed(b, name, out);
-    say::appended(name, n.records, out);
+    all_lines(start, name, piece, out);
 }
 
 pub fn from_input(name: &[u8]) {

@@ -34,9 +34,11 @@ fn flush_folder(name: &[u8], out: &mut [u8]) {
     if fd < 0 {
         return;
     }
-    if libc::fsync(fd) != 0 {
-        say::fail(name, b": flushing its folder", out);
+    if libc::fsync(fd) == 0 {
+        libc::close(fd);
+        return;
     }
+    say::fail(name, b": flushing its folder", out);
     libc::close(fd);
 }
 
@@ -49,9 +51,10 @@ fn made(name: &[u8], out: &mut [u8]) -> i32 {
     libc::close(new);
     flush_folder(name, out);
     let fd = os::open_append(name);
-    if fd < 0 {
-        say::fail(name, b"", out);
+    if fd >= 0 {
+        return fd;
     }
+    say::fail(name, b"", out);
     fd
 }
 

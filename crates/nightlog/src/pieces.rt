@@ -143,6 +143,7 @@ fn taken(w: Walk, piece: &[u8], shown: bool, name: &[u8], out: &mut [u8]) -> Wal
     judged(next, log::record_at(piece, at), at == 0, last, name, out)
 }
 
+// The file is read before its length is asked, so that a folder is an error, whatever its length.
 fn next_piece(w: Walk, fd: i32, shown: bool, name: &[u8], buf: &mut [u8], out: &mut [u8]) -> Walk {
     let got = libc::pread(fd, buf, offset(w.at));
     if got < 0 {
