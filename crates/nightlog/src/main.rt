@@ -4,6 +4,7 @@ mod pieces; // pieces.rt: the records of a file, piece by piece
 mod show; // show.rt: records as lines, and a log's ending
 mod file; // file.rt: the file that is appended to
 mod lines; // lines.rt: a line and its record
+mod night; // night.rt: the file of a night, written and flushed
 mod append; // append.rt: lines from standard input into the file
 
 fn usage() {
