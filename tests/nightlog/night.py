@@ -249,11 +249,8 @@ def main():
     with tempfile.TemporaryDirectory() as folder:
         os.chdir(folder)
         there_and_back()
-        print('T', time.monotonic() - began)
         places = cuts()
-        print('T', time.monotonic() - began)
         inside = kills()
-        print('T', time.monotonic() - began)
         full_disk()
         flushes()
         refusals()

@@ -44,8 +44,16 @@ fn ended(w: Walk, ending: Ending) -> Walk {
     }
 }
 
-fn changed(w: Walk, name: &[u8], out: &mut [u8]) -> Walk {
-    say::words(name, b"the file changed while it was read", out);
+// What is said in a walk has a buffer of its own: lines may wait in the walk's.
+fn changed(w: Walk, name: &[u8]) -> Walk {
+    let mut said = io::large_buffer();
+    say::words(name, b"the file changed while it was read", &mut said);
+    ended(w, Ending::Failed)
+}
+
+fn unread(w: Walk, name: &[u8]) -> Walk {
+    let mut said = io::large_buffer();
+    say::fail(name, b": reading", &mut said);
     ended(w, Ending::Failed)
 }
 
@@ -106,7 +114,7 @@ fn records_in(piece: &[u8], shown: bool, pen: Pen, out: &mut [u8]) -> Passed {
 }
 
 // What stands behind a piece's whole records. A piece that is cut in its first record is the file's last.
-fn judged(w: Walk, found: Found, first: bool, last: bool, name: &[u8], out: &mut [u8]) -> Walk {
+fn judged(w: Walk, found: Found, first: bool, last: bool, name: &[u8]) -> Walk {
     match found {
         Found::Record(_) => w,
         Found::End => w,
@@ -117,7 +125,7 @@ fn judged(w: Walk, found: Found, first: bool, last: bool, name: &[u8], out: &mut
             if last {
                 return ended(w, Ending::Cut);
             }
-            changed(w, name, out)
+            changed(w, name)
         }
         Found::Refused(why, _) => ended(w, Ending::Bad(why)),
     }
@@ -140,25 +148,24 @@ fn taken(w: Walk, piece: &[u8], shown: bool, name: &[u8], out: &mut [u8]) -> Wal
     if pen.full {
         return ended(next, Ending::Failed);
     }
-    judged(next, log::record_at(piece, at), at == 0, last, name, out)
+    judged(next, log::record_at(piece, at), at == 0, last, name)
 }
 
 // The file is read before its length is asked, so that a folder is an error, whatever its length.
 fn next_piece(w: Walk, fd: i32, shown: bool, name: &[u8], buf: &mut [u8], out: &mut [u8]) -> Walk {
     let got = libc::pread(fd, buf, offset(w.at));
     if got < 0 {
-        say::fail(name, b": reading", out);
-        return ended(w, Ending::Failed);
+        return unread(w, name);
     }
     if w.at >= w.size {
         return ended(w, Ending::End);
     }
     let n = within(io::count(got, buf), w.at, w.size);
     if n == 0 {
-        return changed(w, name, out);
+        return changed(w, name);
     }
     if n > buf.len() {
-        return changed(w, name, out);
+        return changed(w, name);
     }
     taken(w, &buf[0..n], shown, name, out)
 }
