@@ -85,7 +85,7 @@ def there_and_back():
 
 def cuts():
     """02: "A log cut after any byte reads as exactly the records wholly before the cut, and tells whether a piece is left over"."""
-    lines = some_lines(2, 34)
+    lines = some_lines(2, 38)
     parts = list(map(record, lines))
     bytes_ = b''.join(parts)
     more = 'frame 31 4294967295 1fffffff x 0001020304050607'
@@ -201,6 +201,20 @@ def flushes():
     run.wait()
 
 
+def changed():
+    """A file that is cut while it is shown: the lines of the first piece, whole, and then the reason."""
+    lines = some_lines(6, 10000)
+    parts = list(map(record, lines))
+    write('shrinks.log', b''.join(parts))
+    run = subprocess.Popen([*COMMAND, 'show', 'shrinks.log'], stdout=subprocess.PIPE, stderr=subprocess.PIPE)
+    # the lines of one piece do not fit into a pipe, so the program waits for this to be read
+    first = run.stdout.read(1)
+    os.truncate('shrinks.log', 0)
+    shown, said = run.communicate(timeout=30)
+    same((first + shown).decode(), ''.join(line + '\n' for line in lines[:whole(parts, 65536)[0]]), 'shown while it is cut')
+    same(said.decode(), 'nightlog: shrinks.log: the file changed while it was read\n', 'cut while it is shown')
+
+
 def refusals():
     told = ['tick 1 1', 'hello', '', '# words', 'tick 32 1', 'frame 1 2 800 s -', 'frame 1 2 20000000 x -', 'frame 1 2 3 s 000102030405060708',
             'tick 1', 'tick 1 2 3', 'frame 1 2 3 s', 'frame 1 2 3 s 0', 'frame 1 2 3 y -', 'tick 01 1', 'tick 1 4294967296', 'x' * 70000, '#' * 70000,
@@ -253,6 +267,7 @@ def main():
         inside = kills()
         full_disk()
         flushes()
+        changed()
         refusals()
         errors()
         os.chdir('/')

@@ -18,7 +18,14 @@ pub struct Night {
     pub stopped: bool,
 }
 
+// The system's clock. The monotonic one is told through a reference to a struct, which would have its caller proved by hand.
+fn second() -> i64 {
+    let mut t: i64 = 0;
+    libc::time(&mut t)
+}
+
 pub fn fresh(fd: i32, end: u64, unflushed: bool) -> Night {
+    let now = second();
     Night {
         fd,
         end,
@@ -27,15 +34,9 @@ pub fn fresh(fd: i32, end: u64, unflushed: bool) -> Night {
         have: 0,
         over: false,
         unflushed,
-        second: 0,
+        second: now,
         stopped: false,
     }
-}
-
-// The system's clock. The monotonic one is told through a reference to a struct, which would have its caller proved by hand.
-fn second() -> i64 {
-    let mut t: i64 = 0;
-    libc::time(&mut t)
 }
 
 pub fn flushed(night: Night, name: &[u8], out: &mut [u8]) -> Night {
