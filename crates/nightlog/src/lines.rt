@@ -1,0 +1,67 @@
+// A line of the input and its record.
+use log::Logged;
+use notation::heard;
+use notation::heard::Heard;
+use pages::Refusal;
+
+// A record's bytes are the first of the buffer that was lent for them; Bad where the line is no frame or tick.
+pub enum Record {
+    Bad,
+    Bytes(usize),
+    Refused(Refusal),
+}
+
+// desk.md: "Blank lines and lines whose first character is `#` .. are skipped".
+pub fn is_skipped(s: &[u8]) -> bool {
+    if s.len() == 0 {
+        return true;
+    }
+    s[0] == b'#'
+}
+
+fn heard_in(s: &[u8], room: &mut [u8]) -> Heard {
+    let e = text::word_end(s, 0);
+    if e >= s.len() {
+        return Heard::Bad;
+    }
+    let word = &s[0..e];
+    let at = e + 1;
+    if check::same(word, b"frame") {
+        return heard::frame_line(s, at, room);
+    }
+    if check::same(word, b"tick") {
+        return heard::tick_line(s, at);
+    }
+    Heard::Bad
+}
+
+fn as_record(l: Logged) -> Record {
+    match l {
+        Logged::Bytes(n) => Record::Bytes(n),
+        Logged::Refused(why) => Record::Refused(why),
+    }
+}
+
+fn record_in(h: Heard, room: &[u8], out: &mut [u8]) -> Record {
+    match h {
+        Heard::Bad => Record::Bad,
+        Heard::Frame {
+            channel,
+            time,
+            id,
+            extended,
+            length,
+        } => {
+            if length > room.len() {
+                return Record::Bad;
+            }
+            as_record(log::write_frame(time, channel, id, extended, &room[0..length], out))
+        }
+        Heard::Tick { channel, time } => as_record(log::write_tick(time, channel, out)),
+    }
+}
+
+pub fn record_of(s: &[u8], room: &mut [u8], out: &mut [u8]) -> Record {
+    let h = heard_in(s, room);
+    record_in(h, room, out)
+}

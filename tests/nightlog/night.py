@@ -1,0 +1,277 @@
+"""night.py COMMAND...: runs nightlog, which COMMAND starts, against words.py. Anything that is not as it should be ends it with status 1."""
+import concurrent.futures
+import os
+import random
+import resource
+import signal
+import subprocess
+import sys
+import tempfile
+import threading
+import time
+
+from words import record, some_lines
+
+COMMAND = sys.argv[1:]
+SEED = random.randrange(10**6)
+KILLS = 100
+
+
+def hold(said, *shown):
+    if not said:
+        sys.exit(f'tests/nightlog: {" | ".join(map(str, shown))}')
+
+
+def same(got, want, what):
+    hold(got == want, what, f'got {got!r}', f'want {want!r}')
+
+
+def nightlog(*words, told='', **more):
+    """What the program writes on standard output and on standard error."""
+    if isinstance(told, list):
+        told = ''.join(line + '\n' for line in told)
+    ended = subprocess.run([*COMMAND, *words], input=told.encode(), stdout=more.pop('stdout', subprocess.PIPE), stderr=subprocess.PIPE, timeout=30, **more)
+    hold(ended.returncode == 0, words, f'ended with {ended.returncode}', ended.stderr)
+    return (ended.stdout or b'').decode(), ended.stderr.decode()
+
+
+def written(path):
+    with open(path, 'rb') as f:
+        return f.read()
+
+
+def write(path, bytes_):
+    with open(path, 'wb') as f:
+        f.write(bytes_)
+
+
+def whole(parts, size):
+    """How many of the records stand whole within the first bytes, and how many bytes they take."""
+    count = at = 0
+    while count < len(parts) and at + len(parts[count]) <= size:
+        at += len(parts[count])
+        count += 1
+    return count, at
+
+
+def appended(path, count):
+    return f'nightlog: {path}: {count} records appended\n'
+
+
+def cut_back(path, at, left):
+    return f'nightlog: {path}: cut back to byte {at}, {left} bytes of a piece left over\n'
+
+
+def there_and_back():
+    """A log of every kind of record, made in two runs, is the paper's bytes and is shown as the same lines; a long one is read in pieces."""
+    lines = ['frame 2 300 6b000 x 01', *some_lines(1, 400)]
+    same(record(lines[0]).hex(), 'ac020281c0350101', "02's own record")
+    bytes_ = b''.join(map(record, lines))
+    for part in (lines[:150], lines[150:]):
+        same(nightlog('append', 'a.log', told=part), ('', appended('a.log', len(part))), 'append')
+    same(written('a.log'), bytes_, 'the bytes of 401 records')
+    same(nightlog('show', 'a.log'), (''.join(line + '\n' for line in lines), ''), 'show')
+    same(nightlog('check', 'a.log'), ('401 records, END\n', ''), 'check')
+
+    long = 300000 // len(bytes_)
+    write('long.log', bytes_ * long + b'\x80')
+    shown, said = nightlog('show', 'long.log')
+    same(shown, ''.join(line + '\n' for line in lines) * long, 'a log of some pieces, shown')
+    same(said, f'nightlog: long.log: CUT@{long * len(bytes_)}\n', 'its ending')
+    same(nightlog('append', 'long.log', told='tick 7 7')[1],
+         cut_back('long.log', long * len(bytes_), 1) + appended('long.log', 1), 'a log of some pieces, appended to')
+    same(nightlog('check', 'long.log'), (f'{401 * long + 1} records, END\n', ''), 'a log of some pieces')
+
+
+def cuts():
+    """02: "A log cut after any byte reads as exactly the records wholly before the cut, and tells whether a piece is left over"."""
+    lines = some_lines(2, 38)
+    parts = list(map(record, lines))
+    bytes_ = b''.join(parts)
+    more = 'frame 31 4294967295 1fffffff x 0001020304050607'
+    sample = random.Random(3).sample(range(len(bytes_) + 1), 40)
+
+    def cut_after(size):
+        name = f'cut.{size}'
+        write(name, bytes_[:size])
+        count, at = whole(parts, size)
+        ending = 'END' if at == size else f'CUT@{at}'
+        same(nightlog('check', name), (f'{count} records, {ending}\n', ''), f'cut after byte {size}')
+        if size in sample:
+            said = cut_back(name, at, size - at) if at < size else ''
+            same(nightlog('append', name, told=[more]), ('', said + appended(name, 1)), f'appended after a cut at {size}')
+            same(written(name), bytes_[:at] + record(more), f'appended after a cut at {size}')
+        os.remove(name)
+
+    with concurrent.futures.ThreadPoolExecutor(os.cpu_count()) as pool:
+        list(pool.map(cut_after, range(len(bytes_) + 1)))
+    return len(bytes_) + 1
+
+
+def feed(pipe, lines):
+    """Ten lines at a time, so that not all of them are there before the kill comes."""
+    try:
+        for i in range(0, len(lines), 10):
+            pipe.write(''.join(line + '\n' for line in lines[i:i + 10]).encode())
+            time.sleep(0.001)
+    except BrokenPipeError:
+        pass
+
+
+def killed(r, path, lines, waits):
+    """Some of the lines reach the file before the program is killed."""
+    before = os.path.getsize(path) if os.path.exists(path) else 0
+    run = subprocess.Popen([*COMMAND, 'append', path], stdin=subprocess.PIPE, stderr=subprocess.DEVNULL, bufsize=0)
+    feed(run.stdin, lines[:10])
+    patience = time.monotonic() + 10
+    while waits and (not os.path.exists(path) or os.path.getsize(path) <= before):
+        hold(time.monotonic() < patience and run.poll() is None, 'nothing was appended before the kill')
+        time.sleep(0.0005)
+    feeder = threading.Thread(target=feed, args=(run.stdin, lines[10:]))
+    feeder.start()
+    time.sleep(r.uniform(0, 0.03))
+    run.kill()
+    run.wait()
+    feeder.join()
+    run.stdin.close()
+
+
+def kills():
+    """Killed at any moment the file holds a prefix of what was fed, and all that it held before; the next run goes on from there."""
+    print(f'nightlog: kills from seed {SEED}')
+    r, kept, bytes_, inside = random.Random(SEED), [], b'', 0
+    for turn in range(KILLS):
+        lines = some_lines(r.random(), 600)
+        parts = list(map(record, lines))
+        # a kill that waits for no record may come before the piece of the last turn is cut off
+        killed(r, 'killed.log', lines, turn % 10 != 9)
+        got = written('killed.log') if os.path.exists('killed.log') else b''
+        hold(got[:len(bytes_)] == bytes_, f'turn {turn}: a record of an earlier turn is lost')
+        rest = got[len(bytes_):]
+        if turn % 10 == 9 and rest == left:
+            continue
+        hold(b''.join(parts).startswith(rest), f'turn {turn}: not a prefix of what was fed')
+        count, at = whole(parts, len(rest))
+        inside += 0 < count < len(parts)
+        kept += lines[:count]
+        bytes_ += rest[:at]
+        # the plug is pulled in the middle of the next record
+        left = parts[count][:r.randrange(len(parts[count]))] if count < len(parts) else b''
+        write('killed.log', bytes_ + left)
+    ending = f'CUT@{len(bytes_)}' if left else 'END'
+    same(nightlog('check', 'killed.log'), (f'{len(kept)} records, {ending}\n', ''), 'after the kills')
+    same(nightlog('show', 'killed.log')[0], ''.join(line + '\n' for line in kept), 'after the kills')
+    hold(inside >= KILLS // 2, f'only {inside} of {KILLS} kills left some but not all of their records')
+    return inside
+
+
+def full_disk():
+    """A file that may grow no further holds the whole records before that, the line is named, and nothing follows."""
+    lines = some_lines(4, 40)
+    parts = list(map(record, lines))
+    r = random.Random(5)
+    for limit in [0, 1, len(parts[0]), *r.sample(range(2, sum(map(len, parts))), 12)]:
+        def small():
+            signal.signal(signal.SIGXFSZ, signal.SIG_IGN)
+            resource.setrlimit(resource.RLIMIT_FSIZE, (limit, limit))
+        name = f'full.{limit}'
+        count, at = whole(parts, limit)
+        same(nightlog('append', name, told=lines, preexec_fn=small),
+             ('', f'nightlog: {name}: writing line {count + 1}: File too large\n' + appended(name, count)), f'a file of {limit} bytes at most')
+        same(written(name), b''.join(parts)[:at], f'a file of {limit} bytes at most')
+    same(nightlog('append', '/dev/full', told='tick 1 2')[1],
+         'nightlog: /dev/full: writing line 1: No space left on device\n'
+         'nightlog: /dev/full: cutting back: Invalid argument\n'
+         'nightlog: /dev/full: flushing: Invalid argument\n' + appended('/dev/full', 0), 'a full device')
+    with open('/dev/full', 'w') as full:
+        same(nightlog('show', 'a.log', stdout=full)[1], 'nightlog: writing standard output: No space left on device\n', 'shown on a full device')
+
+
+def flushes():
+    """/dev/null takes every write and no flush: a flush comes with the first record, and before the program waits for more."""
+    said = 'nightlog: /dev/null: flushing: Invalid argument\n' + appended('/dev/null', 1)
+    same(nightlog('append', '/dev/null', told=['tick 1 1', 'tick 1 2', 'tick 1 3'])[1], said, 'a file that cannot be flushed')
+    run = subprocess.Popen([*COMMAND, 'append', '/dev/null'], stdin=subprocess.PIPE, stderr=subprocess.PIPE)
+    run.stdin.write(b'tick 1 1\n')
+    run.stdin.flush()
+    clock = threading.Timer(20, run.kill)
+    clock.start()
+    same(run.stderr.read().decode(), said, 'flushed before the next wait')
+    clock.cancel()
+    run.wait()
+
+
+def changed():
+    """A file that is cut while it is shown: the lines of the first piece, whole, and then the reason."""
+    lines = some_lines(6, 10000)
+    parts = list(map(record, lines))
+    write('shrinks.log', b''.join(parts))
+    run = subprocess.Popen([*COMMAND, 'show', 'shrinks.log'], stdout=subprocess.PIPE, stderr=subprocess.PIPE)
+    # the lines of one piece do not fit into a pipe, so the program waits for this to be read
+    first = run.stdout.read(1)
+    os.truncate('shrinks.log', 0)
+    shown, said = run.communicate(timeout=30)
+    same((first + shown).decode(), ''.join(line + '\n' for line in lines[:whole(parts, 65536)[0]]), 'shown while it is cut')
+    same(said.decode(), 'nightlog: shrinks.log: the file changed while it was read\n', 'cut while it is shown')
+
+
+def refusals():
+    told = ['tick 1 1', 'hello', '', '# words', 'tick 32 1', 'frame 1 2 800 s -', 'frame 1 2 20000000 x -', 'frame 1 2 3 s 000102030405060708',
+            'tick 1', 'tick 1 2 3', 'frame 1 2 3 s', 'frame 1 2 3 s 0', 'frame 1 2 3 y -', 'tick 01 1', 'tick 1 4294967296', 'x' * 70000, '#' * 70000,
+            'frame 1 2 7ff s -', 'setup 0 2 1 1 1 1', 'frame 32 2 800 s 000102030405060708', 'frame 1 2 1fffffff x 0001020304050607']
+    refused = {5: 'R17', 6: 'R18', 7: 'R19', 8: 'R20', 20: 'R17'}
+    other = {n: 'no frame or tick' for n in (2, 9, 10, 11, 12, 13, 14, 15, 16, 19)}
+    said = ''.join(f'nightlog: line {n}: {words}\n' for n, words in sorted({**refused, **other}.items()))
+    same(nightlog('append', 'bad.log', told=told)[1], said + appended('bad.log', 3), 'lines that are refused')
+    same(written('bad.log'), b''.join(record(told[n]) for n in (0, 17, 20)), 'between lines that are refused')
+    same(nightlog('append', 'last.log', told='tick 1 1\ntick 1 2')[1], appended('last.log', 2), 'a last line without its line feed')
+
+    good = record('tick 1 1')
+    damaged = {16: b'\x80\x00', 17: b'\x01\x20', 18: b'\x01\x01\x80\x20', 19: b'\x01\x01\x81\x80\x80\x80\x04', 20: b'\x01\x01\x00\x0a', 21: b'\x01\x01\x02\x09'}
+    for number, bytes_ in damaged.items():
+        log = good + bytes_ + good
+        write('damaged.log', log)
+        ending = f'BAD R{number}@{len(good)}'
+        same(nightlog('check', 'damaged.log'), (f'1 records, {ending}\n', ''), 'damaged')
+        same(nightlog('show', 'damaged.log'), ('tick 1 1\n', f'nightlog: damaged.log: {ending}\n'), 'damaged')
+        same(nightlog('append', 'damaged.log', told='tick 1 1'), ('', f'nightlog: damaged.log: {ending}: nothing is appended\n'), 'damaged')
+        same(written('damaged.log'), log, 'a damaged log is left as it was')
+
+
+def errors():
+    usage = 'usage: nightlog append FILE < LINES; nightlog show FILE; nightlog check FILE\n'
+    os.mkdir('folder')
+    for words, said in [
+        ((), usage), (('show',), usage), (('shows', 'a.log'), usage), (('show', 'a.log', 'b.log'), usage),
+        (('show', 'none.log'), 'nightlog: none.log: No such file or directory\n'),
+        (('check', 'none.log'), 'nightlog: none.log: No such file or directory\n'),
+        (('append', 'none/night.log'), 'nightlog: none/night.log: No such file or directory\n'),
+        (('append', 'folder'), 'nightlog: folder: Is a directory\n'),
+        (('show', 'folder'), 'nightlog: folder: reading: Is a directory\n'),
+        (('check', 'folder'), 'nightlog: folder: reading: Is a directory\n'),
+        (('check', 'n' * 300), f'nightlog: {"n" * 300}: File name too long\n'),
+        (('check', 'n/' * 2500), 'nightlog: FILE: File name too long\n'),
+    ]:
+        same(nightlog(*words), ('', said), words)
+    hold(not os.path.exists('none.log'), 'show or check made a file')
+    same(nightlog('append', 'folder/new.log'), ('', appended('folder/new.log', 0)), 'a new file in a folder')
+    same(nightlog('check', 'folder/new.log'), ('0 records, END\n', ''), 'a new file')
+
+
+def main():
+    began = time.monotonic()
+    with tempfile.TemporaryDirectory() as folder:
+        os.chdir(folder)
+        there_and_back()
+        places = cuts()
+        inside = kills()
+        full_disk()
+        flushes()
+        changed()
+        refusals()
+        errors()
+        os.chdir('/')
+    print(f'nightlog: {places} cuts, {KILLS} kills ({inside} amid their records), full disks and refusals as they should be, in {time.monotonic() - began:.0f} s')
+
+
+main()
