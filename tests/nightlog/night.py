@@ -35,7 +35,10 @@ def nightlog(*words, told='', **more):
     """What the program writes on standard output and on standard error."""
     if isinstance(told, list):
         told = ''.join(line + '\n' for line in told)
-    ended = subprocess.run([*COMMAND, *words], input=told.encode(), stdout=more.pop('stdout', subprocess.PIPE), stderr=subprocess.PIPE, timeout=30, **more)
+    if 'stdin' not in more:
+        more['input'] = told.encode()
+    more = {'stdout': subprocess.PIPE, **more}
+    ended = subprocess.run([*COMMAND, *words], stderr=subprocess.PIPE, timeout=30, **more)
     hold(ended.returncode == 0, words, f'ended with {ended.returncode}', ended.stderr)
     return (ended.stdout or b'').decode(), ended.stderr.decode()
 
@@ -274,6 +277,10 @@ def errors():
     hold(not os.path.exists('none.log'), 'show or check made a file')
     same(nightlog('append', 'folder/new.log'), ('', appended('folder/new.log', 0)), 'a new file in a folder')
     same(nightlog('check', 'folder/new.log'), ('0 records, END\n', ''), 'a new file')
+    here = os.open('.', os.O_RDONLY)
+    same(nightlog('append', 'folder/new.log', stdin=here)[1],
+         'nightlog: reading standard input: Is a directory\n' + appended('folder/new.log', 0), 'an input that cannot be read')
+    os.close(here)
 
 
 def main():
