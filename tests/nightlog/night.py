@@ -1,7 +1,9 @@
 """night.py COMMAND...: runs nightlog, which COMMAND starts, against words.py. Anything that is not as it should be ends it with status 1."""
 import concurrent.futures
+import math
 import os
 import random
+import re
 import resource
 import signal
 import subprocess
@@ -23,14 +25,20 @@ def hold(said, *shown):
 
 
 def same(got, want, what):
-    hold(got == want, what, f'got {got!r}', f'want {want!r}')
+    """Where they differ both are shown, long ones from a little before that on."""
+    got, want = repr(got), repr(want)
+    at = max(0, len(os.path.commonprefix([got, want])) - 100)
+    hold(got == want, what, 'got ' + got[at:at + 400], 'want ' + want[at:at + 400])
 
 
 def nightlog(*words, told='', **more):
     """What the program writes on standard output and on standard error."""
     if isinstance(told, list):
         told = ''.join(line + '\n' for line in told)
-    ended = subprocess.run([*COMMAND, *words], input=told.encode(), stdout=more.pop('stdout', subprocess.PIPE), stderr=subprocess.PIPE, timeout=30, **more)
+    if 'stdin' not in more:
+        more['input'] = told.encode()
+    more = {'stdout': subprocess.PIPE, **more}
+    ended = subprocess.run([*COMMAND, *words], stderr=subprocess.PIPE, timeout=30, **more)
     hold(ended.returncode == 0, words, f'ended with {ended.returncode}', ended.stderr)
     return (ended.stdout or b'').decode(), ended.stderr.decode()
 
@@ -85,7 +93,7 @@ def there_and_back():
 
 def cuts():
     """02: "A log cut after any byte reads as exactly the records wholly before the cut, and tells whether a piece is left over"."""
-    lines = some_lines(2, 38)
+    lines = some_lines(2, 34)
     parts = list(map(record, lines))
     bytes_ = b''.join(parts)
     more = 'frame 31 4294967295 1fffffff x 0001020304050607'
@@ -187,18 +195,31 @@ def full_disk():
         same(nightlog('show', 'a.log', stdout=full)[1], 'nightlog: writing standard output: No space left on device\n', 'shown on a full device')
 
 
-def flushes():
-    """/dev/null takes every write and no flush: a flush comes with the first record, and before the program waits for more."""
-    said = 'nightlog: /dev/null: flushing: Invalid argument\n' + appended('/dev/null', 1)
-    same(nightlog('append', '/dev/null', told=['tick 1 1', 'tick 1 2', 'tick 1 3'])[1], said, 'a file that cannot be flushed')
-    run = subprocess.Popen([*COMMAND, 'append', '/dev/null'], stdin=subprocess.PIPE, stderr=subprocess.PIPE)
-    run.stdin.write(b'tick 1 1\n')
-    run.stdin.flush()
+def unflushed(lines, until):
+    """How many of the lines, told at that moment in one piece, are appended to /dev/null, which takes every write and no flush. No more is
+    told, so that the program ends by a flush alone."""
+    run = subprocess.Popen([*COMMAND, 'append', '/dev/null'], stdin=subprocess.PIPE, stderr=subprocess.PIPE, bufsize=0)
     clock = threading.Timer(20, run.kill)
     clock.start()
-    same(run.stderr.read().decode(), said, 'flushed before the next wait')
+    time.sleep(max(0, until - time.time()))
+    run.stdin.write(''.join(line + '\n' for line in lines).encode())
+    said = run.stderr.read().decode()
     clock.cancel()
     run.wait()
+    run.stdin.close()
+    count = re.fullmatch(r'nightlog: /dev/null: flushing: Invalid argument\nnightlog: /dev/null: (\d+) records appended\n', said)
+    hold(count, 'a file that cannot be flushed', repr(said))
+    return int(count[1])
+
+
+def flushes():
+    """A flush comes before the program waits for more lines, and amid those of one piece where the clock's second changes."""
+    hold(unflushed(['tick 1 1', 'tick 1 2'], time.time()) in (1, 2), 'flushed before the next wait')
+    many = ['tick 1 1'] * 7000
+    for early in [0.03, 0.01, 0.005, 0.002, 0.001] * 4:
+        if 0 < unflushed(many, math.floor(time.time() + 0.5) + 1 - early) < len(many):
+            return
+    hold(False, 'no flush amid a piece when the second changes')
 
 
 def changed():
@@ -206,7 +227,7 @@ def changed():
     lines = some_lines(6, 10000)
     parts = list(map(record, lines))
     write('shrinks.log', b''.join(parts))
-    run = subprocess.Popen([*COMMAND, 'show', 'shrinks.log'], stdout=subprocess.PIPE, stderr=subprocess.PIPE)
+    run = subprocess.Popen([*COMMAND, 'show', 'shrinks.log'], stdout=subprocess.PIPE, stderr=subprocess.PIPE, bufsize=0)
     # the lines of one piece do not fit into a pipe, so the program waits for this to be read
     first = run.stdout.read(1)
     os.truncate('shrinks.log', 0)
@@ -256,6 +277,10 @@ def errors():
     hold(not os.path.exists('none.log'), 'show or check made a file')
     same(nightlog('append', 'folder/new.log'), ('', appended('folder/new.log', 0)), 'a new file in a folder')
     same(nightlog('check', 'folder/new.log'), ('0 records, END\n', ''), 'a new file')
+    here = os.open('.', os.O_RDONLY)
+    same(nightlog('append', 'folder/new.log', stdin=here)[1],
+         'nightlog: reading standard input: Is a directory\n' + appended('folder/new.log', 0), 'an input that cannot be read')
+    os.close(here)
 
 
 def main():
