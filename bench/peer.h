@@ -6,4 +6,7 @@ uint32_t peer_read(uint32_t id, bool extended, const uint8_t *p, size_t n, int64
 uint32_t peer_write(uint32_t kind, const int64_t *raws, size_t places, uint8_t *buffer, size_t room);
 uint32_t peer_frame(rokemaipu_table *t, uint32_t channel, uint32_t time, uint32_t id, bool extended, const uint8_t *p, size_t n);
 uint32_t peer_tick(rokemaipu_table *t, uint32_t channel, uint32_t time);
+uint32_t peer_log_frame(uint32_t time, uint32_t channel, uint32_t id, bool extended, const uint8_t *payload, size_t length, uint8_t *buffer, size_t room);
+uint32_t peer_log_tick(uint32_t time, uint32_t channel, uint8_t *buffer, size_t room);
+uint32_t peer_log_record(const uint8_t *log, size_t size, size_t at, uint64_t *numbers, size_t places);
 #endif

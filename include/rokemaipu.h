@@ -1,4 +1,4 @@
-/* Rokemaipu: the CAN messages of charge controllers, and the session watch over up to 8 posts.
+/* Rokemaipu: the CAN messages of charge controllers, the session watch over up to 8 posts, and the night log.
  *
  * Link librokemaipu.a (make lib). The functions are proved: each takes any input and answers; nothing outside the memory that you
  * lend is read or written, no memory is kept after a call, and nothing is allocated. What you owe, since C cannot be proved:
@@ -21,6 +21,11 @@
  *    5  a number without a label                     12  a limit outside its range
  *    6  a bit that no signal covers is 1             13  no signal starts at that bit
  *    7  a number does not fit its signal             14  post not set up
+ *
+ *   of the night log:
+ *   16  ill-formed number                            19  extended identifier above 29 bits
+ *   17  channel above 31                             20  length above 9; in the writer above 8
+ *   18  standard identifier above 2,047              21  length 9, and the identifier part is not 0
  */
 #ifndef ROKEMAIPU_H
 #define ROKEMAIPU_H
@@ -36,6 +41,7 @@ extern "C" {
 #define ROKEMAIPU_POSTS 8
 #define ROKEMAIPU_KINDS 9
 #define ROKEMAIPU_SIGNALS 8 /* no message has more signals */
+#define ROKEMAIPU_RECORD_BYTES 20 /* no record of the night log is longer */
 #define ROKEMAIPU_REFUSED 65536u
 
 /* The refusal's number of an answer, 0 where it was accepted. */
@@ -68,6 +74,26 @@ enum rokemaipu_number {
     ROKEMAIPU_PROTOCOL = 9,  /* the first protocol's number and the first plug's, as the page of New_Charge_Session has them */
     ROKEMAIPU_PLUG = 10,
     ROKEMAIPU_NUMBERS = 11   /* how many they are */
+};
+
+/* What stands at a byte of a log. */
+enum rokemaipu_found {
+    ROKEMAIPU_FOUND_RECORD = 0,
+    ROKEMAIPU_FOUND_END = 1,  /* the log ends there, behind a whole record */
+    ROKEMAIPU_FOUND_PIECE = 2 /* the first bytes of a record, and then the log ends */
+};
+
+/* A record's numbers, in the order in which they are read. */
+enum rokemaipu_entry {
+    ROKEMAIPU_ENTRY_TICK = 0,     /* 1 for a tick, 0 for a frame */
+    ROKEMAIPU_ENTRY_TIME = 1,
+    ROKEMAIPU_ENTRY_CHANNEL = 2,
+    ROKEMAIPU_ENTRY_ID = 3,       /* 0 for a tick, and 0 in EXTENDED and LENGTH */
+    ROKEMAIPU_ENTRY_EXTENDED = 4, /* 1 for an extended frame, else 0 */
+    ROKEMAIPU_ENTRY_START = 5,    /* the payload is the LENGTH bytes of the log from byte START on */
+    ROKEMAIPU_ENTRY_LENGTH = 6,
+    ROKEMAIPU_ENTRY_NEXT = 7,     /* the next record's first byte */
+    ROKEMAIPU_ENTRY_NUMBERS = 8   /* how many they are */
 };
 
 /* Findings of an accepted frame or tick: finding k is bit k - 1 of the answer. */
@@ -151,6 +177,47 @@ uint32_t rokemaipu_write(uint32_t kind, const int64_t *raws, size_t places, uint
 
 /* Changes the signal that starts at a bit, in place; no other bit changes. Answers 0. Refuses with the frame's own 3 to 6, then 13, 7, 5. */
 uint32_t rokemaipu_change(uint32_t id, bool extended, uint8_t *payload, size_t length, uint32_t start, int64_t raw);
+
+/* ---- the night log ----
+ *
+ * A log is the bytes of its records, one after the other. Log first, then watch: whatever the log can hold is logged, refused by the
+ * watch or not. Append what the writer put into the buffer, as many bytes as it answered:
+ *
+ *     uint8_t record[ROKEMAIPU_RECORD_BYTES];
+ *     uint32_t n = rokemaipu_log_frame(time, channel, id, extended, payload, length, record, sizeof record);
+ *     if (!rokemaipu_refusal(n)) write(file, record, n);
+ *     uint32_t answer = rokemaipu_frame(&table, channel, time, id, extended, payload, length);
+ *
+ * Read it back record by record:
+ *
+ *     uint64_t e[ROKEMAIPU_ENTRY_NUMBERS];
+ *     size_t at = 0;
+ *     uint32_t found;
+ *     while ((found = rokemaipu_log_record(log, size, at, e, ROKEMAIPU_ENTRY_NUMBERS)) == ROKEMAIPU_FOUND_RECORD) {
+ *         if (e[ROKEMAIPU_ENTRY_TICK])
+ *             rokemaipu_tick(&table, e[ROKEMAIPU_ENTRY_CHANNEL], e[ROKEMAIPU_ENTRY_TIME]);
+ *         else
+ *             rokemaipu_frame(&table, e[ROKEMAIPU_ENTRY_CHANNEL], e[ROKEMAIPU_ENTRY_TIME], e[ROKEMAIPU_ENTRY_ID],
+ *                             e[ROKEMAIPU_ENTRY_EXTENDED], log + e[ROKEMAIPU_ENTRY_START], e[ROKEMAIPU_ENTRY_LENGTH]);
+ *         at = e[ROKEMAIPU_ENTRY_NEXT];
+ *     }
+ *
+ * Behind the loop found is ROKEMAIPU_FOUND_END; or ROKEMAIPU_FOUND_PIECE after a pulled plug: truncate the log to at bytes, the piece's
+ * first, and go on logging there; or a refusal: the record that begins at byte at is malformed, and nothing behind it can be told.
+ * Different records never have the same bytes, and a log cut after any byte reads as the records wholly before the cut. */
+
+/* Writes the record of a frame into buffer, from index 0 on. Answers its number of bytes. Refuses with 17, 18, 19, 20, then with 8 where
+ * the record is longer than the buffer; ROKEMAIPU_RECORD_BYTES are always enough. */
+uint32_t rokemaipu_log_frame(uint32_t time, uint32_t channel, uint32_t id, bool extended, const uint8_t *payload, size_t length, uint8_t *buffer, size_t room);
+
+/* Writes the record of a tick likewise. Refuses with 17, then with 8. */
+uint32_t rokemaipu_log_tick(uint32_t time, uint32_t channel, uint8_t *buffer, size_t room);
+
+/* Reads what stands at byte at of a log. Answers ROKEMAIPU_FOUND_RECORD, and puts the record's numbers into the first
+ * ROKEMAIPU_ENTRY_NUMBERS places of numbers, and leaves those behind them; or ROKEMAIPU_FOUND_END, also for a byte behind the end; or
+ * ROKEMAIPU_FOUND_PIECE. Refuses with 16 to 21 by the earliest bad part, also where the log is cut after that part; then, for a record, with
+ * 8 where numbers has fewer places. Every answer but the first leaves numbers as it was. */
+uint32_t rokemaipu_log_record(const uint8_t *log, size_t size, size_t at, uint64_t *numbers, size_t places);
 
 #ifdef __cplusplus
 }

@@ -76,9 +76,9 @@ static bool hex(word w) {
 
 /* ---- answers */
 
-static void put_hex(void) {
-    if (!size) putchar('-');
-    for (size_t i = 0; i < size; i++) printf("%02x", bytes[i]);
+static void put_hex(const uint8_t *from, size_t n) {
+    if (!n) putchar('-');
+    for (size_t i = 0; i < n; i++) printf("%02x", from[i]);
 }
 
 static void answer(uint32_t word, bool numbered) {
@@ -178,7 +178,7 @@ static bool write_step(void) {
     written = fits ? rokemaipu_write(kind, raws, ROKEMAIPU_SIGNALS, bytes, size) : ROKEMAIPU_REFUSED + 7;
     if (written < ROKEMAIPU_REFUSED) printf("A %" PRIx32 " %" PRIu32 " ", id, written);
     else printf("R%" PRIu32 " ", written - ROKEMAIPU_REFUSED);
-    put_hex();
+    put_hex(bytes, size);
     return putchar('\n'), true;
 }
 
@@ -190,7 +190,7 @@ static bool change_step(void) {
     changed = rokemaipu_change(id, extended, bytes, size, start, raw);
     if (changed < ROKEMAIPU_REFUSED) printf("A ");
     else printf("R%" PRIu32 " ", changed - ROKEMAIPU_REFUSED);
-    put_hex();
+    put_hex(bytes, size);
     return putchar('\n'), true;
 }
 
@@ -206,6 +206,49 @@ static bool read_step(void) {
     return putchar('\n'), true;
 }
 
+static bool log_write_step(void) {
+    static uint8_t payload[LONGEST];
+    uint32_t time, channel, id, written;
+    size_t length;
+    bool extended;
+    char form = words[1].n == 1 ? *words[1].at : 0;
+    if (!u32(2, &time) || !u32(3, &channel)) return false;
+    if (form == 't' && count == 5) {
+        if (!hex(words[4])) return false;
+        written = rokemaipu_log_tick(time, channel, bytes, size);
+    } else {
+        if (form != 'f' || count != 8 || !frame_id(4, &id, &extended) || !hex(words[6])) return false;
+        memcpy(payload, bytes, length = size);
+        if (!hex(words[7])) return false;
+        written = rokemaipu_log_frame(time, channel, id, extended, payload, length, bytes, size);
+    }
+    if (written < ROKEMAIPU_REFUSED) printf("A %" PRIu32 " ", written);
+    else printf("R%" PRIu32 " ", written - ROKEMAIPU_REFUSED);
+    put_hex(bytes, size);
+    return putchar('\n'), true;
+}
+
+static void put_entry(const uint64_t *e) {
+    printf(" %c,%" PRIu64 ",%" PRIu64, e[ROKEMAIPU_ENTRY_TICK] ? 't' : 'f', e[ROKEMAIPU_ENTRY_TIME], e[ROKEMAIPU_ENTRY_CHANNEL]);
+    if (e[ROKEMAIPU_ENTRY_TICK]) return;
+    printf(",%" PRIx64 ",%c,", e[ROKEMAIPU_ENTRY_ID], e[ROKEMAIPU_ENTRY_EXTENDED] ? 'x' : 's');
+    put_hex(bytes + e[ROKEMAIPU_ENTRY_START], e[ROKEMAIPU_ENTRY_LENGTH]);
+}
+
+static bool log_read_step(void) {
+    uint64_t e[ROKEMAIPU_ENTRY_NUMBERS];
+    uint32_t found;
+    size_t at = 0, records = 0;
+    if (!hex(words[1])) return false;
+    for (; (found = rokemaipu_log_record(bytes, size, at, e, ROKEMAIPU_ENTRY_NUMBERS)) == ROKEMAIPU_FOUND_RECORD; at = e[ROKEMAIPU_ENTRY_NEXT]) records++;
+    printf("L %zu", records);
+    for (at = 0; rokemaipu_log_record(bytes, size, at, e, ROKEMAIPU_ENTRY_NUMBERS) == ROKEMAIPU_FOUND_RECORD; at = e[ROKEMAIPU_ENTRY_NEXT]) put_entry(e);
+    if (found == ROKEMAIPU_FOUND_END) puts(" END");
+    else if (found == ROKEMAIPU_FOUND_PIECE) printf(" CUT@%zu\n", at);
+    else printf(" BAD R%" PRIu32 "@%zu\n", rokemaipu_refusal(found), at);
+    return true;
+}
+
 static bool step(void) {
     uint32_t a, b, c, d, e, f, id;
     bool extended;
@@ -218,6 +261,8 @@ static bool step(void) {
     if (is("read", 3)) return read_step();
     if (is("change", 5)) return change_step();
     if (is("write", 4)) return write_step();
+    if (is("logw", 4) || is("logw", 7)) return log_write_step();
+    if (is("logr", 1)) return log_read_step();
     return false;
 }
 

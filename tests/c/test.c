@@ -1,38 +1,6 @@
 /* The C interface, from C: layout, paper 01's readings, any input, and nothing outside the lent memory changed.
  * Prints a line for each part and 'ok', or says what was wrong and where, and exits 1. */
-#define _DEFAULT_SOURCE
-#include "rokemaipu.h"
-
-#include <inttypes.h>
-#include <stdio.h>
-#include <stdlib.h>
-#include <string.h>
-#include <sys/mman.h>
-#include <unistd.h>
-
-static int bad;
-
-#define IS(got, want) is(__LINE__, #got, (uint64_t)(got), (uint64_t)(want))
-static void is(int line, const char *what, uint64_t got, uint64_t want) {
-    if (got != want) {
-        printf("test.c:%d: %s is %" PRIu64 ", not %" PRIu64 "\n", line, what, got, want);
-        bad = 1;
-    }
-}
-
-#define R(n) (ROKEMAIPU_REFUSED + (n))
-
-/* ---- memory with a page behind it that may not be touched: one byte too many ends the test */
-
-static uint8_t *fenced(size_t size) {
-    size_t page = (size_t)sysconf(_SC_PAGESIZE), body = (size + page - 1) / page * page;
-    uint8_t *p = mmap(NULL, body + 2 * page, PROT_READ | PROT_WRITE, MAP_PRIVATE | MAP_ANONYMOUS, -1, 0);
-    if (p == MAP_FAILED || mprotect(p + page + body, page, PROT_NONE) || mprotect(p, page, PROT_NONE)) {
-        perror("test.c: mmap");
-        exit(1);
-    }
-    return p + page + body - size; /* ends at the fence */
-}
+#include "fence.h"
 
 /* ---- tables, field by field */
 
@@ -253,14 +221,6 @@ static void looks(void) {
 
 /* ---- any input: tables of random numbers, slices of every length, lent at a fence; a refusal leaves all as it was */
 
-static uint64_t state = 88172645463325252ull;
-static uint64_t next(void) {
-    state ^= state << 13;
-    state ^= state >> 7;
-    return state ^= state << 17;
-}
-static uint32_t below(uint32_t n) { return (uint32_t)(next() % n); }
-
 static void random_slot(rokemaipu_slot *s) { s->known = below(2), s->time = (uint32_t)next(), s->raw = next(); }
 
 static void random_table(rokemaipu_table *t) {
@@ -327,30 +287,6 @@ static void lengths(void) {
                 if (bad) return;
             }
     puts("slices of every length: answered; nothing past them touched, none changed by a refusal");
-}
-
-/* a look-up's lent memory: it ends at a fence, and what stands before it and behind its places may not change either */
-
-enum { BEFORE = 16, MOST = 16 };
-
-typedef struct lent {
-    uint8_t *end, *at, copy[4 * (BEFORE + MOST)];
-    size_t width, places;
-} lent;
-
-static void lend(lent *l, size_t places) {
-    l->places = places, l->at = l->end - places * l->width;
-    uint8_t *from = l->at - BEFORE * l->width;
-    for (uint8_t *p = from; p < l->end; p++) *p = (uint8_t)next();
-    memcpy(l->copy, from, (BEFORE + places) * l->width);
-}
-
-/* the first n places are those wanted, and all else is as it was lent */
-static void lent_is(int line, const lent *l, const void *want, size_t n) {
-    const uint8_t *was = l->copy + BEFORE * l->width;
-    is(line, "what stands before the lent memory, changed", memcmp(l->at - BEFORE * l->width, l->copy, BEFORE * l->width) != 0, 0);
-    is(line, "a place that was to be written, other", n && memcmp(l->at, want, n * l->width), 0);
-    is(line, "a place that was to be left, changed", memcmp(l->at + n * l->width, was + n * l->width, (l->places - n) * l->width) != 0, 0);
 }
 
 static uint32_t least(uint32_t a, uint32_t b) { return a < b ? a : b; }

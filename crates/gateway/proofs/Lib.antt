@@ -12,6 +12,7 @@ pub mod InOne
 pub mod InPlace
 pub mod Lender
 pub mod Lends
+pub mod Logging
 pub mod LookLaws
 pub mod Looks
 pub mod OnePost

@@ -3,3 +3,4 @@ pub mod Lent
 pub mod One
 pub mod Plain
 pub mod LookUp
+pub mod Night

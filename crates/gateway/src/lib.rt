@@ -1,5 +1,6 @@
 // The lent table: entries that change the gateway's table in place, and the C interface. Each leaves exactly what the by-value operation of
-// `watch` gives; no entry requires anything. An answer is one word: the findings, or 65,536 plus the refusal's number.
+// `watch` gives; no entry requires anything. An answer is one word: the findings, or 65,536 plus the refusal's number. The C interface has the
+// night log too, over the crate `log`; those entries take no table.
 ghost use mathlib.Core.Path.{_≡_};
 ghost use Prim.Native.Nat.{_<_, _≤_};
 ghost use Rattle.gateway.specs.Words.{refusalWord, answerWord, settingWord};
@@ -8,6 +9,7 @@ ghost use Rattle.gateway.specs.One.{somePlace, hearOn, frameOn, tickOn};
 
 pub mod plain; // plain.rt: reading, writing and changing frames in numbers and bytes
 pub mod look; // look.rt: a post's numbers, and the latest frame of a kind
+pub mod night; // night.rt: records of the night log, written and read
 
 use pages::Refusal;
 use post::Limits;

@@ -17,7 +17,7 @@ use watch::Table;
 
 // ---- a post's numbers
 
-fn flag(b: bool) -> u32
+pub fn flag(b: bool) -> u32
     ensures { λ r. ⌜ r ≡ cond b 1 0 ⌝ }
 {
     if b { 1 } else { 0 }
