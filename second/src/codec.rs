@@ -162,7 +162,7 @@ fn covered(page: &Page, n: u32) -> bool {
 }
 
 /// 02: "4 when too short, 15 when too long".
-pub fn judge_length(page: &Page, bytes: &[u8]) -> Result<(), Refusal> {
+fn judge_length(page: &Page, bytes: &[u8]) -> Result<(), Refusal> {
     match bytes.len().cmp(&page.len) {
         Ordering::Less => Err(Refusal::Number(4)),
         Ordering::Equal => Ok(()),

@@ -66,19 +66,14 @@ pub fn wrong_length(rng: &mut Rng) -> (&'static Page, Vec<u8>) {
         let page = rng.pick(&PAGES.each_ref());
         (page, any(rng, page).bytes())
     };
-    let surplus = match rng.below(4) {
-        0 => {
-            bytes.truncate(page.len - 1);
-            0
-        }
-        1 => {
-            bytes.truncate(rng.below(page.len as u64) as usize);
-            0
-        }
-        2 => 1,
-        _ => rng.pick(&[2, 3, 8, 56, 100, 200]),
+    let length = match rng.below(4) {
+        0 => page.len - 1,
+        1 => rng.below(page.len as u64) as usize,
+        2 => page.len + 1,
+        _ => page.len + rng.pick(&[2, 3, 8, 56, 100, 200]),
     };
-    bytes.extend(rng.bytes(surplus));
+    bytes.truncate(length);
+    bytes.extend(rng.bytes(length - bytes.len()));
     (page, bytes)
 }
 

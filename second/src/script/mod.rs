@@ -170,8 +170,8 @@ mod tests {
     }
 
     /// The word, the page and the payload of the steps that bring an extended frame of the table.
-    fn frames(script: &[Vec<u8>]) -> Vec<(&str, &'static pages::Page, Vec<u8>)> {
-        let frame = |line: &'_ Vec<u8>| {
+    fn frames(script: &[Vec<u8>]) -> Vec<(&'static str, &'static pages::Page, Vec<u8>)> {
+        let frame = |line: &Vec<u8>| {
             let fields: Vec<&[u8]> = line.split(|&byte| byte == b' ').collect();
             let (word, id, payload) = match fields[..] {
                 [b"frame", _, _, id, b"x", payload] => ("frame", id, payload),
@@ -188,15 +188,17 @@ mod tests {
     fn every_message_too_short_and_too_long_by_one_byte_and_by_several() {
         let mut met = BTreeSet::new();
         for seed in 1..6 {
-            for (_, page, payload) in frames(&script(seed, 8000, Extras::default())) {
-                met.insert((page.id, payload.len().cmp(&page.len), payload.len().abs_diff(page.len).min(2)));
+            for (word, page, payload) in frames(&script(seed, 8000, Extras::default())) {
+                let by = payload.len().abs_diff(page.len).min(2);
+                met.insert((word, page.name, payload.len().cmp(&page.len), by));
             }
         }
-        for page in &PAGES {
+        for (page, word) in PAGES.iter().flat_map(|page| [(page, "frame"), (page, "read")]) {
             for by in [1, 2] {
-                assert!(met.contains(&(page.id, Ordering::Greater, by)), "{} longer by {by}", page.name);
+                let (long, short) = ((word, page.name, Ordering::Greater, by), (word, page.name, Ordering::Less, by));
+                assert!(met.contains(&long), "{long:?}");
                 // One byte cannot be too short by more.
-                assert!(page.len < by || met.contains(&(page.id, Ordering::Less, by)), "{} shorter by {by}", page.name);
+                assert!(page.len < by || met.contains(&short), "{short:?}");
             }
         }
     }
