@@ -30,7 +30,9 @@ lib:
 	@echo "target/lib/librokemaipu.a, target/lib/rokemaipu.h"
 
 bench: lib
-	@gcc -O2 -Wall -Wextra -Itarget/lib -Ibench bench/bench.c bench/peer.c target/lib/librokemaipu.a -o target/lib/bench
-	@gcc -O2 -Wall -Wextra -Itarget/lib -Wl,--wrap=memcpy,--wrap=memmove bench/copied.c target/lib/librokemaipu.a -o target/lib/copied
-	@target/lib/bench
-	@target/lib/copied
+	@. tests/machine; set -e; \
+	$$cc -O2 -Wall -Wextra -Itarget/lib -Ibench bench/bench.c bench/peer.c bench/peer_log.c target/lib/librokemaipu.a -o target/lib/bench; \
+	$$cc -O2 -Wall -Wextra -Itarget/lib -Wl,--wrap=memcpy,--wrap=memmove bench/copied.c target/lib/librokemaipu.a -o target/lib/copied; \
+	[ -z "$$run" ] || echo "emulated: times and ratios are the emulator's"; \
+	$$run target/lib/bench; \
+	$$run target/lib/copied

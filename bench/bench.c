@@ -30,13 +30,14 @@ static uint64_t sum; /* keeps the calls alive */
 
 static void line(const char *what, double ours, double plain) { printf("%-34s %8.1f ns %8.1f ns plain C   %5.2f times\n", what, ours, plain, ours / plain); }
 
-#define TIMED(out, calls, body)                                      \
+#define TIMED(out, calls, body) TIMED_FOR(TURNS, out, calls, body)
+#define TIMED_FOR(turns, out, calls, body)                           \
     do {                                                             \
         double best = 1e300;                                         \
         for (int again = 0; again < 40; again++) {                    \
             double from = now();                                     \
-            for (int turn = 0; turn < TURNS; turn++) { body }        \
-            double took = (now() - from) / ((double)TURNS * (calls)); \
+            for (int turn = 0; turn < (turns); turn++) { body }      \
+            double took = (now() - from) / ((double)(turns) * (calls)); \
             if (took < best) best = took;                            \
         }                                                            \
         out = best;                                                  \
@@ -91,10 +92,64 @@ static void bench_watch(uint32_t posts) {
     line(what, ours, plain);
 }
 
+/* ---- the night log: the mix over and over, 10 ms apart on channel 4, and a tick after each of its turns */
+
+enum { RECORDS = 300 * (MIX + 1), LOG_TURNS = 100, FIRST = 3600000, CHANNEL = 4 };
+
+typedef uint32_t log_frame(uint32_t time, uint32_t channel, uint32_t id, bool extended, const uint8_t *payload, size_t length, uint8_t *buffer, size_t room);
+typedef uint32_t log_tick(uint32_t time, uint32_t channel, uint8_t *buffer, size_t room);
+typedef uint32_t log_record(const uint8_t *log, size_t size, size_t at, uint64_t *numbers, size_t places);
+
+static size_t written(log_frame *frame_to, log_tick *tick_to, uint8_t *log, size_t room) {
+    size_t at = 0;
+    uint32_t time = FIRST;
+    for (int k = 0; k < RECORDS; k++, time += 10) {
+        int i = k % (MIX + 1);
+        at += i < MIX ? frame_to(time, CHANNEL, mix[i].id, true, mix[i].bytes, mix[i].n, log + at, room - at) : tick_to(time, CHANNEL, log + at, room - at);
+    }
+    return at;
+}
+
+static uint64_t read_through(log_record *record_at, const uint8_t *log, size_t size) {
+    uint64_t e[ROKEMAIPU_ENTRY_NUMBERS], seen = 0;
+    for (size_t at = 0; record_at(log, size, at, e, ROKEMAIPU_ENTRY_NUMBERS) == ROKEMAIPU_FOUND_RECORD; at = e[ROKEMAIPU_ENTRY_NEXT]) seen += e[ROKEMAIPU_ENTRY_TIME];
+    return seen;
+}
+
+static bool same_read(const uint8_t *log, size_t size) {
+    uint64_t x[ROKEMAIPU_ENTRY_NUMBERS], y[ROKEMAIPU_ENTRY_NUMBERS];
+    for (size_t at = 0;; at = x[ROKEMAIPU_ENTRY_NEXT]) {
+        uint32_t found = rokemaipu_log_record(log, size, at, x, ROKEMAIPU_ENTRY_NUMBERS);
+        if (found != peer_log_record(log, size, at, y, ROKEMAIPU_ENTRY_NUMBERS)) return false;
+        if (found != ROKEMAIPU_FOUND_RECORD) return found == ROKEMAIPU_FOUND_END;
+        if (memcmp(x, y, sizeof x)) return false;
+    }
+}
+
+static void log_line(const char *what, double ours, double plain, double bytes) {
+    line(what, ours, plain);
+    printf("%36.1f million records/s, %.0f MB/s; plain C %.1f million, %.0f MB/s\n", 1e3 / ours, 1e3 * bytes / ours, 1e3 / plain, 1e3 * bytes / plain);
+}
+
+static void bench_log(void) {
+    static uint8_t a[RECORDS * ROKEMAIPU_RECORD_BYTES], b[sizeof a];
+    double ours, plain;
+    size_t size = written(rokemaipu_log_frame, rokemaipu_log_tick, a, sizeof a);
+    if (size != written(peer_log_frame, peer_log_tick, b, sizeof b) || memcmp(a, b, size)) differ("log written");
+    if (!same_read(a, size)) differ("log read");
+    TIMED_FOR(LOG_TURNS, ours, RECORDS, sum += written(rokemaipu_log_frame, rokemaipu_log_tick, a, sizeof a););
+    TIMED_FOR(LOG_TURNS, plain, RECORDS, sum += written(peer_log_frame, peer_log_tick, b, sizeof b););
+    log_line("log, a record written", ours, plain, (double)size / RECORDS);
+    TIMED_FOR(LOG_TURNS, ours, RECORDS, sum += read_through(rokemaipu_log_record, a, size););
+    TIMED_FOR(LOG_TURNS, plain, RECORDS, sum += read_through(peer_log_record, a, size););
+    log_line("log, a record read", ours, plain, (double)size / RECORDS);
+}
+
 int main(void) {
     bench_read();
     bench_write();
     bench_watch(1);
     bench_watch(8);
+    bench_log();
     return sum == 42;
 }
