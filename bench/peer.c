@@ -1,6 +1,7 @@
 #include "peer.h"
 
 #define R(n) (ROKEMAIPU_REFUSED + (n))
+#define R5(start) (R(5) + 256 * (start))
 
 static uint64_t number(const uint8_t *p, size_t n) {
     uint64_t r = 0;
@@ -25,16 +26,16 @@ static uint32_t judge(uint32_t id, bool extended, const uint8_t *p, size_t n, ui
     case 0x6b105: kind = 8, length = 6; break;
     default: return R(3);
     }
-    if (n != length) return R(4);
+    if (n != length) return R(n < length ? 4 : 15);
     uint64_t r = *raw = number(p, n);
     switch (kind) {
-    case 0: if ((r >> 48 & 0xff) > 1) return R(5); break;
-    case 2: if (r > 13) return R(5); break;
-    case 3: if ((r & 0xff) > 7 || (r >> 8 & 0xff) > 4) return R(5); break;
-    case 4: if (r > 1) return R(5); break;
-    case 5: if (!(0x117 >> (r >> 48 & 15) & 1)) return R(5); break;
-    case 6: if (r > 1) return R(5); break;
-    case 7: if (r != 1 && r != 3) return R(5); break;
+    case 0: if ((r >> 48 & 0xff) > 1) return R5(48); break;
+    case 2: if (r > 13) return R5(0); break;
+    case 3: if ((r & 0xff) > 7) return R5(0); if ((r >> 8 & 0xff) > 4) return R5(8); break;
+    case 4: if (r > 1) return R5(0); break;
+    case 5: if (!(0x117 >> (r >> 48 & 15) & 1)) return R5(48); break;
+    case 6: if (r > 1) return R5(0); break;
+    case 7: if (r != 1 && r != 3) return R5(0); break;
     }
     return kind;
 }

@@ -11,16 +11,18 @@
  *
  * Calls on one table come one after the other. Different tables are independent.
  *
- * ANSWERS are one word. Below 65,536 a call was accepted; from there on it is 65,536 plus the number of the refusal, and nothing was
- * changed: neither the table nor a lent buffer.
+ * ANSWERS are one word. Below 65,536 a call was accepted; from there on it is 65,536 plus the number of the refusal, and of refusal 5
+ * plus 256 times the start bit of the signal, and nothing was changed: neither the table nor a lent buffer. rokemaipu_refusal gives the
+ * number, rokemaipu_start_bit the start bit.
  *
- *    1  channel above 31, or held by no post          8  lent buffer too short
- *    2  time earlier than the post's latest           9  post above 7
- *    3  unknown identifier or kind, standard frame   10  channel above 31 at set-up
- *    4  wrong length                                 11  channel held by another post
- *    5  a number without a label                     12  a limit outside its range
- *    6  a bit that no signal covers is 1             13  no signal starts at that bit
- *    7  a number does not fit its signal             14  post not set up
+ *    1  channel above 31, or held by no post          9  post above 7
+ *    2  time earlier than the post's latest          10  channel above 31 at set-up
+ *    3  unknown identifier or kind, standard frame   11  channel held by another post
+ *    4  frame too short                              12  a limit outside its range
+ *    5  a number without a label                     13  no signal starts at that bit
+ *    6  a bit that no signal covers is 1             14  post not set up
+ *    7  a number does not fit its signal             15  frame too long
+ *    8  lent buffer too short
  *
  *   of the night log:
  *   16  ill-formed number                            19  extended identifier above 29 bits
@@ -45,7 +47,11 @@ extern "C" {
 #define ROKEMAIPU_REFUSED 65536u
 
 /* The refusal's number of an answer, 0 where it was accepted. */
-static inline uint32_t rokemaipu_refusal(uint32_t answer) { return answer < ROKEMAIPU_REFUSED ? 0 : answer - ROKEMAIPU_REFUSED; }
+static inline uint32_t rokemaipu_refusal(uint32_t answer) { return answer < ROKEMAIPU_REFUSED ? 0 : answer % 256; }
+
+/* The start bit of the signal that has no such label, where an answer refuses with 5; where several signals of a frame have none, the
+ * lowest. 0 for any other answer. */
+static inline uint32_t rokemaipu_start_bit(uint32_t answer) { return answer < ROKEMAIPU_REFUSED ? 0 : answer / 256 % 256; }
 
 /* Kinds of messages, by the identifier of their extended frames. */
 enum rokemaipu_kind {
@@ -150,7 +156,7 @@ uint32_t rokemaipu_set_up(rokemaipu_table *t, uint32_t post, uint32_t channel, u
 /* Frees the post's channel and drops its record. Answers 0, or refuses with 9, 14. */
 uint32_t rokemaipu_release(rokemaipu_table *t, uint32_t post);
 
-/* Watches a frame on the post that holds the channel. Answers the findings, or refuses with 1 to 6. */
+/* Watches a frame on the post that holds the channel. Answers the findings, or refuses with 1 to 6, with 15 in 4's place. */
 uint32_t rokemaipu_frame(rokemaipu_table *t, uint32_t channel, uint32_t time, uint32_t id, bool extended, const uint8_t *payload, size_t length);
 
 /* Lets time pass on a channel. Answers the findings, or refuses with 1, 2. */
@@ -168,14 +174,16 @@ uint32_t rokemaipu_latest(const rokemaipu_table *t, uint32_t post, uint32_t kind
 /* ---- frames ---- */
 
 /* Reads a frame. Answers its kind, and puts the raw whole numbers of its signals, in the order of the maker's page, into the first
- * ROKEMAIPU_SIGNALS places of raws, with 0 behind them. Refuses with 3, 4, 5, 6, or with 8 where raws has fewer places. */
+ * ROKEMAIPU_SIGNALS places of raws, with 0 behind them. Refuses with 3, 4 or 15, 5, 6, or with 8 where raws has fewer
+ * places. */
 uint32_t rokemaipu_read(uint32_t id, bool extended, const uint8_t *payload, size_t length, int64_t *raws, size_t places);
 
 /* Writes the frame of a kind from its signals' raw numbers (ROKEMAIPU_SIGNALS places, those behind the signals are passed over) into
  * buffer, from index 0 on. Answers its number of bytes. Refuses with 7, also where raws has fewer places, then with 8. */
 uint32_t rokemaipu_write(uint32_t kind, const int64_t *raws, size_t places, uint8_t *buffer, size_t room);
 
-/* Changes the signal that starts at a bit, in place; no other bit changes. Answers 0. Refuses with the frame's own 3 to 6, then 13, 7, 5. */
+/* Changes the signal that starts at a bit, in place; no other bit changes. Answers 0. Refuses with the frame's own 3, 4 or 15, 5, 6, then
+ * with 13, 7, and 5 for the new label, with the start bit of the changed signal. */
 uint32_t rokemaipu_change(uint32_t id, bool extended, uint8_t *payload, size_t length, uint32_t start, int64_t raw);
 
 /* ---- the night log ----

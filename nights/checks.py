@@ -3,7 +3,7 @@
 import re
 import subprocess
 
-ANNOUNCED = re.compile(r"# ([FR][0-9]+)(?: from here for ([0-9]+) events)?: ")
+ANNOUNCED = re.compile(r"# (F[0-9]+|R[0-9]+(?::[0-9]+)?)(?: from here for ([0-9]+) events)?: ")
 
 
 def is_step(line):
@@ -16,7 +16,7 @@ def answers_of(second, text):
 
 
 def marks(step, answer):
-    """What an answer says: F and R numbers."""
+    """What an answer says: F and R numbers, 5 with its start bit."""
     if answer.startswith("R"):
         return {answer.split()[0]}
     if step.split()[0] in ("frame", "tick") and answer.startswith("A"):
@@ -61,20 +61,25 @@ def check_announcements(name, text, answers):
 
 
 def check_the_check(name, text, answers):
-    """The check above must object to each announcement left out, and to one too many, here and there."""
+    """The check above must object to each announcement left out or with another start bit, and to one too many, here
+    and there."""
     lines = text.splitlines()
     faults = []
     for place, line in enumerate(lines):
         announces = ANNOUNCED.match(line)
         plain_step = place % 10 == 0 and is_step(line) and not lines[place - 1].startswith("#")
+        wrong = []
         if announces:
-            other = lines[:place] + lines[place + 1:]
-        elif plain_step:
-            other = lines[:place] + ["# F4: nothing of the kind"] + lines[place:]
-        else:
-            continue
-        if not check_announcements(name, "\n".join(other), answers):
-            faults.append(f"{name}:{place + 1}: a changed announcement goes unnoticed")
+            wrong.append([])
+        number, _, start = announces[1].partition(":") if announces else ("", "", "")
+        if start:
+            wrong.append([line.replace(announces[1], f"{number}:{int(start) + 1}", 1)])
+        if plain_step:
+            wrong.append(["# F4: nothing of the kind", line])
+        for instead in wrong:
+            other = lines[:place] + instead + lines[place + 1:]
+            if not check_announcements(name, "\n".join(other), answers):
+                faults.append(f"{name}:{place + 1}: a changed announcement goes unnoticed")
     return faults
 
 

@@ -1,4 +1,4 @@
-"""01's sentences, and the comments that quote them."""
+"""The papers' sentences, and the comments that quote them."""
 
 SAYS = {
     "F1": "any event, session open: time minus the later of the opening and the latest Power_Modules_Status in this "
@@ -17,15 +17,22 @@ SAYS = {
     "R1": "channel above 31, or held by no post",
     "R2": "time earlier than that post's latest accepted frame or tick",
     "R3": "identifier not in the table, or standard",
-    "R4": "length differs from the table's",
     "R5": "a label signal holds a number without a label",
     "R9": "post number above 7",
     "R11": "channel held by another post",
     "R14": "post not set up",
 }
 
+SAYS_02 = {
+    "R4": "4 when too short",
+    "R15": "15 when too long",
+}
+
 
 def told(mark, what, events=None):
     """The comment that announces a finding or a refusal, for one step or for a run of events."""
     run = "" if events is None else f" from here for {events} events"
-    return f'# {mark}{run}: {what} 01: "{SAYS[mark]}".'
+    number, _, start = mark.partition(":")
+    quoted = f'02: "{SAYS_02[number]}"' if number in SAYS_02 else f'01: "{SAYS[number]}"'
+    signal = f", and that signal starts at bit {start}" if start else ""
+    return f"# {mark}{run}: {what} {quoted}{signal}."

@@ -1,10 +1,31 @@
 //! Reading, writing and changing messages, bit by bit, over the pages' table.
 
+use std::cmp::Ordering;
+use std::fmt;
+
 use crate::pages::{self, Kind, Page, Signal, Unit};
 
-/// A number of 01's table "Numbers given back".
+/// Why nothing was done: a number of 01's table "Numbers given back" or of 02.
 #[derive(Clone, Copy, Debug, PartialEq, Eq)]
-pub struct Refusal(pub u8);
+pub enum Refusal {
+    Number(u8),
+    /// 5, with the start bit of the signal that has no such label.
+    NoLabel {
+        start: u32,
+    },
+}
+
+impl fmt::Display for Refusal {
+    fn fmt(&self, out: &mut fmt::Formatter) -> fmt::Result {
+        match self {
+            Refusal::Number(number) => write!(out, "R{number}"),
+            Refusal::NoLabel { start } => write!(out, "R5:{start}"),
+        }
+    }
+}
+
+pub type Reader = fn(u32, bool, &[u8]) -> Result<Message, Refusal>;
+pub type Changer = fn(u32, bool, &mut [u8], u32, i64) -> Result<(), Refusal>;
 
 /// The largest count of signals on a page.
 const MOST: usize = 8;
@@ -140,20 +161,38 @@ fn covered(page: &Page, n: u32) -> bool {
     page.signals.iter().any(|signal| signal.start <= n && n < signal.start + signal.width)
 }
 
-/// Gives 3 to 6, the lowest that applies.
+/// 02: "4 when too short, 15 when too long".
+fn judge_length(page: &Page, bytes: &[u8]) -> Result<(), Refusal> {
+    match bytes.len().cmp(&page.len) {
+        Ordering::Less => Err(Refusal::Number(4)),
+        Ordering::Equal => Ok(()),
+        Ordering::Greater => Err(Refusal::Number(15)),
+    }
+}
+
+/// The start bits of all signals with a number that is no label of theirs.
+pub fn offenders(page: &Page, bytes: &[u8]) -> Vec<u32> {
+    let offending = page.signals.iter().filter(|signal| lacks_label(signal, get(signal, bytes)));
+    offending.map(|signal| signal.start).collect()
+}
+
+/// 02: "the first offending signal, lowest start first".
+fn judge_labels(page: &Page, bytes: &[u8]) -> Result<(), Refusal> {
+    match offenders(page, bytes).into_iter().min() {
+        Some(start) => Err(Refusal::NoLabel { start }),
+        None => Ok(()),
+    }
+}
+
+/// Gives 3 to 6, the lowest that applies, with 15 in 4's place.
 pub fn read(id: u32, extended: bool, bytes: &[u8]) -> Result<Message, Refusal> {
-    let page = pages::find(id, extended).ok_or(Refusal(3))?;
-    if bytes.len() != page.len {
-        return Err(Refusal(4));
+    let page = pages::find(id, extended).ok_or(Refusal::Number(3))?;
+    judge_length(page, bytes)?;
+    judge_labels(page, bytes)?;
+    if (0..page.len as u32 * 8).any(|n| bit(bytes, n) && !covered(page, n)) {
+        return Err(Refusal::Number(6));
     }
     let raws: Vec<i64> = page.signals.iter().map(|signal| get(signal, bytes)).collect();
-    let unlabelled = page.signals.iter().zip(&raws).any(|(signal, &raw)| lacks_label(signal, raw));
-    if unlabelled {
-        return Err(Refusal(5));
-    }
-    if (0..page.len as u32 * 8).any(|n| bit(bytes, n) && !covered(page, n)) {
-        return Err(Refusal(6));
-    }
     Ok(Message::new(page.kind, &raws))
 }
 
@@ -161,8 +200,8 @@ pub fn read(id: u32, extended: bool, bytes: &[u8]) -> Result<Message, Refusal> {
 pub fn write(page: &Page, values: &[i64], buffer: &mut [u8]) -> Result<(), Refusal> {
     let raws: Option<Vec<i64>> =
         page.signals.iter().zip(values).map(|(signal, &value)| raw_of(signal, value)).collect();
-    let raws = raws.ok_or(Refusal(7))?;
-    let place = buffer.get_mut(..page.len).ok_or(Refusal(8))?;
+    let raws = raws.ok_or(Refusal::Number(7))?;
+    let place = buffer.get_mut(..page.len).ok_or(Refusal::Number(8))?;
     place.fill(0);
     Message::new(page.kind, &raws).put_into(place);
     Ok(())
@@ -172,12 +211,12 @@ pub fn write(page: &Page, values: &[i64], buffer: &mut [u8]) -> Result<(), Refus
 pub fn change(id: u32, extended: bool, bytes: &mut [u8], start: u32, raw: i64) -> Result<(), Refusal> {
     let message = read(id, extended, bytes)?;
     let signals = message.kind.page().signals;
-    let signal = signals.iter().find(|signal| signal.start == start).ok_or(Refusal(13))?;
+    let signal = signals.iter().find(|signal| signal.start == start).ok_or(Refusal::Number(13))?;
     if !fits(signal, raw) {
-        return Err(Refusal(7));
+        return Err(Refusal::Number(7));
     }
     if lacks_label(signal, raw) {
-        return Err(Refusal(5));
+        return Err(Refusal::NoLabel { start });
     }
     put(signal, raw, bytes);
     Ok(())

@@ -202,8 +202,12 @@ mod tests {
                 Verdict::Agreed(_) => panic!("{name} was not found"),
                 Verdict::Differs(found) => {
                     let (lines, bytes) = (found.shortest.len(), joined(&found.shortest).len());
-                    // A log stands by itself, and little of it is needed.
-                    let few = if name.starts_with("log-") { lines == 1 && bytes <= 40 } else { lines <= 6 };
+                    // A log stands by itself, a frame needs its set-up at most, and little of either.
+                    let few = match name.split_once('-') {
+                        Some(("log", _)) => lines == 1 && bytes <= 40,
+                        Some(("label", _)) => lines <= 2 && bytes <= 50,
+                        _ => lines <= 6,
+                    };
                     assert!(few, "{name}: {lines} lines, {bytes} bytes");
                 }
             }

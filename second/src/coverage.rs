@@ -1,13 +1,17 @@
 //! What a run of scripts reached: steps by their word, answers by their kind.
 
-use std::collections::BTreeMap;
+use std::collections::{BTreeMap, BTreeSet};
 use std::fmt;
 
 const WORDS: [&[u8]; 11] =
     [b"setup", b"release", b"frame", b"tick", b"record", b"read", b"change", b"write", b"explain", b"logr", b"logw"];
 
 /// Refusal 6 cannot occur: every bit of the nine messages is covered (reading M1).
-const REFUSALS: [u32; 13] = [1, 2, 3, 4, 5, 7, 8, 9, 10, 11, 12, 13, 14];
+const REFUSALS: [u32; 14] = [1, 2, 3, 4, 5, 7, 8, 9, 10, 11, 12, 13, 14, 15];
+
+/// Each of these gives refusal 5 by a way of its own.
+const LABELLED: [&str; 3] = ["frame", "read", "change"];
+const STARTS: usize = 3;
 
 /// The writer and the reader give some of the same refusals, so what each comes to is counted apart.
 const LOGS: [&str; 14] = [
@@ -19,6 +23,8 @@ const LOGS: [&str; 14] = [
 pub struct Coverage {
     steps: BTreeMap<&'static str, u64>,
     refusals: BTreeMap<u32, u64>,
+    /// The start bits that refusal 5 carried, by the step's word.
+    starts: BTreeMap<&'static str, BTreeSet<u32>>,
     logs: BTreeMap<String, u64>,
     findings: [u64; 11],
     clean: u64,
@@ -36,9 +42,16 @@ impl Coverage {
             Some((b'?', _)) => self.no_step += 1,
             Some((b'X', _)) => self.no_message += 1,
             _ if matches!(word, "logr" | "logw") => *self.logs.entry(log_outcome(word, answer)).or_default() += 1,
-            Some((b'R', rest)) => *self.refusals.entry(leading_number(rest)).or_default() += 1,
+            Some((b'R', rest)) => self.count_refusal(word, rest),
             Some((b'A', rest)) if matches!(word, "frame" | "tick") => self.count_findings(leading_number(rest)),
             _ => self.accepted += 1,
+        }
+    }
+
+    fn count_refusal(&mut self, word: &'static str, refusal: &[u8]) {
+        *self.refusals.entry(leading_number(refusal)).or_default() += 1;
+        if let Some(start) = refusal.strip_prefix(b"5:") {
+            self.starts.entry(word).or_default().insert(leading_number(start));
         }
     }
 
@@ -55,6 +68,10 @@ impl Coverage {
         let findings = (1..).zip(self.findings).filter(|(_, count)| *count == 0);
         let mut missing: Vec<String> = refusals.map(|number| format!("R{number}")).collect();
         missing.extend(findings.map(|(number, _)| format!("F{number}")));
+        missing
+            .extend(LABELLED.iter().filter(|word| !self.starts.contains_key(*word)).map(|word| format!("{word} R5")));
+        let starts: BTreeSet<&u32> = self.starts.values().flatten().collect();
+        missing.extend((starts.len() < STARTS).then(|| format!("R5 with {STARTS} starts")));
         missing.extend(
             LOGS.iter().filter(|outcome| !self.logs.contains_key(**outcome)).map(|outcome| outcome.to_string()),
         );
@@ -73,6 +90,10 @@ impl fmt::Display for Coverage {
         write!(out, "\nrefused: ")?;
         for (number, count) in &self.refusals {
             write!(out, " R{number} {count}")?;
+        }
+        write!(out, "\nno label:")?;
+        for (word, starts) in &self.starts {
+            write!(out, " {word} at {starts:?}")?;
         }
         write!(out, "\nfound:    none {}", self.clean)?;
         for (number, count) in (1..).zip(self.findings) {
@@ -97,4 +118,22 @@ fn log_outcome(word: &str, answer: &[u8]) -> String {
 fn leading_number(text: &[u8]) -> u32 {
     let digits = text.iter().take_while(|byte| byte.is_ascii_digit());
     digits.fold(0, |number: u32, digit| number.saturating_mul(10).saturating_add(u32::from(digit - b'0')))
+}
+
+#[cfg(test)]
+mod tests {
+    use super::*;
+
+    #[test]
+    fn refusal_5_is_wanted_of_each_word_and_with_three_starts() {
+        let mut coverage = Coverage::default();
+        let misses = |coverage: &Coverage, what: &str| coverage.missing().iter().any(|missing| missing == what);
+        coverage.count(b"frame 4 0 6b000 x 0e", b"R5:0");
+        coverage.count(b"read 6b001 x 0205", b"R5:8");
+        assert!(!misses(&coverage, "frame R5") && !misses(&coverage, "read R5") && misses(&coverage, "change R5"));
+        coverage.count(b"change 6b001 x 0201 8 5", b"R5:8 0201");
+        assert!(!misses(&coverage, "change R5") && misses(&coverage, "R5 with 3 starts"));
+        coverage.count(b"change 63000 x a00f83ff41000164 48 2", b"R5:48 a00f83ff41000164");
+        assert!(!misses(&coverage, "R5 with 3 starts"));
+    }
 }

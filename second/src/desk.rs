@@ -2,10 +2,10 @@
 
 use std::io::{self, BufRead, Write};
 
-use crate::codec::{self, Refusal};
+use crate::codec::{self, Changer, Reader, Refusal};
 use crate::explain;
 use crate::fields::{bytes, extended, hex, identifier, natural, number, values};
-use crate::log::{self, Reader, Writer};
+use crate::log;
 use crate::log_line;
 use crate::pages;
 use crate::posts::{Arrival, Frame, Table};
@@ -18,13 +18,21 @@ pub const LONGEST: usize = 65_535;
 /// What a script runs on.
 pub struct Desk {
     pub table: Table,
-    pub log_writer: Writer,
-    pub log_reader: Reader,
+    pub reader: Reader,
+    pub changer: Changer,
+    pub log_writer: log::Writer,
+    pub log_reader: log::Reader,
 }
 
 impl Desk {
     pub fn new() -> Desk {
-        Desk { table: Table::new(), log_writer: log::write, log_reader: log::read }
+        Desk {
+            table: Table::new(),
+            reader: codec::read,
+            changer: codec::change,
+            log_writer: log::write,
+            log_reader: log::read,
+        }
     }
 }
 
@@ -62,6 +70,7 @@ fn step(desk: &mut Desk, line: &[u8]) -> Option<String> {
     match fields[0] {
         b"logw" => log_write(desk.log_writer, &fields[1..]),
         b"logr" => log_read(desk.log_reader, &fields[1..]),
+        b"read" | b"change" | b"write" | b"explain" => message_step(desk, &fields),
         _ => table_step(&mut desk.table, &fields),
     }
 }
@@ -88,14 +97,21 @@ fn table_step(table: &mut Table, fields: &[&[u8]]) -> Option<String> {
             feed(table, Arrival { channel: natural(channel)?, time: natural(time)?, frame: None })
         }
         [b"record", post] => Some(said(table.post(natural(post)?), record::line)),
+        _ => None,
+    }
+}
+
+/// Steps that need no post.
+fn message_step(desk: &Desk, fields: &[&[u8]]) -> Option<String> {
+    match *fields {
         [b"read", id, form, payload] => {
-            let message = codec::read(identifier(id)?, extended(form)?, &bytes(payload)?);
+            let message = (desk.reader)(identifier(id)?, extended(form)?, &bytes(payload)?);
             Some(said(message, |message| format!("A {}", record::message(&message))))
         }
         [b"change", id, form, payload, start, raw] => {
             let (id, extended, start, raw) = (identifier(id)?, extended(form)?, natural(start)?, number(raw)?);
             let mut payload = bytes(payload)?;
-            let changed = codec::change(id, extended, &mut payload, start, raw);
+            let changed = (desk.changer)(id, extended, &mut payload, start, raw);
             Some(format!("{} {}", said(changed, |()| "A".to_string()), hex(&payload)))
         }
         [b"write", id, form, fields, buffer] => {
@@ -109,7 +125,7 @@ fn table_step(table: &mut Table, fields: &[&[u8]]) -> Option<String> {
 fn said<T>(outcome: Result<T, Refusal>, accepted: impl FnOnce(T) -> String) -> String {
     match outcome {
         Ok(answer) => accepted(answer),
-        Err(Refusal(number)) => format!("R{number}"),
+        Err(refusal) => refusal.to_string(),
     }
 }
 
@@ -129,7 +145,7 @@ fn write(id: u32, extended: bool, values: &[i64], mut buffer: Vec<u8>) -> Option
     Some(format!("{outcome} {}", hex(&buffer)))
 }
 
-fn log_write(writer: Writer, fields: &[&[u8]]) -> Option<String> {
+fn log_write(writer: log::Writer, fields: &[&[u8]]) -> Option<String> {
     let (time, channel, frame, buffer) = match *fields {
         [b"t", time, channel, buffer] => (time, channel, None, buffer),
         [b"f", time, channel, id, form, payload, buffer] => {
@@ -144,7 +160,7 @@ fn log_write(writer: Writer, fields: &[&[u8]]) -> Option<String> {
     Some(format!("{} {}", said(written, |length| format!("A {length}")), hex(&buffer)))
 }
 
-fn log_read(reader: Reader, fields: &[&[u8]]) -> Option<String> {
+fn log_read(reader: log::Reader, fields: &[&[u8]]) -> Option<String> {
     match *fields {
         [log] => Some(log_line::line(&reader(&bytes(log)?))),
         _ => None,
@@ -153,7 +169,10 @@ fn log_read(reader: Reader, fields: &[&[u8]]) -> Option<String> {
 
 fn explain_number(field: &[u8]) -> Option<String> {
     let words = match field.strip_prefix(b"R") {
-        Some(refusal) => explain::refusal(natural(refusal)?),
+        Some(refusal) => match refusal.strip_prefix(b"5:") {
+            Some(start) => explain::no_label(natural(start)?),
+            None => explain::refusal(natural(refusal)?),
+        },
         None => explain::findings(natural(field)?),
     };
     words.map(|words| format!("E {words}"))

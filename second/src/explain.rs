@@ -14,11 +14,14 @@ const FINDINGS: [&str; 11] = [
     "session finished with none open",
 ];
 
-const REFUSALS: [&str; 14] = [
+/// An answer as one word has eight bits for a start.
+const LAST_START: u32 = 255;
+
+const REFUSALS: [&str; 21] = [
     "channel above 31, or held by no post",
     "time earlier than the post's latest accepted frame or tick",
     "identifier not in the table, or standard",
-    "length differs from the table's",
+    "shorter than the table's length",
     "a label signal holds a number without a label",
     "a bit that no signal covers is 1",
     "a value has no raw number, or a raw number does not fit its signal",
@@ -29,12 +32,7 @@ const REFUSALS: [&str; 14] = [
     "a post limit outside its range",
     "no signal of the message starts at that bit",
     "post not set up",
-];
-
-/// No step is refused with 15.
-const FIRST_LOG_REFUSAL: u32 = 16;
-
-const LOG_REFUSALS: [&str; 6] = [
+    "longer than the table's length",
     "a number in the log that is not in its shortest form, or has more than five groups or 32 bits",
     "a channel above 31 in a log record",
     "a standard identifier above 2,047 in a log record",
@@ -57,8 +55,12 @@ pub fn findings(number: u32) -> Option<String> {
 }
 
 pub fn refusal(number: u32) -> Option<String> {
-    let (first, list) =
-        if number < FIRST_LOG_REFUSAL { (1, &REFUSALS[..]) } else { (FIRST_LOG_REFUSAL, &LOG_REFUSALS[..]) };
-    let place = usize::try_from(number.checked_sub(first)?).ok()?;
-    list.get(place).map(|words| format!("R{number} {words}"))
+    let place = usize::try_from(number.checked_sub(1)?).ok()?;
+    REFUSALS.get(place).map(|words| format!("R{number} {words}"))
+}
+
+/// Refusal 5 with the start bit that it carries.
+pub fn no_label(start: u32) -> Option<String> {
+    let words = refusal(5).filter(|_| start <= LAST_START)?;
+    Some(format!("{words} (the signal that starts at bit {start})"))
 }

@@ -44,11 +44,11 @@ pub fn write(record: &Arrival, buffer: &mut [u8]) -> Result<usize, Refusal> {
     if let Some(frame) = &record.frame {
         judge_identifier(frame.id, frame.extended)?;
         if frame.bytes.len() > LONGEST_PAYLOAD {
-            return Err(Refusal(20));
+            return Err(Refusal::Number(20));
         }
     }
     let bytes = bytes(record);
-    buffer.get_mut(..bytes.len()).ok_or(Refusal(8))?.copy_from_slice(&bytes);
+    buffer.get_mut(..bytes.len()).ok_or(Refusal::Number(8))?.copy_from_slice(&bytes);
     Ok(bytes.len())
 }
 
@@ -110,8 +110,8 @@ pub fn record(bytes: &[u8], number: Number, channels: u32) -> Taken<'_, Arrival<
             (Some(Frame { id, extended, bytes }), rest)
         }
         9 if identifier == 0 => (None, rest),
-        9 => return Err(Refusal(21).into()),
-        _ => return Err(Refusal(20).into()),
+        9 => return Err(Refusal::Number(21).into()),
+        _ => return Err(Refusal::Number(20).into()),
     };
     Ok((Arrival { channel, time, frame }, rest))
 }
@@ -121,7 +121,7 @@ pub fn number(bytes: &[u8]) -> Taken<'_, u32> {
     let (own, rest) = first_groups(bytes)?;
     match u32::try_from(value(own)) {
         Ok(number) if groups(u64::from(number)) == own => Ok((number, rest)),
-        _ => Err(Refusal(16).into()),
+        _ => Err(Refusal::Number(16).into()),
     }
 }
 
@@ -131,7 +131,7 @@ pub fn first_groups(bytes: &[u8]) -> Taken<'_, &[u8]> {
     match room.iter().position(|group| group & HIGH_BIT == 0) {
         Some(last) => Ok(bytes.split_at(last + 1)),
         None if room.len() < MOST_GROUPS => Err(Ending::Cut),
-        None => Err(Refusal(16).into()),
+        None => Err(Refusal::Number(16).into()),
     }
 }
 
@@ -144,14 +144,14 @@ fn judge_channel(channel: u32, channels: u32) -> Result<(), Refusal> {
     if channel < channels {
         Ok(())
     } else {
-        Err(Refusal(17))
+        Err(Refusal::Number(17))
     }
 }
 
 fn judge_identifier(id: u32, extended: bool) -> Result<(), Refusal> {
     match extended {
-        false if id > 2047 => Err(Refusal(18)),
-        true if id >> 29 != 0 => Err(Refusal(19)),
+        false if id > 2047 => Err(Refusal::Number(18)),
+        true if id >> 29 != 0 => Err(Refusal::Number(19)),
         _ => Ok(()),
     }
 }

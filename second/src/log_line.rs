@@ -1,6 +1,5 @@
 //! A log that was read, as one line.
 
-use crate::codec::Refusal;
 use crate::fields::hex;
 use crate::log::{Ending, Log};
 use crate::posts::Arrival;
@@ -11,7 +10,7 @@ pub fn line(log: &Log) -> String {
     parts.push(match log.ending {
         Ending::End => "END".to_string(),
         Ending::Cut => format!("CUT@{}", log.at),
-        Ending::Bad(Refusal(number)) => format!("BAD R{number}@{}", log.at),
+        Ending::Bad(refusal) => format!("BAD {refusal}@{}", log.at),
     });
     parts.join(" ")
 }

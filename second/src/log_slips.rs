@@ -33,7 +33,7 @@ pub fn put_into(desk: &mut Desk, name: &str) -> Option<()> {
 fn longer_forms(bytes: &[u8]) -> Log<'_> {
     fn number(bytes: &[u8]) -> Taken<'_, u32> {
         let (groups, rest) = log::first_groups(bytes)?;
-        let number = u32::try_from(log::value(groups)).map_err(|_| Refusal(16))?;
+        let number = u32::try_from(log::value(groups)).map_err(|_| Refusal::Number(16))?;
         Ok((number, rest))
     }
     log::records(bytes, |rest| log::record(rest, number, CHANNELS))
@@ -55,7 +55,7 @@ fn length_after_the_payload(bytes: &[u8]) -> Log<'_> {
         let judged = log::record(rest, log::number, CHANNELS);
         match numbers(rest) {
             Ok(([.., length], payload))
-                if judged == Err(Ending::Bad(Refusal(20))) && payload.len() < length as usize =>
+                if judged == Err(Ending::Bad(Refusal::Number(20))) && payload.len() < length as usize =>
             {
                 Err(Ending::Cut)
             }
@@ -105,7 +105,7 @@ fn refuses_after_writing(record: &Arrival, buffer: &mut [u8]) -> Result<usize, R
 
 fn room_before_the_rest(record: &Arrival, buffer: &mut [u8]) -> Result<usize, Refusal> {
     if buffer.len() < log::bytes(record).len() {
-        return Err(Refusal(8));
+        return Err(Refusal::Number(8));
     }
     log::write(record, buffer)
 }

@@ -9,6 +9,9 @@ mod desk;
 mod explain;
 mod fields;
 mod history;
+#[cfg(test)]
+mod label_readings;
+mod label_slips;
 mod log;
 mod log_line;
 #[cfg(test)]

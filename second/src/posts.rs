@@ -1,6 +1,6 @@
 //! The table of posts: set-up, release, and which post a frame or tick goes to.
 
-use crate::codec::{self, Refusal};
+use crate::codec::{self, Reader, Refusal};
 use crate::history::{latest_time, Event};
 use crate::rules::{findings, Limits, Rule, RULES};
 
@@ -35,47 +35,48 @@ pub struct Table {
     posts: [Option<Post>; POSTS],
     pub rules: [Rule; RULES.len()],
     pub clock: Clock,
+    pub reader: Reader,
 }
 
 impl Table {
     pub fn new() -> Table {
-        Table { posts: std::array::from_fn(|_| None), rules: RULES, clock: own_clock }
+        Table { posts: std::array::from_fn(|_| None), rules: RULES, clock: own_clock, reader: codec::read }
     }
 
     /// Gives 9 to 12, the lowest that applies.
     pub fn set_up(&mut self, post: u32, channel: u32, limits: Limits) -> Result<(), Refusal> {
         let place = place(post)?;
         if channel >= CHANNELS {
-            return Err(Refusal(10));
+            return Err(Refusal::Number(10));
         }
         if self.holder(channel).is_some_and(|holder| holder != place) {
-            return Err(Refusal(11));
+            return Err(Refusal::Number(11));
         }
         if !in_range(&limits) {
-            return Err(Refusal(12));
+            return Err(Refusal::Number(12));
         }
         self.posts[place] = Some(Post { channel, limits, history: Vec::new() });
         Ok(())
     }
 
     pub fn release(&mut self, post: u32) -> Result<(), Refusal> {
-        self.posts[place(post)?].take().map(drop).ok_or(Refusal(14))
+        self.posts[place(post)?].take().map(drop).ok_or(Refusal::Number(14))
     }
 
     pub fn post(&self, post: u32) -> Result<&Post, Refusal> {
-        self.posts[place(post)?].as_ref().ok_or(Refusal(14))
+        self.posts[place(post)?].as_ref().ok_or(Refusal::Number(14))
     }
 
-    /// Gives 1 to 6, the lowest that applies; a refused arrival is part of no history.
+    /// Gives 1 to 6, the lowest that applies, with 15 in 4's place; a refused arrival is part of no history.
     pub fn feed(&mut self, arrival: &Arrival) -> Result<u32, Refusal> {
-        let place = self.holder(arrival.channel).ok_or(Refusal(1))?;
+        let place = self.holder(arrival.channel).ok_or(Refusal::Number(1))?;
         let earliest = (self.clock)(&self.posts, place);
-        let post = self.posts[place].as_mut().ok_or(Refusal(1))?;
+        let post = self.posts[place].as_mut().ok_or(Refusal::Number(1))?;
         if earliest.is_some_and(|earliest| arrival.time < earliest) {
-            return Err(Refusal(2));
+            return Err(Refusal::Number(2));
         }
         let message = match &arrival.frame {
-            Some(frame) => Some(codec::read(frame.id, frame.extended, frame.bytes)?),
+            Some(frame) => Some((self.reader)(frame.id, frame.extended, frame.bytes)?),
             None => None,
         };
         let event = Event { time: arrival.time, message };
@@ -95,7 +96,7 @@ fn place(post: u32) -> Result<usize, Refusal> {
     if place < POSTS {
         Ok(place)
     } else {
-        Err(Refusal(9))
+        Err(Refusal::Number(9))
     }
 }
 

@@ -20,7 +20,7 @@ fn e1_to_e4_reading() {
     holds(
         "read 63000 x a00f83ff41000164 => A 63000x:4000,-125,25,-40,1,200
          read 63000 x a00f83ff410001 => R4
-         read 63000 x a00f83ff41000264 => R5
+         read 63000 x a00f83ff41000264 => R5:48
          read 63003 x a00f83ff41000164 => R3",
     );
 }
@@ -130,7 +130,7 @@ fn m2_whole_identifier() {
 
 #[test]
 fn m3_length_before_labels() {
-    holds("read 6b000 x 0eff => R4\nread 6b000 x 0e => R5\nread 63003 x - => R3");
+    holds("read 6b000 x 0eff => R15\nread 6b000 x 0e => R5:0\nread 63003 x - => R3");
 }
 
 #[test]
@@ -156,12 +156,12 @@ fn m5_change() {
          change 63000 x a00f83ff41000164 17 0 => R13 a00f83ff41000164
          change 63000 x a00f83ff41000164 17 99999 => R13 a00f83ff41000164
          change 63000 x a00f83ff41000164 48 256 => R7 a00f83ff41000164
-         change 63000 x a00f83ff41000164 48 2 => R5 a00f83ff41000164
-         change 63000 x a00f83ff4100016400 17 0 => R4 a00f83ff4100016400
-         change 63000 x a00f83ff41000264 17 0 => R5 a00f83ff41000264
+         change 63000 x a00f83ff41000164 48 2 => R5:48 a00f83ff41000164
+         change 63000 x a00f83ff4100016400 17 0 => R15 a00f83ff4100016400
+         change 63000 x a00f83ff41000264 17 0 => R5:48 a00f83ff41000264
          change 63003 x - 0 0 => R3 -
          change 6b003 x 00000000000000 48 16 => R7 00000000000000
-         change 6b003 x 00000000000000 48 3 => R5 00000000000000
+         change 6b003 x 00000000000000 48 3 => R5:48 00000000000000
          change 6b003 x 000000000000f0 48 8 => A 000000000000f8",
     );
 }
@@ -182,8 +182,8 @@ fn w1_lowest_number_first() {
          frame 5 99 63003 x - => R1
          frame 4 99 63003 x - => R2
          frame 4 100 63003 x - => R3
-         frame 4 100 6b000 x 0eff => R4
-         frame 4 100 6b000 x 0e => R5
+         frame 4 100 6b000 x 0eff => R15
+         frame 4 100 6b000 x 0e => R5:0
          setup 8 32 0 0 0 0 => R9
          setup 1 32 0 0 0 0 => R10
          setup 1 4 0 0 0 0 => R11
@@ -218,7 +218,7 @@ fn w3_refused_ones_move_nothing() {
         "tick 4 100 => A0
          frame 4 9000 63003 x - => R3
          tick 4 100 => A0
-         frame 4 9000 6b000 x 0e => R5
+         frame 4 9000 6b000 x 0e => R5:0
          tick 4 400 => A0
          record 0 => K ch=4 volt=5000 chg=1000 dis=500 w=500 last=400 open=0 since=- first=- spms=- sdpc=- latest=-",
     ));
@@ -385,9 +385,10 @@ fn explaining() {
          explain 2049 => ?
          explain -1 => ?
          explain R1 => E R1 channel above 31, or held by no post
+         explain R4 => E R4 shorter than the table's length
          explain R14 => E R14 post not set up
          explain R0 => ?
-         explain R15 => ?
+         explain R15 => E R15 longer than the table's length
          explain R16 => E R16 a number in the log that is not in its shortest form, or has more than five groups or 32 bits
          explain R17 => E R17 a channel above 31 in a log record
          explain R18 => E R18 a standard identifier above 2,047 in a log record
@@ -418,7 +419,7 @@ fn a_line_of_65535_bytes_is_read_and_one_more_is_not() {
     let mut desk = Desk::new();
     let longest = format!("read 63000 x {}", "00".repeat((desk::LONGEST - 13) / 2));
     assert_eq!(longest.len(), desk::LONGEST);
-    assert_eq!(desk::answer(&mut desk, longest.as_bytes()), "R4");
+    assert_eq!(desk::answer(&mut desk, longest.as_bytes()), "R15");
     assert_eq!(desk::answer(&mut desk, format!("{longest}00").as_bytes()), "?");
 }
 

@@ -2,6 +2,7 @@
 
 use crate::desk::Desk;
 use crate::history::{latest, latest_message, latest_time, session, Event};
+use crate::label_slips;
 use crate::log_slips;
 use crate::pages::Kind;
 use crate::posts::Post;
@@ -31,7 +32,8 @@ const WRONG_RULES: [(&str, usize, Rule); 17] = [
 const SHARED_CLOCK: &str = "clock";
 
 pub fn names() -> Vec<&'static str> {
-    WRONG_RULES.iter().map(|(name, ..)| *name).chain([SHARED_CLOCK]).chain(log_slips::names()).collect()
+    let rules = WRONG_RULES.iter().map(|(name, ..)| *name);
+    rules.chain([SHARED_CLOCK]).chain(log_slips::names()).chain(label_slips::names()).collect()
 }
 
 /// An empty desk with the slip of that name, if there is one.
@@ -42,7 +44,7 @@ pub fn desk(name: &str) -> Option<Desk> {
     } else if let Some((_, number, rule)) = WRONG_RULES.iter().find(|(known, ..)| *known == name) {
         desk.table.rules[number - 1] = *rule;
     } else {
-        log_slips::put_into(&mut desk, name)?;
+        log_slips::put_into(&mut desk, name).or_else(|| label_slips::put_into(&mut desk, name))?;
     }
     Some(desk)
 }

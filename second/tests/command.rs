@@ -62,7 +62,21 @@ fn too_few_steps_to_reach_everything_fail() {
     assert_eq!(run.status.code(), Some(1));
     let shown = text(&run.stdout);
     let (_, missing) = shown.trim_end().split_once("never reached: ").expect("what was not reached");
-    for outcome in ["R12", "F11", "logr END", "logr CUT", "logr R16", "logr R21", "logw R17"] {
+    for outcome in [
+        "R4",
+        "R12",
+        "R15",
+        "F11",
+        "frame R5",
+        "read R5",
+        "change R5",
+        "R5 with 3 starts",
+        "logr END",
+        "logr CUT",
+        "logr R16",
+        "logr R21",
+        "logw R17",
+    ] {
         assert!(missing.split(", ").any(|known| known == outcome), "{outcome}: {missing}");
     }
 }

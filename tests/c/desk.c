@@ -81,8 +81,20 @@ static void put_hex(const uint8_t *from, size_t n) {
     for (size_t i = 0; i < n; i++) printf("%02x", from[i]);
 }
 
+/* the lent bytes as they are after the call, behind what it answered */
+static void put_lent(void) {
+    putchar(' ');
+    put_hex(bytes, size);
+    putchar('\n');
+}
+
+static void put_refusal(uint32_t word) {
+    printf("R%" PRIu32, rokemaipu_refusal(word));
+    if (rokemaipu_refusal(word) == 5) printf(":%" PRIu32, rokemaipu_start_bit(word));
+}
+
 static void answer(uint32_t word, bool numbered) {
-    if (word >= ROKEMAIPU_REFUSED) printf("R%" PRIu32 "\n", word - ROKEMAIPU_REFUSED);
+    if (word >= ROKEMAIPU_REFUSED) put_refusal(word), putchar('\n');
     else if (numbered) printf("A%" PRIu32 "\n", word);
     else puts("A");
 }
@@ -176,10 +188,9 @@ static bool write_step(void) {
         if (is_kilohms(kind, i)) fits = raws[i] % 2 == 0, raws[i] /= 2;
     }
     written = fits ? rokemaipu_write(kind, raws, ROKEMAIPU_SIGNALS, bytes, size) : ROKEMAIPU_REFUSED + 7;
-    if (written < ROKEMAIPU_REFUSED) printf("A %" PRIx32 " %" PRIu32 " ", id, written);
-    else printf("R%" PRIu32 " ", written - ROKEMAIPU_REFUSED);
-    put_hex(bytes, size);
-    return putchar('\n'), true;
+    if (written < ROKEMAIPU_REFUSED) printf("A %" PRIx32 " %" PRIu32, id, written);
+    else put_refusal(written);
+    return put_lent(), true;
 }
 
 static bool change_step(void) {
@@ -188,10 +199,9 @@ static bool change_step(void) {
     bool extended;
     if (!frame_id(1, &id, &extended) || !hex(words[3]) || !u32(4, &start) || !whole(words[5], &raw)) return false;
     changed = rokemaipu_change(id, extended, bytes, size, start, raw);
-    if (changed < ROKEMAIPU_REFUSED) printf("A ");
-    else printf("R%" PRIu32 " ", changed - ROKEMAIPU_REFUSED);
-    put_hex(bytes, size);
-    return putchar('\n'), true;
+    if (changed < ROKEMAIPU_REFUSED) putchar('A');
+    else put_refusal(changed);
+    return put_lent(), true;
 }
 
 static bool read_step(void) {
@@ -222,10 +232,9 @@ static bool log_write_step(void) {
         if (!hex(words[7])) return false;
         written = rokemaipu_log_frame(time, channel, id, extended, payload, length, bytes, size);
     }
-    if (written < ROKEMAIPU_REFUSED) printf("A %" PRIu32 " ", written);
-    else printf("R%" PRIu32 " ", written - ROKEMAIPU_REFUSED);
-    put_hex(bytes, size);
-    return putchar('\n'), true;
+    if (written < ROKEMAIPU_REFUSED) printf("A %" PRIu32, written);
+    else put_refusal(written);
+    return put_lent(), true;
 }
 
 static void put_entry(const uint64_t *e) {
@@ -245,7 +254,7 @@ static bool log_read_step(void) {
     for (at = 0; rokemaipu_log_record(bytes, size, at, e, ROKEMAIPU_ENTRY_NUMBERS) == ROKEMAIPU_FOUND_RECORD; at = e[ROKEMAIPU_ENTRY_NEXT]) put_entry(e);
     if (found == ROKEMAIPU_FOUND_END) puts(" END");
     else if (found == ROKEMAIPU_FOUND_PIECE) printf(" CUT@%zu\n", at);
-    else printf(" BAD R%" PRIu32 "@%zu\n", rokemaipu_refusal(found), at);
+    else printf(" BAD "), put_refusal(found), printf("@%zu\n", at);
     return true;
 }
 

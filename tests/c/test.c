@@ -1,6 +1,7 @@
 /* The C interface, from C: layout, paper 01's readings, any input, and nothing outside the lent memory changed.
  * Prints a line for each part and 'ok', or says what was wrong and where, and exits 1. */
 #include "fence.h"
+#include "peer.h"
 
 /* ---- tables, field by field */
 
@@ -73,13 +74,9 @@ static void frames(void) {
     IS(rokemaipu_read(0x63000, true, e1, 8, raws, 8), ROKEMAIPU_POWER_MODULES_STATUS); /* E1 */
     const int64_t want[8] = {4000, -125, 65, 0, 1, 100, 0, 0};
     IS(memcmp(raws, want, sizeof want), 0);
-    IS(rokemaipu_read(0x63000, true, e1, 7, raws, 8), R(4)); /* E2 */
-    const uint8_t e3[8] = {0xa0, 0x0f, 0x83, 0xff, 0x41, 0x00, 0x02, 0x64};
-    IS(rokemaipu_read(0x63000, true, e3, 8, raws, 8), R(5)); /* E3 */
     IS(rokemaipu_read(0x63003, true, e1, 8, raws, 8), R(3)); /* E4 */
     IS(rokemaipu_read(0x63000, false, e1, 8, raws, 8), R(3));
     IS(rokemaipu_read(0x63000, true, e1, 8, raws, 7), R(8));
-    IS(rokemaipu_read(0x6b001, true, NULL, 0, raws, 8), R(4)); /* E16 */
     IS(rokemaipu_read(0x6b001, true, (const uint8_t[]){2, 1}, 2, raws, 8), ROKEMAIPU_NEW_CHARGE_SESSION); /* E15 */
     IS(raws[0], 2);
     IS(raws[1], 1);
@@ -103,9 +100,64 @@ static void frames(void) {
     IS(memcmp(c, (const uint8_t[]){0xa0, 0x0f, 0xff, 0xff, 0x41, 0x00, 0x01, 0x64}, 8), 0);
     IS(rokemaipu_change(0x63000, true, c, 8, 17, 0), R(13));
     IS(rokemaipu_change(0x63000, true, c, 8, 16, 32768), R(7));
-    IS(rokemaipu_change(0x63000, true, c, 8, 48, 2), R(5));
-    IS(rokemaipu_change(0x63000, true, c, 7, 17, 0), R(4));
-    puts("frames: E1 to E7, E15, E16");
+    puts("frames: E1, E4 to E7, E15");
+}
+
+/* ---- 02: refusal 5 "is to carry the start bit of the first offending signal, lowest start first", and "4 when too short, 15 when too long" */
+
+static void refuses(int line, uint32_t word, uint32_t number, uint32_t start) {
+    is(line, "the refusal's number", rokemaipu_refusal(word), number);
+    is(line, "the start bit", rokemaipu_start_bit(word), start);
+    is(line, "the word", word, R(number) + 256 * start);
+}
+#define REFUSES(word, number, start) refuses(__LINE__, word, number, start)
+
+static const uint8_t e3[8] = {0xa0, 0x0f, 0x83, 0xff, 0x41, 0x00, 0x02, 0x64};
+
+static void refused_frames(void) {
+    int64_t raws[8];
+    REFUSES(rokemaipu_read(0x63000, true, e1, 7, raws, 8), 4, 0); /* E2 */
+    REFUSES(rokemaipu_read(0x63000, true, e3, 8, raws, 8), 5, 48); /* E3 */
+    REFUSES(rokemaipu_read(0x6b001, true, NULL, 0, raws, 8), 4, 0); /* E16 */
+    REFUSES(rokemaipu_read(0x63000, true, (const uint8_t[9]){0}, 9, raws, 8), 15, 0);
+    REFUSES(rokemaipu_read(0x6b001, true, (const uint8_t[]){8, 5, 0}, 3, raws, 8), 15, 0); /* before the labels */
+    REFUSES(rokemaipu_read(0x6b001, true, (const uint8_t[]){8}, 1, raws, 8), 4, 0);
+    REFUSES(rokemaipu_read(0x6b001, true, (const uint8_t[]){8, 5}, 2, raws, 0), 5, 0); /* two offend; before 8 */
+    REFUSES(rokemaipu_read(0x6b001, true, (const uint8_t[]){7, 5}, 2, raws, 8), 5, 8);
+    REFUSES(rokemaipu_read(0x6b001, true, (const uint8_t[]){8, 4}, 2, raws, 8), 5, 0);
+    IS(rokemaipu_read(0x6b001, true, (const uint8_t[]){7, 4}, 2, raws, 8), ROKEMAIPU_NEW_CHARGE_SESSION);
+    rokemaipu_table t;
+    memset(&t, 0, sizeof t);
+    IS(rokemaipu_set_up(&t, 0, 4, 5000, 1000, 500, 500), 0);
+    REFUSES(rokemaipu_frame(&t, 4, 0, 0x63000, true, e1, 7), 4, 0);
+    REFUSES(rokemaipu_frame(&t, 4, 0, 0x63000, true, e3, 8), 5, 48);
+    REFUSES(rokemaipu_frame(&t, 4, 0, 0x6b001, true, (const uint8_t[]){8, 5}, 2), 5, 0);
+    REFUSES(rokemaipu_frame(&t, 4, 0, 0x6b001, true, (const uint8_t[]){7, 5}, 2), 5, 8);
+    REFUSES(rokemaipu_frame(&t, 4, 0, 0x6b001, true, (const uint8_t[]){8, 5, 0}, 3), 15, 0);
+    REFUSES(rokemaipu_frame(&t, 5, 0, 0x6b001, true, (const uint8_t[]){8, 5}, 2), 1, 0);
+    IS(t.posts[0].heard, 0);
+    for (uint32_t answer = 0; answer < ROKEMAIPU_REFUSED; answer++)
+        if (rokemaipu_refusal(answer) || rokemaipu_start_bit(answer)) IS(answer, 0); /* findings are no refusal */
+    puts("refused frames: E2, E3, E16; too long; two signals without a label");
+}
+
+static void refused_changes(void) {
+    uint8_t c[9] = {0};
+    memcpy(c, e1, 8);
+    REFUSES(rokemaipu_change(0x63000, true, c, 7, 17, 0), 4, 0); /* the frame's own go first */
+    REFUSES(rokemaipu_change(0x63000, true, c, 9, 17, 0), 15, 0);
+    REFUSES(rokemaipu_change(0x63000, true, c, 8, 17, 0), 13, 0);
+    REFUSES(rokemaipu_change(0x63000, true, c, 8, 48, 256), 7, 0);
+    REFUSES(rokemaipu_change(0x63000, true, c, 8, 48, 2), 5, 48); /* the new label */
+    IS(memcmp(c, e1, 8), 0);
+    memcpy(c, e3, 8);
+    REFUSES(rokemaipu_change(0x63000, true, c, 8, 17, 0), 5, 48); /* the frame's */
+    uint8_t session[2] = {2, 1};
+    REFUSES(rokemaipu_change(0x6b001, true, session, 2, 0, 8), 5, 0);
+    REFUSES(rokemaipu_change(0x6b001, true, session, 2, 8, 5), 5, 8);
+    session[1] = 5;
+    REFUSES(rokemaipu_change(0x6b001, true, session, 2, 0, 8), 5, 8); /* the frame's before the new one's */
+    puts("refused changes: the frame's own, then 13, 7, and 5 with the changed signal's start bit");
 }
 
 static void posts(void) {
@@ -265,6 +317,34 @@ static void anything(void) {
     puts("any table and any step: answered; one post changed at most, none by a refusal");
 }
 
+/* any frame, read and watched as plain C does it */
+static void any_frame(void) {
+    uint8_t *end = fenced(12) + 12;
+    uint32_t seen[32] = {0}, starts[256] = {0}, time = 0;
+    rokemaipu_table ours, plain;
+    memset(&ours, 0, sizeof ours);
+    IS(rokemaipu_set_up(&ours, 0, 4, 5000, 1000, 500, 500), 0);
+    plain = ours;
+    for (int turn = 0; turn < 400000 && !bad; turn++) {
+        int64_t got[8] = {0}, want[8] = {0};
+        size_t length = below(11);
+        uint8_t *payload = end - length;
+        for (size_t i = 0; i < length; i++) payload[i] = below(3) ? (uint8_t)below(10) : (uint8_t)next();
+        bool extended = below(8) != 0;
+        uint32_t id = some_id(), word = peer_read(id, extended, payload, length, want, 8);
+        IS(rokemaipu_read(id, extended, payload, length, got, 8), word);
+        IS(memcmp(got, want, sizeof want), 0);
+        seen[rokemaipu_refusal(word)]++;
+        if (rokemaipu_refusal(word) == 5) starts[rokemaipu_start_bit(word)]++;
+        time += below(20);
+        IS(rokemaipu_frame(&ours, 4, time, id, extended, payload, length), peer_frame(&plain, 4, time, id, extended, payload, length));
+        if (!same_table(&ours, &plain)) IS(turn, -1);
+    }
+    IS(seen[0] && seen[3] && seen[4] && seen[15], true);
+    IS(starts[0] && starts[8] && starts[48], true);
+    puts("any frame: read and watched as plain C does it, with the start bits 0, 8 and 48");
+}
+
 static void lengths(void) {
     uint8_t *end = fenced(4096) + 4096, *raws_end = fenced(4096) + 4096;
     for (size_t length = 0; length <= 4096; length += length < 40 ? 1 : 997)
@@ -339,9 +419,12 @@ static void any_look(void) {
 int main(void) {
     layout();
     frames();
+    refused_frames();
+    refused_changes();
     posts();
     looks();
     anything();
+    any_frame();
     lengths();
     any_look();
     puts(bad ? "BAD" : "ok");

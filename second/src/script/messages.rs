@@ -33,18 +33,56 @@ fn any_raw(rng: &mut Rng, signal: &Signal) -> i64 {
     }
 }
 
-/// A payload of the right length with a number in it that is no label.
-pub fn unlabelled(rng: &mut Rng) -> (u32, Vec<u8>) {
-    loop {
+/// A signal that can hold a number without a label, and its page.
+pub fn able_to_offend(rng: &mut Rng) -> (&'static Page, &'static Signal) {
+    let all = PAGES.iter().flat_map(|page| page.signals.iter().map(move |signal| (page, signal)));
+    let able: Vec<_> = all.filter(|(_, signal)| can_offend(signal)).collect();
+    rng.pick(&able)
+}
+
+fn can_offend(signal: &Signal) -> bool {
+    let (least, most) = range(signal);
+    signal.labels.is_some_and(|labels| (labels.len() as i64) < most - least + 1)
+}
+
+/// A payload of the right length with a number in it that is no label, or with as many as there is room for.
+pub fn unlabelled(rng: &mut Rng) -> (&'static Page, Vec<u8>) {
+    let (page, first) = able_to_offend(rng);
+    let mut raws = any(rng, page).raws().to_vec();
+    let all = rng.chance(50);
+    for (raw, signal) in raws.iter_mut().zip(page.signals) {
+        if signal.start == first.start || all && can_offend(signal) {
+            *raw = number_without_label(rng, signal);
+        }
+    }
+    (page, Message::new(page.kind, &raws).bytes())
+}
+
+/// A payload too short or too long, by one byte or by several, of a message with or without such a number.
+pub fn wrong_length(rng: &mut Rng) -> (&'static Page, Vec<u8>) {
+    let (page, mut bytes) = if rng.chance(30) {
+        unlabelled(rng)
+    } else {
         let page = rng.pick(&PAGES.each_ref());
-        let mut raws = any(rng, page).raws().to_vec();
-        let place = rng.below(raws.len() as u64) as usize;
-        let signal = &page.signals[place];
-        let (least, most) = range(signal);
-        let around = number_around_labels(rng, signal);
-        raws[place] = if rng.chance(65) { around } else { rng.between(least, most) };
-        if signal.labels.is_some() && raws[place] <= most && label_name(signal, raws[place]).is_none() {
-            return (page.id, Message::new(page.kind, &raws).bytes());
+        (page, any(rng, page).bytes())
+    };
+    let length = match rng.below(4) {
+        0 => page.len - 1,
+        1 => rng.below(page.len as u64) as usize,
+        2 => page.len + 1,
+        _ => page.len + rng.pick(&[2, 3, 8, 56, 100, 200]),
+    };
+    bytes.truncate(length);
+    bytes.extend(rng.bytes(length - bytes.len()));
+    (page, bytes)
+}
+
+pub fn number_without_label(rng: &mut Rng, signal: &Signal) -> i64 {
+    let (least, most) = range(signal);
+    loop {
+        let number = if rng.chance(65) { number_around_labels(rng, signal) } else { rng.between(least, most) };
+        if number <= most && label_name(signal, number).is_none() {
+            return number;
         }
     }
 }

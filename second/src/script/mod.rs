@@ -37,6 +37,9 @@ pub fn joined(lines: &[Vec<u8>]) -> Vec<u8> {
     lines.iter().flat_map(|line| [line.as_slice(), b"\n"].concat()).collect()
 }
 
+const STARTS: [&str; 14] =
+    ["0", "8", "48", "63", "64", "255", "256", "4294967295", "4294967296", "", "048", "-1", "+8", "48:"];
+
 struct Generator {
     rng: Rng,
     posts: [Option<Sketch>; POSTS],
@@ -132,15 +135,30 @@ impl Generator {
             0 => self.rng.below(2048),
             1 => 1 << self.rng.below(13),
             2 => self.rng.pick(&[0, 2047, 2048, 4_294_967_295, 4_294_967_296]),
-            _ => return format!("explain R{}", self.rng.below(24)),
+            _ if self.rng.chance(60) => return format!("explain R{}", self.rng.below(24)),
+            _ => return self.explain_start(),
         };
         format!("explain {number}")
+    }
+
+    /// Refusal 5 with a start bit, and what only looks so.
+    fn explain_start(&mut self) -> String {
+        let number = if self.rng.chance(80) { 5 } else { self.rng.below(24) };
+        let start = self.rng.pick(&STARTS);
+        let any = self.rng.below(300).to_string();
+        format!("explain R{number}:{}", if self.rng.chance(50) { start } else { &any })
     }
 }
 
 #[cfg(test)]
 mod tests {
+    use std::cmp::Ordering;
+    use std::collections::BTreeSet;
+
     use super::*;
+    use crate::codec;
+    use crate::fields::{bytes, identifier};
+    use crate::pages::{self, PAGES};
 
     #[test]
     fn same_seed_same_script() {
@@ -149,5 +167,49 @@ mod tests {
         assert_ne!(once, script(8, 2000, Extras::default()));
         assert_eq!(once.iter().filter(|line| is_step(line)).count(), 2000);
         assert!(once.iter().all(|line| !line.contains(&b'\n')));
+    }
+
+    /// The word, the page and the payload of the steps that bring an extended frame of the table.
+    fn frames(script: &[Vec<u8>]) -> Vec<(&'static str, &'static pages::Page, Vec<u8>)> {
+        let frame = |line: &Vec<u8>| {
+            let fields: Vec<&[u8]> = line.split(|&byte| byte == b' ').collect();
+            let (word, id, payload) = match fields[..] {
+                [b"frame", _, _, id, b"x", payload] => ("frame", id, payload),
+                [b"read", id, b"x", payload] => ("read", id, payload),
+                [b"change", id, b"x", payload, _, _] => ("change", id, payload),
+                _ => return None,
+            };
+            Some((word, pages::find(identifier(id)?, true)?, bytes(payload)?))
+        };
+        script.iter().filter_map(frame).collect()
+    }
+
+    #[test]
+    fn every_message_too_short_and_too_long_by_one_byte_and_by_several() {
+        let mut met = BTreeSet::new();
+        for seed in 1..6 {
+            for (word, page, payload) in frames(&script(seed, 8000, Extras::default())) {
+                let by = payload.len().abs_diff(page.len).min(2);
+                met.insert((word, page.name, payload.len().cmp(&page.len), by));
+            }
+        }
+        for (page, word) in PAGES.iter().flat_map(|page| [(page, "frame"), (page, "read")]) {
+            for by in [1, 2] {
+                let (long, short) = ((word, page.name, Ordering::Greater, by), (word, page.name, Ordering::Less, by));
+                assert!(met.contains(&long), "{long:?}");
+                // One byte cannot be too short by more.
+                assert!(page.len < by || met.contains(&short), "{short:?}");
+            }
+        }
+    }
+
+    #[test]
+    fn two_labels_that_offend_come_with_each_word() {
+        let script = script(1, 8000, Extras::default());
+        let two = |(_, page, payload): &(_, &pages::Page, Vec<u8>)| {
+            payload.len() == page.len && codec::offenders(page, payload).len() > 1
+        };
+        let words: BTreeSet<&str> = frames(&script).into_iter().filter(two).map(|(word, ..)| word).collect();
+        assert_eq!(words, BTreeSet::from(["change", "frame", "read"]));
     }
 }

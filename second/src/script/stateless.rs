@@ -1,6 +1,6 @@
 //! Steps that need no post: read, change and write.
 
-use super::messages::{any, number_around_labels, unlabelled};
+use super::messages::{able_to_offend, any, number_around_labels, number_without_label, unlabelled, wrong_length};
 use super::Generator;
 use crate::codec::range;
 use crate::fields::hex;
@@ -20,6 +20,11 @@ impl Generator {
             return format!("change {id:x} {form} {} {start} {raw}", hex(&bytes));
         }
         let rng = &mut self.rng;
+        if rng.chance(20) {
+            let (page, signal) = able_to_offend(rng);
+            let (bytes, raw) = (any(rng, page).bytes(), number_without_label(rng, signal));
+            return format!("change {:x} x {} {} {raw}", page.id, hex(&bytes), signal.start);
+        }
         let page = rng.pick(&PAGES.each_ref());
         let bytes = any(rng, page).bytes();
         let signal = &page.signals[rng.below(page.signals.len() as u64) as usize];
@@ -61,15 +66,16 @@ impl Generator {
         match rng.below(16) {
             0 => return (page.id ^ 1 << rng.below(32), "x", bytes),
             1 => return (page.id, "s", bytes),
-            2 => bytes.truncate(rng.below(page.len as u64) as usize),
-            3 => bytes.push(rng.next() as u8),
-            4 => bytes.clear(),
-            5 | 6 => bytes = rng.bytes(page.len),
-            7..=9 => {
-                let (id, bytes) = unlabelled(rng);
-                return (id, "x", bytes);
+            2 => bytes.clear(),
+            3..=5 => {
+                let (page, bytes) = wrong_length(rng);
+                return (page.id, "x", bytes);
             }
-            10 => bytes.extend(rng.bytes(100)),
+            6 | 7 => bytes = rng.bytes(page.len),
+            8..=10 => {
+                let (page, bytes) = unlabelled(rng);
+                return (page.id, "x", bytes);
+            }
             _ => {}
         }
         (page.id, "x", bytes)

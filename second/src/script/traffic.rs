@@ -1,6 +1,6 @@
 //! Frames and ticks: sessions that run, with times at the edges, and frames that are refused.
 
-use super::messages::{aimed, any, unlabelled};
+use super::messages::{aimed, any, unlabelled, wrong_length};
 use super::sketch::Sketch;
 use super::Generator;
 use crate::codec::Message;
@@ -68,7 +68,7 @@ impl Generator {
         let rng = &mut self.rng;
         let time = if rng.chance(10) { now.saturating_sub(1) } else { now };
         let page = rng.pick(&PAGES.each_ref());
-        let mut bytes = any(rng, page).bytes();
+        let bytes = any(rng, page).bytes();
         match rng.below(10) {
             0 => self.astray(),
             1 => self.early(channel, now),
@@ -76,18 +76,13 @@ impl Generator {
             3 => frame(channel, time, page.id ^ 1 << rng.below(32), "x", &bytes),
             4 => frame(channel, time, page.id, "s", &bytes),
             5 => frame(channel, time, page.id, "x", &[]),
-            6 => {
-                bytes.truncate(rng.below(page.len as u64) as usize);
-                frame(channel, time, page.id, "x", &bytes)
-            }
-            7 => {
-                let surplus = rng.pick(&[1, 1, 2, 8, 56, 200]);
-                bytes.extend(rng.bytes(surplus));
+            6 | 7 => {
+                let (page, bytes) = wrong_length(rng);
                 frame(channel, time, page.id, "x", &bytes)
             }
             _ => {
-                let (id, bytes) = unlabelled(rng);
-                frame(channel, time, id, "x", &bytes)
+                let (page, bytes) = unlabelled(rng);
+                frame(channel, time, page.id, "x", &bytes)
             }
         }
     }
