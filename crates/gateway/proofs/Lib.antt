@@ -7,6 +7,7 @@ pub mod Elem
 pub mod Entries
 pub mod Entry
 pub mod Handing
+pub mod Hearing
 pub mod InLook
 pub mod InOne
 pub mod InPlace

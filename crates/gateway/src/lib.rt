@@ -2,20 +2,25 @@
 // `watch` gives; no entry requires anything. An answer is one word: the findings, or 65,536 plus the refusal's number. The C interface has the
 // night log too, over the crate `log`; those entries take no table.
 ghost use mathlib.Core.Path.{_≡_};
+ghost use mathlib.Core.Bool.{cond, _&&_};
 ghost use Prim.Native.Nat.{_<_, _≤_};
+ghost use Rattle.post.specs.Step.{isEarly};
+ghost use Rattle.watch.specs.Table.{isChannel, holds};
 ghost use Rattle.gateway.specs.Words.{refusalWord, answerWord, settingWord};
 ghost use Rattle.gateway.specs.Lent.{startOf, setUpWord, releaseWord, frameWord, tickWord};
-ghost use Rattle.gateway.specs.One.{somePlace, hearOn, frameOn, tickOn};
+ghost use Rattle.gateway.specs.One.{somePlace, frameOn, tickOn};
 
 pub mod plain; // plain.rt: reading, writing and changing frames in numbers and bytes
 pub mod look; // look.rt: a post's numbers, and the latest frame of a kind
 pub mod night; // night.rt: records of the night log, written and read
 
+use pages::Judged;
 use pages::Refusal;
+use post::KINDS;
 use post::Limits;
 use post::Post;
+use post::Slot;
 use watch::Answer;
-use watch::Arrival;
 use watch::Setting;
 use watch::Table;
 
@@ -115,30 +120,24 @@ pub fn some_place(t: Table, channel: u32) -> usize
     if i < 8 { i } else { 0 }
 }
 
-fn hear_on(p: Post, channel: u32, time: u32, a: Arrival) -> Stepped
-    ensures { λ r. ⌜ r ≡ hearOn p channel time a ⌝ }
+// 1, then 2: the refusal's word, and 0 where the post takes what comes.
+fn refused(p: Post, channel: u32, time: u32) -> u32
+    ensures { λ r. ⌜ r ≡ cond (isChannel channel && holds p channel) (cond (isEarly p time) (refusalWord Refusal.Earlier) 0) (refusalWord Refusal.ChannelFree) ⌝ }
 {
     if 31 < channel {
-        return Stepped {
-            post: p,
-            answer: refusal_word(Refusal::ChannelFree),
-        };
+        return refusal_word(Refusal::ChannelFree);
     }
     if !watch::holds_channel(p, channel) {
-        return Stepped {
-            post: p,
-            answer: refusal_word(Refusal::ChannelFree),
-        };
+        return refusal_word(Refusal::ChannelFree);
     }
-    let r = watch::hear(p, time, a);
-    let q = r.post;
-    let b = r.answer;
-    Stepped {
-        post: q,
-        answer: answer_word(b),
+    if post::is_early(p, time) {
+        return refusal_word(Refusal::Earlier);
     }
+    0
 }
 
+// Both steps store into the post only what they change of it, and return in one place: the compiler then leaves the rest where it lies,
+// and does not copy the post on each way.
 pub fn frame_on(
     p: Post,
     channel: u32,
@@ -149,15 +148,48 @@ pub fn frame_on(
 ) -> Stepped
     ensures { λ r. ⌜ r ≡ frameOn p channel time id extended (now (payload .entry)) ⌝ }
 {
-    let j = pages::judge(id, extended, payload);
-    let a = watch::arriving(j);
-    hear_on(p, channel, time, a)
+    let mut q = p;
+    let mut answer = refused(p, channel, time);
+    if answer == 0 {
+        let j = pages::judge(id, extended, payload);
+        match j {
+            Judged::Refused(w) => {
+                answer = refusal_word(w);
+            }
+            Judged::Frame(kind, raw) => {
+                let r = post::frame(q, time, kind, raw);
+                let u = r.post;
+                let s = u.session;
+                q.heard = u.heard;
+                q.time = u.time;
+                q.session = s;
+                answer = r.findings;
+                if kind < KINDS {
+                    q.latest[kind] = Slot {
+                        known: true,
+                        time,
+                        raw,
+                    };
+                }
+            }
+        }
+    }
+    Stepped { post: q, answer }
 }
 
 pub fn tick_on(p: Post, channel: u32, time: u32) -> Stepped
     ensures { λ r. ⌜ r ≡ tickOn p channel time ⌝ }
 {
-    hear_on(p, channel, time, Arrival::Tick)
+    let mut q = p;
+    let mut answer = refused(p, channel, time);
+    if answer == 0 {
+        let r = post::tick(p, time);
+        let u = r.post;
+        q.heard = u.heard;
+        q.time = u.time;
+        answer = r.findings;
+    }
+    Stepped { post: q, answer }
 }
 
 // ---- in place

@@ -119,10 +119,12 @@ pub fn with_frame(p: Post, kind: usize, raw: u64) -> Post
     };
     let s = p.session;
     let u = session_after(s, kind, n);
-    let mut q = p;
-    q.session = u;
+    let mut latest = p.latest;
     if kind < KINDS {
-        q.latest[kind] = n;
+        latest[kind] = n;
     }
+    let mut q = p;
+    q.latest = latest;
+    q.session = u;
     q
 }
