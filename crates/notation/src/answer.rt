@@ -21,12 +21,27 @@ fn numbered(out: &mut [u8], pen: Pen, name: &[u8], n: u32) -> Pen {
     line_end(out, p)
 }
 
+// `R<n>`, and of 5 also its start bit: `R5:<start>`.
+fn refused(out: &mut [u8], pen: Pen, n: u32, start: u32) -> Pen {
+    let p = named(out, pen, b"R", n);
+    if n != 5 {
+        return p;
+    }
+    named(out, p, b":", start)
+}
+
+// What a refusal's word has above 65,536: its number, and 256 times the start bit.
+fn refused_word(out: &mut [u8], pen: Pen, rest: u32) -> Pen {
+    let p = refused(out, pen, rest % 256, rest / 256);
+    line_end(out, p)
+}
+
 // The answer word of a frame or a tick: `A<findings>`, or the refusal.
 pub fn findings(out: &mut [u8], pen: Pen, word: u32) -> Pen {
     if word < 65536 {
         return numbered(out, pen, b"A", word);
     }
-    numbered(out, pen, b"R", word - 65536)
+    refused_word(out, pen, word - 65536)
 }
 
 // The answer word of a set-up or a release: `A`, or the refusal.
@@ -34,11 +49,12 @@ pub fn setting(out: &mut [u8], pen: Pen, word: u32) -> Pen {
     if word < 65536 {
         return text::put(out, pen, b"A\n");
     }
-    numbered(out, pen, b"R", word - 65536)
+    refused_word(out, pen, word - 65536)
 }
 
 pub fn refusal(out: &mut [u8], pen: Pen, w: Refusal) -> Pen {
-    numbered(out, pen, b"R", pages::refusal_number(w))
+    let p = refused(out, pen, pages::refusal_number(w), pages::refusal_start(w));
+    line_end(out, p)
 }
 
 // A space, the bytes and a line feed.
@@ -48,8 +64,8 @@ pub fn bytes_end(out: &mut [u8], pen: Pen, bytes: &[u8]) -> Pen {
     line_end(out, q)
 }
 
-// `R<n> HEX`: the bytes afterwards.
+// The refusal and the bytes afterwards.
 pub fn refusal_bytes(out: &mut [u8], pen: Pen, w: Refusal, bytes: &[u8]) -> Pen {
-    let p = named(out, pen, b"R", pages::refusal_number(w));
+    let p = refused(out, pen, pages::refusal_number(w), pages::refusal_start(w));
     bytes_end(out, p, bytes)
 }
