@@ -62,6 +62,10 @@ fn finding(out: &mut [u8], pen: Pen, k: u32) -> Pen {
     finding_high(out, pen, k)
 }
 
+fn no_label(out: &mut [u8], pen: Pen) -> Pen {
+    text::put(out, pen, b"a label signal holds a number without a label")
+}
+
 // Refusals 1 to 8, of a frame and its bytes.
 fn of_frame(out: &mut [u8], pen: Pen, n: u32) -> Pen {
     match n {
@@ -72,8 +76,11 @@ fn of_frame(out: &mut [u8], pen: Pen, n: u32) -> Pen {
             b"time earlier than the post's latest accepted frame or tick\n",
         ),
         3 => text::put(out, pen, b"identifier not in the table, or standard\n"),
-        4 => text::put(out, pen, b"length differs from the table's\n"),
-        5 => text::put(out, pen, b"a label signal holds a number without a label\n"),
+        4 => text::put(out, pen, b"shorter than the table's length\n"),
+        5 => {
+            let p = no_label(out, pen);
+            answer::line_end(out, p)
+        }
         6 => text::put(out, pen, b"a bit that no signal covers is 1\n"),
         7 => text::put(
             out,
@@ -84,7 +91,7 @@ fn of_frame(out: &mut [u8], pen: Pen, n: u32) -> Pen {
     }
 }
 
-// Refusals 9 to 14, of a post's set-up, release and record, and of a change.
+// Refusals 9 to 15, of a post's set-up, release and record, of a change, and of a frame's length.
 fn of_post(out: &mut [u8], pen: Pen, n: u32) -> Pen {
     match n {
         9 => text::put(out, pen, b"post number above 7\n"),
@@ -92,7 +99,8 @@ fn of_post(out: &mut [u8], pen: Pen, n: u32) -> Pen {
         11 => text::put(out, pen, b"channel held by another post\n"),
         12 => text::put(out, pen, b"a post limit outside its range\n"),
         13 => text::put(out, pen, b"no signal of the message starts at that bit\n"),
-        _ => text::put(out, pen, b"post not set up\n"),
+        14 => text::put(out, pen, b"post not set up\n"),
+        _ => text::put(out, pen, b"longer than the table's length\n"),
     }
 }
 
@@ -132,7 +140,7 @@ fn refusal(out: &mut [u8], pen: Pen, n: u32) -> Pen {
     if n <= 8 {
         return of_frame(out, pen, n);
     }
-    if n <= 14 {
+    if n <= 15 {
         return of_post(out, pen, n);
     }
     of_log(out, pen, n)
@@ -169,15 +177,50 @@ fn put_finding(out: &mut [u8], pen: Pen, k: u32) -> Pen {
     finding(out, q, k)
 }
 
-// `explain N`, `explain R<n>`
+// `explain N`, `explain R<n>`, `explain R5:<start>`
 pub fn explain(s: &[u8], at: usize, out: &mut [u8], pen: Pen) -> Pen {
     if at >= s.len() {
         return answer::unknown(out, pen);
     }
-    if s[at] == b'R' {
-        return explain_refusal(out, pen, fields::take_last(s, at + 1));
+    if s[at] != b'R' {
+        return explain_findings(out, pen, fields::take_last(s, at));
     }
-    explain_findings(out, pen, fields::take_last(s, at))
+    if has_start(s, at) {
+        return explain_start(out, pen, fields::take_last(s, at + 3));
+    }
+    explain_refusal(out, pen, fields::take_last(s, at + 1))
+}
+
+// `5:` behind the letter at `at`.
+fn has_start(s: &[u8], at: usize) -> bool {
+    if s.len() < 3 {
+        return false;
+    }
+    if at > s.len() - 3 {
+        return false;
+    }
+    if s[at + 1] != b'5' {
+        return false;
+    }
+    s[at + 2] == b':'
+}
+
+fn explain_start(out: &mut [u8], pen: Pen, n: Last) -> Pen {
+    match n {
+        Last::Bad => answer::unknown(out, pen),
+        Last::Is(n) => put_start(out, pen, n),
+    }
+}
+
+// A start bit is a byte: `Refusal::NoLabel` holds no more.
+fn put_start(out: &mut [u8], pen: Pen, start: u32) -> Pen {
+    if start > 255 {
+        return answer::unknown(out, pen);
+    }
+    let p = text::put(out, pen, b"E R5 ");
+    let q = no_label(out, p);
+    let r = answer::named(out, q, b" (the signal that starts at bit ", start);
+    text::put(out, r, b")\n")
 }
 
 fn explain_findings(out: &mut [u8], pen: Pen, n: Last) -> Pen {
@@ -206,11 +249,10 @@ fn explain_refusal(out: &mut [u8], pen: Pen, n: Last) -> Pen {
     }
 }
 
-// The numbers that refusals have: 1 to 14 and 16 to 21.
+// The numbers that refusals have.
 fn is_refusal(n: u32) -> bool {
     match n {
-        1..=14 => true,
-        16..=21 => true,
+        1..=21 => true,
         _ => false,
     }
 }

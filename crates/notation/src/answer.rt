@@ -1,7 +1,7 @@
 // Answers as text, each with its line feed. No function here calls the pen more than three times: that is what the checker follows by itself.
-ghost use Rattle.pages.specs.Refusals.{numberOf};
-ghost use Rattle.notation.specs.Answers.{Wrote, capitalR, unknownWords, endWords, namedWords, numberedWords, findingsWords, settingWords, bytesWords};
-ghost use mathlib.Core.List.{[], _∷_, _++_};
+ghost use Prim.Native.Nat.{_/_, _%_};
+ghost use mathlib.Core.List.{_++_};
+ghost use Rattle.notation.specs.Answers.{Wrote, unknownWords, endWords, namedWords, numberedWords, refusedWords, refusalWords, findingsWords, settingWords, bytesWords};
 use pages::Refusal;
 use text::Pen;
 
@@ -32,6 +32,25 @@ fn numbered(out: &mut [u8], pen: Pen, name: &[u8], n: u32) -> Pen
     line_end(out, p)
 }
 
+// `R<n>`, and of 5 also its start bit: `R5:<start>`.
+fn refused(out: &mut [u8], pen: Pen, n: u32, start: u32) -> Pen
+    ensures { λ r. ⌜ Wrote (now (out .entry)) pen (refusedWords n start) r (now (out .exit)) ⌝ }
+{
+    let p = named(out, pen, b"R", n);
+    if n != 5 {
+        return p;
+    }
+    named(out, p, b":", start)
+}
+
+// What a refusal's word has above 65,536: its number, and 256 times the start bit.
+fn refused_word(out: &mut [u8], pen: Pen, rest: u32) -> Pen
+    ensures { λ r. ⌜ Wrote (now (out .entry)) pen (refusedWords (rest % 256) (rest / 256) ++ endWords) r (now (out .exit)) ⌝ }
+{
+    let p = refused(out, pen, rest % 256, rest / 256);
+    line_end(out, p)
+}
+
 // The answer word of a frame or a tick: `A<findings>`, or the refusal.
 pub fn findings(out: &mut [u8], pen: Pen, word: u32) -> Pen
     ensures { λ r. ⌜ Wrote (now (out .entry)) pen (findingsWords word) r (now (out .exit)) ⌝ }
@@ -39,7 +58,7 @@ pub fn findings(out: &mut [u8], pen: Pen, word: u32) -> Pen
     if word < 65536 {
         return numbered(out, pen, b"A", word);
     }
-    numbered(out, pen, b"R", word - 65536)
+    refused_word(out, pen, word - 65536)
 }
 
 // The answer word of a set-up or a release: `A`, or the refusal.
@@ -49,13 +68,21 @@ pub fn setting(out: &mut [u8], pen: Pen, word: u32) -> Pen
     if word < 65536 {
         return text::put(out, pen, b"A\n");
     }
-    numbered(out, pen, b"R", word - 65536)
+    refused_word(out, pen, word - 65536)
+}
+
+// `R<n>` or `R5:<start>`.
+fn refusal_name(out: &mut [u8], pen: Pen, w: Refusal) -> Pen
+    ensures { λ r. ⌜ Wrote (now (out .entry)) pen (refusalWords w) r (now (out .exit)) ⌝ }
+{
+    refused(out, pen, pages::refusal_number(w), pages::refusal_start(w))
 }
 
 pub fn refusal(out: &mut [u8], pen: Pen, w: Refusal) -> Pen
-    ensures { λ r. ⌜ Wrote (now (out .entry)) pen (numberedWords (capitalR ∷ []) (numberOf w)) r (now (out .exit)) ⌝ }
+    ensures { λ r. ⌜ Wrote (now (out .entry)) pen (refusalWords w ++ endWords) r (now (out .exit)) ⌝ }
 {
-    numbered(out, pen, b"R", pages::refusal_number(w))
+    let p = refusal_name(out, pen, w);
+    line_end(out, p)
 }
 
 // A space, the bytes and a line feed.
@@ -67,10 +94,10 @@ pub fn bytes_end(out: &mut [u8], pen: Pen, bytes: &[u8]) -> Pen
     line_end(out, q)
 }
 
-// `R<n> HEX`: the bytes afterwards.
+// The refusal and the bytes afterwards.
 pub fn refusal_bytes(out: &mut [u8], pen: Pen, w: Refusal, bytes: &[u8]) -> Pen
-    ensures { λ r. ⌜ Wrote (now (out .entry)) pen (namedWords (capitalR ∷ []) (numberOf w) ++ bytesWords (now (bytes .entry))) r (now (out .exit)) ⌝ }
+    ensures { λ r. ⌜ Wrote (now (out .entry)) pen (refusalWords w ++ bytesWords (now (bytes .entry))) r (now (out .exit)) ⌝ }
 {
-    let p = named(out, pen, b"R", pages::refusal_number(w));
+    let p = refusal_name(out, pen, w);
     bytes_end(out, p, bytes)
 }

@@ -57,7 +57,7 @@ changed m extended bs s z k n′ e = outer (judgeOf m extended bs) refl e
   where
     inner : (k₀ n i : ℕ) (a b : Bool) → judgeOf m extended bs ≡ Frame k₀ n → firstAt (isSignal k₀ s) 0 rows ≡ At i
         → fitsIn (rowAt i .signed) (rowAt i .width) z ≡ a → takes (rowAt i .labels) (bitsIn (rowAt i .signed) (rowAt i .width) z) ≡ b
-        → cond a (cond b (Frame k₀ (putRaw (rowAt i) n z)) (Refused NoLabel)) (Refused NoRawNumber) ≡ Frame k n′ → Changed m extended bs s z k n′
+        → cond a (cond b (Frame k₀ (putRaw (rowAt i) n z)) (Refused (NoLabel (rowAt i .start)))) (Refused NoRawNumber) ≡ Frame k n′ → Changed m extended bs s z k n′
     inner k₀ n i true true j f p q e =
         let ek : k₀ ≡ k = cc in
         let en : putRaw (rowAt i) n z ≡ n′ = cc in

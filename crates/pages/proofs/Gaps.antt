@@ -1,4 +1,4 @@
--- Refusals 5 and 6: the rows' loop answers what the definitions say, and refusal 6 is given where "a bit that no signal covers is 1".
+-- Refusal 6 is given where "a bit that no signal covers is 1": clearing the signals leaves nothing exactly where there is no such bit.
 -- Assumes nothing.
 use mathlib.Core.Path.{_≡_, refl, sym, ap, _∙_}
 use mathlib.Core.Bool.{Bool, true, false, cond, not, _&&_, _||_}
@@ -7,7 +7,7 @@ use mathlib.Core.List.{List, [], _∷_}
 use Prim.Native.Nat.{ℕ, zero, suc, _-_, _*_, _^_, _<_, _≤_}
 use native.Mathlib.Nat.{not-suc-le-zero}
 use native.Mathlib.Omega.{arith}
-use lib.Dec.{eqb}
+use lib.Dec.{eqb, ltb}
 use lib.ListN.{length, getD}
 use lib.Pow.{pow-pos}
 use borrow.Author.Tests.{eq-eqb, ne-eqb, eqb-true, not-true}
@@ -20,15 +20,14 @@ use Rattle.signal.proofs.Words.{number-bit}
 use Rattle.pages.specs.declared.Row.{Row}
 use Rattle.pages.specs.declared.Found.{Found}
 use Rattle.pages.specs.declared.Found.the-variants.{At, Nothing}
-use Rattle.pages.specs.declared.Offence.the-variants as offence
 use Rattle.pages.specs.declared.Judged.{Judged}
 use Rattle.pages.specs.declared.Judged.the-variants.{Frame, Refused}
-use Rattle.pages.specs.declared.Refusal.the-variants.{UnknownIdentifier, WrongLength, NoLabel, UncoveredBit}
-use Rattle.pages.specs.Table.{rows, noRow, rowsOf, lengthOf, firstAt, hasId, lowest, bitsAt, covered, takes}
-use Rattle.pages.specs.Judge.{unlabelled, strayBelow, judgedNumber, judgedAt, judgeOf}
+use Rattle.pages.specs.declared.Refusal.the-variants.{UnknownIdentifier, TooShort, TooLong, NoLabel, UncoveredBit}
+use Rattle.pages.specs.Table.{rows, noRow, rowsOf, firstAt, hasId, lowest, covered}
+use Rattle.pages.specs.Judge.{unlabelled, offender, strayBelow, judgedNumber, wrongLength, judgedAt, judgeOf}
 use Rattle.pages.specs.Rules.{above}
-use Rattle.pages.specs.Steps.{offenceOf, cleared, judgedBy}
-use Rattle.pages.proofs.Rules.{both-true, not-both, Ordered, ordered}
+use Rattle.pages.specs.Steps.{cleared}
+use Rattle.pages.proofs.Rules.{both-true, not-both, Ordered}
 
 -- ---- clearing the signals
 
@@ -121,37 +120,9 @@ cleared-test k rs n o h = go (strayBelow k n rs) refl
         (same-bits k (cleared rs n) 0 (cleared-lt k 0 rs n o h) (pow-pos k)
         (λ i l. bit-cleared rs n i ∙ by i (covered rs i) refl (stray-none k n rs e i l) ∙ sym (get-zero i 1)))
 
--- ---- the loop over a message's rows
-
-offence-test : (k n x : ℕ) (rs : List Row)
-    → judgedBy k n (offenceOf n rs) x ≡ cond (unlabelled n rs) (Refused NoLabel) (cond (eqb x 0) (Frame k n) (Refused UncoveredBit))
-unfolding offenceOf unlabelled
-offence-test k n x [] = refl
-offence-test k n x (r ∷ rs) = go (takes (r .labels) (bitsAt n r)) (offence-test k n x rs)
-  where
-    go : (b : Bool)
-        → judgedBy k n (offenceOf n rs) x ≡ cond (unlabelled n rs) (Refused NoLabel) (cond (eqb x 0) (Frame k n) (Refused UncoveredBit))
-        → judgedBy k n (cond b (offenceOf n rs) (offence.Start (r .start))) x
-        ≡ cond (not b || unlabelled n rs) (Refused NoLabel) (cond (eqb x 0) (Frame k n) (Refused UncoveredBit))
-    go true i = i
-    go false i = refl
-
-pub judged-by : (k n : ℕ) → n < 2 ^ (8 * lengthOf k)
-    → judgedBy k n (offenceOf n (rowsOf k)) (cleared (rowsOf k) n) ≡ judgedNumber k (8 * lengthOf k) n
-unfolding judgedNumber
-judged-by k n h =
-    offence-test k n (cleared (rowsOf k) n) (rowsOf k)
-    ∙ ap (λ (b : Bool). cond (unlabelled n (rowsOf k)) (Refused NoLabel) (cond b (Frame k n) (Refused UncoveredBit)))
-    (cleared-test (8 * lengthOf k) (rowsOf k) n (ordered k) h)
-    ∙ ap (λ (x : Judged). cond (unlabelled n (rowsOf k)) (Refused NoLabel) x) (swap (strayBelow (8 * lengthOf k) n (rowsOf k)))
-  where
-    swap : (b : Bool) → _≡_ {A = Judged} (cond (not b) (Frame k n) (Refused UncoveredBit)) (cond b (Refused UncoveredBit) (Frame k n))
-    swap true = refl
-    swap false = refl
-
 -- ---- from the answer back to the tests
 
--- the frame passed 3 and 4, and a is what its number is answered
+-- the frame passed 3, 4 and 15, and a is what its number is answered
 pub record Reached (m : ℕ) (extended : Bool) (bs : List ℕ) (a : Judged) : Type 0 where
   pub isExtended : extended ≡ true
   pub place : ℕ
@@ -160,15 +131,19 @@ pub record Reached (m : ℕ) (extended : Bool) (bs : List ℕ) (a : Judged) : Ty
   pub judged : judgedNumber (getD rows place noRow .kind) (8 * length bs) (numberOf bs) ≡ a
 
 pub reached : (m : ℕ) (extended : Bool) (bs : List ℕ) (a : Judged) → judgeOf m extended bs ≡ a
-    → (a ≡ Refused UnknownIdentifier → ⊥) → (a ≡ Refused WrongLength → ⊥) → Reached m extended bs a
+    → (a ≡ Refused UnknownIdentifier → ⊥) → (a ≡ Refused TooShort → ⊥) → (a ≡ Refused TooLong → ⊥) → Reached m extended bs a
 unfolding judgeOf
-reached m extended bs a e n3 n4 = outer extended refl e
+reached m extended bs a e n3 n4 n15 = outer extended refl e
   where
+    length-out : (b : Bool) → Refused (cond b TooShort TooLong) ≡ a → ⊥
+    length-out true e = n4 (sym e)
+    length-out false e = n15 (sym e)
+
     inner : (i : ℕ) (b : Bool) → extended ≡ true → firstAt (hasId m) 0 rows ≡ At i → eqb (length bs) (getD rows i noRow .bytes) ≡ b
-        → cond b (judgedNumber (getD rows i noRow .kind) (8 * length bs) (numberOf bs)) (Refused WrongLength) ≡ a → Reached m extended bs a
+        → cond b (judgedNumber (getD rows i noRow .kind) (8 * length bs) (numberOf bs)) (Refused (wrongLength (getD rows i noRow) bs)) ≡ a → Reached m extended bs a
     inner i true x f l e =
         record { isExtended = x; place = i; found = f; sized = eqb-true (length bs) (getD rows i noRow .bytes) l; judged = e }
-    inner i false x f l e = absurd (n4 (sym e))
+    inner i false x f l e = absurd (length-out (ltb (length bs) (getD rows i noRow .bytes)) e)
 
     middle : (f : Found) → extended ≡ true → firstAt (hasId m) 0 rows ≡ f → judgedAt bs f ≡ a → Reached m extended bs a
     middle (At i) x f e = inner i (eqb (length bs) (getD rows i noRow .bytes)) x f refl e
@@ -180,7 +155,7 @@ reached m extended bs a e n3 n4 = outer extended refl e
 
 pub reached-frame : (m : ℕ) (extended : Bool) (bs : List ℕ) (k n : ℕ) → judgeOf m extended bs ≡ Frame k n → Reached m extended bs (Frame k n)
 reached-frame m extended bs k n e =
-    reached m extended bs (Frame k n) e (λ q. let z : _≡_ {A = ℕ} 0 1 = cc in omega arith) (λ q. let z : _≡_ {A = ℕ} 0 1 = cc in omega arith)
+    reached m extended bs (Frame k n) e (λ q. let z : _≡_ {A = ℕ} 0 1 = cc in omega arith) (λ q. let z : _≡_ {A = ℕ} 0 1 = cc in omega arith) (λ q. let z : _≡_ {A = ℕ} 0 1 = cc in omega arith)
 
 -- a number that is answered a frame
 pub taken : (k bits n k′ n′ : ℕ) → judgedNumber k bits n ≡ Frame k′ n′
@@ -189,7 +164,7 @@ unfolding judgedNumber
 taken k bits n k′ n′ e = go (unlabelled n (rowsOf k)) (strayBelow bits n (rowsOf k)) refl refl e
   where
     go : (u s : Bool) → unlabelled n (rowsOf k) ≡ u → strayBelow bits n (rowsOf k) ≡ s
-        → cond u (Refused NoLabel) (cond s (Refused UncoveredBit) (Frame k n)) ≡ Frame k′ n′
+        → cond u (Refused (NoLabel (offender n (rowsOf k)))) (cond s (Refused UncoveredBit) (Frame k n)) ≡ Frame k′ n′
         → (k ≡ k′) × (n ≡ n′) × (unlabelled n (rowsOf k) ≡ false) × (strayBelow bits n (rowsOf k) ≡ false)
     go true s p q e = absurd (let z : _≡_ {A = ℕ} 0 1 = cc in omega arith)
     go false true p q e = absurd (let z : _≡_ {A = ℕ} 0 1 = cc in omega arith)
@@ -199,7 +174,7 @@ strayed : (k bits n : ℕ) → judgedNumber k bits n ≡ Refused UncoveredBit �
 unfolding judgedNumber
 strayed k bits n e = go (unlabelled n (rowsOf k)) (strayBelow bits n (rowsOf k)) refl e
   where
-    go : (u s : Bool) → strayBelow bits n (rowsOf k) ≡ s → cond u (Refused NoLabel) (cond s (Refused UncoveredBit) (Frame k n)) ≡ Refused UncoveredBit
+    go : (u s : Bool) → strayBelow bits n (rowsOf k) ≡ s → cond u (Refused (NoLabel (offender n (rowsOf k)))) (cond s (Refused UncoveredBit) (Frame k n)) ≡ Refused UncoveredBit
         → strayBelow bits n (rowsOf k) ≡ true
     go true s q e = absurd (let z : _≡_ {A = ℕ} 0 1 = cc in omega arith)
     go false true q e = q
@@ -219,7 +194,7 @@ pub record Uncovered (m : ℕ) (bs : List ℕ) : Type 0 where
 -- refusal 6 is given only where "a bit that no signal covers is 1"
 pub uncovered : (m : ℕ) (extended : Bool) (bs : List ℕ) → judgeOf m extended bs ≡ Refused UncoveredBit → Bytes bs → Uncovered m bs
 uncovered m extended bs e hb =
-    go (reached m extended bs (Refused UncoveredBit) e (λ q. let z : _≡_ {A = ℕ} 0 1 = cc in omega arith) (λ q. let z : _≡_ {A = ℕ} 0 1 = cc in omega arith))
+    go (reached m extended bs (Refused UncoveredBit) e (λ q. let z : _≡_ {A = ℕ} 0 1 = cc in omega arith) (λ q. let z : _≡_ {A = ℕ} 0 1 = cc in omega arith) (λ q. let z : _≡_ {A = ℕ} 0 1 = cc in omega arith))
   where
     told : (i j : ℕ) → firstAt (hasId m) 0 rows ≡ At i → j < 8 * length bs → covered (rowsOf (getD rows i noRow .kind)) j ≡ false
         → getBits (numberOf bs) j 1 ≡ 1 → Uncovered m bs

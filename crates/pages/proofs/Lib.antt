@@ -1,5 +1,6 @@
 pub mod Rules
 pub mod Gaps
+pub mod Offenders
 pub mod Trips
 pub mod Changes
 pub mod Walk

@@ -16,11 +16,11 @@ use Rattle.pages.specs.Table.{rows, noRow, firstAt, isSignal, takes}
 use Rattle.pages.specs.Judge.{judgeOf}
 use Rattle.pages.specs.Raws.{putRaw}
 
--- 7, then 5 for the new label
+-- 7, then 5 for the new label, with the start of the changed signal
 abbrev pub changedRow : Row → ℕ → ℕ → ℤ → Judged
 changedRow r k n z =
     cond (fitsIn (r .signed) (r .width) z)
-    (cond (takes (r .labels) (bitsIn (r .signed) (r .width) z)) (Frame k (putRaw r n z)) (Refused NoLabel))
+    (cond (takes (r .labels) (bitsIn (r .signed) (r .width) z)) (Frame k (putRaw r n z)) (Refused (NoLabel (r .start))))
     (Refused NoRawNumber)
 
 -- 13 before them

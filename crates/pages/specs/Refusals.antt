@@ -1,7 +1,7 @@
--- 01, "Numbers given back": the number of each refusal.
+-- 01, "Numbers given back": the number of each refusal, and the start bit that 5 carries.
 use Prim.Native.Nat.{ℕ}
 use Rattle.pages.specs.declared.Refusal.{Refusal}
-use Rattle.pages.specs.declared.Refusal.the-variants.{ChannelFree, Earlier, UnknownIdentifier, WrongLength, NoLabel, UncoveredBit, NoRawNumber, ShortBuffer, NoSuchPost, NoSuchChannel, ChannelTaken, LimitOutside, NoSignal, NotSetUp, IllNumber, LogChannel, LogStandard, LogExtended, LogLength, LogTick}
+use Rattle.pages.specs.declared.Refusal.the-variants.{ChannelFree, Earlier, UnknownIdentifier, TooShort, NoLabel, UncoveredBit, NoRawNumber, ShortBuffer, NoSuchPost, NoSuchChannel, ChannelTaken, LimitOutside, NoSignal, NotSetUp, TooLong, IllNumber, LogChannel, LogStandard, LogExtended, LogLength, LogTick}
 
 abbrev pub numberOf : Refusal → ℕ
 -- channel above 31, or held by no post
@@ -10,10 +10,11 @@ numberOf ChannelFree = 1
 numberOf Earlier = 2
 -- identifier not in the table, or standard
 numberOf UnknownIdentifier = 3
--- length differs from the table's
-numberOf WrongLength = 4
+-- length differs from the table's; 02, Req 02: "4 when too short, 15 when too long"
+numberOf TooShort = 4
+numberOf TooLong = 15
 -- a label signal holds a number without a label
-numberOf NoLabel = 5
+numberOf (NoLabel s) = 5
 -- a bit that no signal covers is 1
 numberOf UncoveredBit = 6
 -- a value to be written has no raw number, or a raw number does not fit its signal
@@ -45,3 +46,27 @@ numberOf LogExtended = 19
 numberOf LogLength = 20
 -- length 9 with another identifier part than 0
 numberOf LogTick = 21
+
+-- 02, Req 02: 5 "is to carry the start bit of the first offending signal"; no other refusal has one
+abbrev pub startOf : Refusal → ℕ
+startOf (NoLabel s) = s
+startOf ChannelFree = 0
+startOf Earlier = 0
+startOf UnknownIdentifier = 0
+startOf TooShort = 0
+startOf UncoveredBit = 0
+startOf NoRawNumber = 0
+startOf ShortBuffer = 0
+startOf NoSuchPost = 0
+startOf NoSuchChannel = 0
+startOf ChannelTaken = 0
+startOf LimitOutside = 0
+startOf NoSignal = 0
+startOf NotSetUp = 0
+startOf TooLong = 0
+startOf IllNumber = 0
+startOf LogChannel = 0
+startOf LogStandard = 0
+startOf LogExtended = 0
+startOf LogLength = 0
+startOf LogTick = 0

@@ -28,7 +28,7 @@ cleared [] n = n
 cleared (r ∷ rs) n = cleared rs (putBits n (lowest r) (r .width) 0)
 
 abbrev pub judgedBy : ℕ → ℕ → Offence → ℕ → Judged
-judgedBy k n (Start s) rest = Refused NoLabel
+judgedBy k n (Start s) rest = Refused (NoLabel s)
 judgedBy k n Nothing rest = cond (eqb rest 0) (Frame k n) (Refused UncoveredBit)
 
 unfoldable pub packOf : List Row → List ℤ → Packed

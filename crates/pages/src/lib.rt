@@ -3,7 +3,7 @@
 ghost use mathlib.Core.Path.{_≡_};
 ghost use lib.IntN.{pos};
 ghost use lib.ListN.{getD};
-ghost use Rattle.pages.specs.Refusals.{numberOf};
+ghost use Rattle.pages.specs.Refusals.{numberOf, startOf};
 ghost use Rattle.pages.specs.Table.{rowsOf, headRow, identifierOf, lengthOf};
 ghost use Rattle.pages.specs.Judge.{judgeOf};
 ghost use Rattle.pages.specs.Raws.{rawsOf, writeRawsOf, bufferAfter};
@@ -16,13 +16,14 @@ use signals::change_number;
 use signals::judge_number;
 use signals::pack;
 
-// 01, "Numbers given back": a case for each number, in their order (`numberOf` in specs/). Those of the night log (02, Req 01) follow.
+// 01, "Numbers given back": a case for each number, in their order (`numberOf` in specs/). Those of 02 follow: a length above the table's
+// (Req 02), and the night log's (Req 01). 5 carries the start bit of the signal (02, Req 02).
 pub enum Refusal {
     ChannelFree,
     Earlier,
     UnknownIdentifier,
-    WrongLength,
-    NoLabel,
+    TooShort,
+    NoLabel(u8),
     UncoveredBit,
     NoRawNumber,
     ShortBuffer,
@@ -32,6 +33,7 @@ pub enum Refusal {
     LimitOutside,
     NoSignal,
     NotSetUp,
+    TooLong,
     IllNumber,
     LogChannel,
     LogStandard,
@@ -59,7 +61,7 @@ pub enum Found {
 
 // The start of the first signal that holds a number without a label.
 enum Offence {
-    Start(u32),
+    Start(u8),
     Nothing,
 }
 
@@ -93,8 +95,8 @@ pub fn refusal_number(w: Refusal) -> u32
         Refusal::ChannelFree => 1,
         Refusal::Earlier => 2,
         Refusal::UnknownIdentifier => 3,
-        Refusal::WrongLength => 4,
-        Refusal::NoLabel => 5,
+        Refusal::TooShort => 4,
+        Refusal::NoLabel(_) => 5,
         Refusal::UncoveredBit => 6,
         Refusal::NoRawNumber => 7,
         Refusal::ShortBuffer => 8,
@@ -104,12 +106,23 @@ pub fn refusal_number(w: Refusal) -> u32
         Refusal::LimitOutside => 12,
         Refusal::NoSignal => 13,
         Refusal::NotSetUp => 14,
+        Refusal::TooLong => 15,
         Refusal::IllNumber => 16,
         Refusal::LogChannel => 17,
         Refusal::LogStandard => 18,
         Refusal::LogExtended => 19,
         Refusal::LogLength => 20,
         Refusal::LogTick => 21,
+    }
+}
+
+// 02: "It is to carry the start bit of the first offending signal"; 0 of every refusal but 5.
+pub fn refusal_start(w: Refusal) -> u32
+    ensures { λ r. ⌜ r ≡ startOf w ⌝ }
+{
+    match w {
+        Refusal::NoLabel(s) => s as u32,
+        _ => 0,
     }
 }
 
@@ -144,7 +157,7 @@ pub fn length_of(kind: usize) -> usize
     head_row(kind).bytes
 }
 
-// 01: "Reading gives 3 to 6", in this order.
+// 01: "Reading gives 3 to 6", in this order; 02: "with 15 in 4's place".
 pub fn judge(id: u32, extended: bool, bytes: &[u8]) -> Judged
     ensures { λ r. ⌜ r ≡ judgeOf id extended (now (bytes .entry)) ⌝ }
 {
@@ -155,8 +168,11 @@ pub fn judge(id: u32, extended: bool, bytes: &[u8]) -> Judged
         return Judged::Refused(Refusal::UnknownIdentifier);
     };
     let r = table::row_at(i);
-    if bytes.len() != r.bytes {
-        return Judged::Refused(Refusal::WrongLength);
+    if bytes.len() < r.bytes {
+        return Judged::Refused(Refusal::TooShort);
+    }
+    if r.bytes < bytes.len() {
+        return Judged::Refused(Refusal::TooLong);
     }
     judge_number(i, r.kind, signal::number(bytes))
 }

@@ -26,6 +26,14 @@ fn lowest_bit(r: Row) -> u32
     r.start
 }
 
+// The start as refusal 5 carries it: no signal of 8 bytes starts above bit 63.
+fn start_bit(r: Row) -> u8
+    requires { ⌜ Fine r ⌝ }
+    ensures { λ b. ⌜ b ≡ r .start ⌝ }
+{
+    r.start as u8
+}
+
 fn signal_bits(r: Row, n: u64) -> u64
     requires { ⌜ Fine r ⌝ }
     ensures { λ v. ⌜ v ≡ bitsAt n r ⌝ }
@@ -69,7 +77,7 @@ fn sifted(at: usize, kind: usize, n: u64) -> Sifted
         }
         if !label_holds(r.labels, signal_bits(r, n)) {
             break 'rows Sifted {
-                offence: Offence::Start(r.start),
+                offence: Offence::Start(start_bit(r)),
                 rest,
             };
         }
@@ -84,9 +92,9 @@ pub fn judge_number(at: usize, kind: usize, n: u64) -> Judged
 {
     let s = sifted(at, kind, n);
     let o = s.offence;
-    let Offence::Nothing = o else {
-        return Judged::Refused(Refusal::NoLabel);
-    };
+    if let Offence::Start(b) = o {
+        return Judged::Refused(Refusal::NoLabel(b));
+    }
     if s.rest != 0 {
         return Judged::Refused(Refusal::UncoveredBit);
     }
@@ -198,7 +206,7 @@ fn change_row(r: Row, kind: usize, n: u64, z: i64) -> Judged
         return Judged::Refused(Refusal::NoRawNumber);
     }
     if !label_holds(r.labels, signal::bits(z, r.signed, r.width)) {
-        return Judged::Refused(Refusal::NoLabel);
+        return Judged::Refused(Refusal::NoLabel(start_bit(r)));
     }
     Judged::Frame(kind, put_raw(r, n, z))
 }

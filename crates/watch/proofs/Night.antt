@@ -5,7 +5,7 @@ use borrow.Author.Tests.{ltb-true}
 use mathlib.Core.Path.{_≡_, refl, ap, sym, _∙_}
 use mathlib.Core.Bool.{Bool, true, false}
 use mathlib.Core.List.{List, [], _∷_}
-use Rattle.pages.specs.declared.Refusal.the-variants.{ChannelFree, ChannelTaken, WrongLength}
+use Rattle.pages.specs.declared.Refusal.the-variants.{ChannelFree, ChannelTaken, TooShort}
 use Rattle.pages.specs.declared.Judged.the-variants as judged
 use Rattle.pages.specs.Table.{rows, ofKind, firstAt, covered}
 use Rattle.pages.specs.Judge.{unlabelled, strayBelow, judgedNumber, judgeOf}
@@ -54,7 +54,7 @@ first = ltb-true 0 postCount refl
 -- what the premises ask of the night, and what 01's rules give there, by computing
 computed : (standing 0 (accepted night) ≡ held 4 limits heard) × (standing 0 (accepted alone) ≡ held 4 limits heard) × (holdsIn (standing 1 (accepted night)) 4 ≡ false)
     × (earlierIn heard 501 ≡ false) × (findings01 limits heard (history.tick 501) ≡ 1) × (findings01 limits heard (history.tick 500) ≡ 0) × (earlierIn heard 500 ≡ false)
-    × (judgeOf 0x6b001 true (2 ∷ []) ≡ judged.Refused WrongLength) × (setUp01 (accepted night) 2 4 limits ≡ setting.Refused ChannelTaken) × (holder (accepted night) 5 ≡ 8)
+    × (judgeOf 0x6b001 true (2 ∷ []) ≡ judged.Refused TooShort) × (setUp01 (accepted night) 2 4 limits ≡ setting.Refused ChannelTaken) × (holder (accepted night) 5 ≡ 8)
     × (judgeOf 0x63000 true status ≡ judged.Frame 0 allowed) × (findings01 limits heard (history.frame 501 0 allowed) ≡ 1)
     × (otherHolds (accepted night) 2 4 0 postCount ≡ otherHolds (accepted alone) 2 4 0 postCount) × (lookUp01 (accepted night) 0 ≡ record { answer = setting.Done; shown = recordOf 4 limits heard })
 unfolding standing findFrom holder otherHolds feed01 setUp01 release01 lookUp01 feedSteps setUpSteps releaseSteps limitsFit accepted sinceFinished opening inSession earlierIn lowersBadly outside leaking differs sessionStatus sessionControl limitOf f1 f2 f3 f4 f5 f6 f7 f8 f9 f10 f11 findings01 rows ofKind firstAt covered unlabelled strayBelow judgedNumber judgeOf wholesOf pad rawsOf getBits numberOf toSigned statusIn parametersIn sessionIn controlIn
@@ -84,8 +84,8 @@ pub late-status : reply (run night) (frame 4 501 0x63000 true status) ≡ fed (F
 late-status = own-frame night 0 4 limits heard first own 501 0x63000 true status 0 allowed (computed .10) ∙ rw (computed .3, computed .11)
 
 -- a frame of one byte too few
-pub short : reply (run night) (frame 4 501 0x6b001 true (2 ∷ [])) ≡ fed (Refused WrongLength)
-short = own-unread night 0 4 limits heard first own 501 0x6b001 true (2 ∷ []) WrongLength (computed .7) ∙ rw (computed .3)
+pub short : reply (run night) (frame 4 501 0x6b001 true (2 ∷ [])) ≡ fed (Refused TooShort)
+short = own-unread night 0 4 limits heard first own 501 0x6b001 true (2 ∷ []) TooShort (computed .7) ∙ rw (computed .3)
 
 -- the tick counts for post 0 and leaves post 1's record as it was
 pub counted : standing 0 (accepted (tick 4 501 ∷ night)) ≡ held 4 limits (history.tick 501 ∷ heard)

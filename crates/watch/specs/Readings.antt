@@ -1,11 +1,11 @@
--- 01, "Readings from both sides of each edge": E1* to E13*, one table under one statement, closed by computing the definitions. What the watch answers is read by looking back.
+-- 01, "Readings from both sides of each edge": E1* to E13*, and 02, Req 02: one table under one statement, closed by computing the definitions. What the watch answers is read by looking back.
 use Prim.Native.Nat.{ℕ}
 use mathlib.Core.Path.{_≡_, refl}
 use mathlib.Core.Bool.{Bool, true, false}
 use mathlib.Core.List.{List, [], _∷_}
-use Rattle.pages.specs.declared.Refusal.the-variants.{ChannelTaken}
+use Rattle.pages.specs.declared.Refusal.the-variants.{TooShort, TooLong, NoLabel, ChannelTaken}
 use Rattle.pages.specs.Table.{rows, ofKind, firstAt, covered}
-use Rattle.pages.specs.Judge.{unlabelled, strayBelow, judgedNumber, judgeOf}
+use Rattle.pages.specs.Judge.{unlabelled, offender, strayBelow, judgedNumber, judgeOf}
 use Rattle.pages.specs.Raws.{wholesOf, pad, rawsOf}
 use Rattle.signal.specs.Signal.{getBits}
 use Rattle.signal.specs.Payload.{numberOf}
@@ -91,6 +91,9 @@ e8to13 =
     ∷ answers (set-up ∷ parameters 0 0 0 ∷ control 1 0x88 0x13 1 ∷ control 2 0x89 0x13 1 ∷ []) (done ∷ found 0 ∷ found 0 ∷ found 64 ∷ [])
     ∷ answers (set-up ∷ parameters 0 0x70 0x17 ∷ control 1 0x88 0x13 1 ∷ control 2 0x89 0x13 1 ∷ []) (done ∷ found 0 ∷ found 0 ∷ found 64 ∷ [])
     ∷ answers (set-up ∷ parameters 0 0xA0 0x0F ∷ control 1 0xA0 0x0F 1 ∷ control 2 0xA1 0x0F 1 ∷ []) (done ∷ found 0 ∷ found 0 ∷ found 64 ∷ [])
+    -- 02, Req 02: the watch hands the start bit on, "lowest start first"; a byte too few is 4, one too many 15
+    ∷ answers (set-up ∷ frame 4 0 0x6b001 true (8 ∷ 5 ∷ []) ∷ frame 4 0 0x6b001 true (2 ∷ 5 ∷ []) ∷ frame 4 0 0x6b001 true (8 ∷ []) ∷ frame 4 0 0x6b001 true (8 ∷ 5 ∷ 0 ∷ []) ∷ [])
+    (done ∷ fed (Refused (NoLabel 0)) ∷ fed (Refused (NoLabel 8)) ∷ fed (Refused TooShort) ∷ fed (Refused TooLong) ∷ [])
     ∷ []
 
 abbrev pub table : List Case
@@ -102,5 +105,5 @@ joined [] rest a b = b
 joined (c ∷ cs) rest a b = (a .0, joined cs rest (a .1) b)
 
 pub readings : All table
-unfolding standing findFrom holder otherHolds feed01 setUp01 release01 lookUp01 feedSteps setUpSteps releaseSteps limitsFit sinceFinished opening inSession earlierIn lowersBadly outside leaking differs sessionStatus sessionControl limitOf f1 f2 f3 f4 f5 f6 f7 f8 f9 f10 f11 findings01 recordOf statusIn parametersIn sessionIn controlIn rows ofKind firstAt covered unlabelled strayBelow judgedNumber judgeOf wholesOf pad rawsOf getBits numberOf toSigned
-readings = joined messages.table e8to13 messages.readings (refl, (refl, (refl, (refl, (refl, (refl, (refl, (refl, (refl, tt)))))))))
+unfolding standing findFrom holder otherHolds feed01 setUp01 release01 lookUp01 feedSteps setUpSteps releaseSteps limitsFit sinceFinished opening inSession earlierIn lowersBadly outside leaking differs sessionStatus sessionControl limitOf f1 f2 f3 f4 f5 f6 f7 f8 f9 f10 f11 findings01 recordOf statusIn parametersIn sessionIn controlIn rows ofKind firstAt covered unlabelled offender strayBelow judgedNumber judgeOf wholesOf pad rawsOf getBits numberOf toSigned
+readings = joined messages.table e8to13 messages.readings (refl, (refl, (refl, (refl, (refl, (refl, (refl, (refl, (refl, (refl, tt))))))))))

@@ -1,13 +1,12 @@
--- `pages::judge` meets its contract: refusals 3 and 4 by the first row with the identifier, 5 and 6 by that message's rows.
+-- `pages::judge` meets its contract: refusals 3, 4 and 15 by the first row with the identifier, 5 and 6 by that message's rows.
 use borrow.Author.Needs.{needs}
-use borrow.Author.Tests.{not-true, not-false, eq-eqb, ne-eqb}
-use mathlib.Core.Path.{_≡_, refl, sym, ap, ap₂, _∙_, subst}
+use borrow.Author.Tests.{not-true, not-false, eq-eqb}
+use mathlib.Core.Path.{_≡_, sym, ap, ap₂, _∙_, subst}
 use mathlib.Core.Bool.{Bool, true, false, cond}
 use mathlib.Core.List.{List}
 use native.Mathlib.Omega.{arith}
 use Prim.Native.Nat.{ℕ, _*_, _^_, _<_, _≤_}
 use denote.Ref.{now}
-use lib.Dec.{eqb}
 use lib.ListN.{length, getD, drop, take}
 use Rattle.signal.specs.Payload.{numberOf, Bytes}
 use Rattle.signal.proofs.Bytes.{number-lt}
@@ -15,14 +14,13 @@ use Rattle.signal.proofs.Totals.{number-in}
 use Rattle.pages.specs.declared.Found.{Found}
 use Rattle.pages.specs.declared.Found.the-variants.{At, Nothing}
 use Rattle.pages.specs.declared.Row.{Row}
-use Rattle.pages.specs.declared.Judged.{Judged}
-use Rattle.pages.specs.declared.Judged.the-variants.{Frame, Refused}
-use Rattle.pages.specs.declared.Refusal.the-variants.{UnknownIdentifier, WrongLength}
+use Rattle.pages.specs.declared.Judged.the-variants.{Refused}
+use Rattle.pages.specs.declared.Refusal.the-variants.{UnknownIdentifier}
 use Rattle.pages.specs.Table.{rows, noRow, rowsOf, block, headRow, lengthOf, firstAt, hasId}
-use Rattle.pages.specs.Judge.{judgedNumber, judgedRow, judgedAt, judgeOf}
+use Rattle.pages.specs.Judge.{judgedNumber, wrongLength, judgedRow, judgedAt, judgeOf}
 use Rattle.pages.specs.Steps.{offenceOf, cleared, judgedBy}
 use Rattle.pages.proofs.Rules.{first-id, short-length}
-use Rattle.pages.proofs.Gaps.{judged-by}
+use Rattle.pages.proofs.Offenders.{judged-by, row-short, row-long}
 use Rattle.pages.proofs.judge.Statement.{statement}
 use Rattle.pages.proofs.judge.Tie as tie
 
@@ -69,7 +67,17 @@ returns-3 c =
     let k = r .before .before in
     let f = k .before .before in
     let a = f .before .before .before .args in
-    sym (ap (λ (x : Bool). cond x (judgedNumber (r .row-at .result .kind) (8 * length (a .bytes .now)) (numberOf (a .bytes .now))) (Refused WrongLength)) (ne-eqb _ _ (c .if2 .taken)))
+    sym (row-short (a .bytes .now) (r .row-at .result) (c .if2 .taken))
+    ∙ at-row (a .id) _ (a .bytes .now) (a .extended) (r .row-at .result) (not-false (a .extended) (f .before .if1 .left))
+    (sym (f .first-with-id .ensures) ∙ k .i .given .1) (r .row-at .ensures .0)
+
+returns-4 : tie.Need-returns-4
+returns-4 c =
+    let r = c .before .before .before .before in
+    let k = r .before .before in
+    let f = k .before .before in
+    let a = f .before .before .before .args in
+    sym (row-long (a .bytes .now) (r .row-at .result) (c .if3 .taken))
     ∙ at-row (a .id) _ (a .bytes .now) (a .extended) (r .row-at .result) (not-false (a .extended) (f .before .if1 .left))
     (sym (f .first-with-id .ensures) ∙ k .i .given .1) (r .row-at .ensures .0)
 
@@ -95,13 +103,13 @@ of-length m i bs r hb g q l =
     ap₂ (λ (x : ℕ) (rs : List Row). judgedBy (r .kind) x (offenceOf x rs) (cleared rs x)) (number-in bs few) same
     ∙ judged-by (r .kind) n below
     ∙ ap (λ (x : ℕ). judgedNumber (r .kind) (8 * x) n) size
-    ∙ sym (ap (λ (x : Bool). cond x (judgedNumber (r .kind) (8 * length bs) n) (Refused WrongLength)) (eq-eqb (length bs) (r .bytes) l))
+    ∙ sym (ap (λ (x : Bool). cond x (judgedNumber (r .kind) (8 * length bs) n) (Refused (wrongLength r bs))) (eq-eqb (length bs) (r .bytes) l))
 
-returns-4 : tie.Need-returns-4
-returns-4 c =
+returns-5 : tie.Need-returns-5
+returns-5 c =
     let n = c .before in
     let s = n .before in
-    let r = s .before .before in
+    let r = s .before .before .before .before in
     let k = r .before .before in
     let f = k .before .before in
     let z = f .before .before .before in
@@ -109,7 +117,7 @@ returns-4 c =
     let g : firstAt (hasId (a .id)) 0 rows ≡ At _ = sym (f .first-with-id .ensures) ∙ k .i .given .1 in
     c .judge-number .ensures
     ∙ ap (λ (x : ℕ). judgedBy (r .row-at .result .kind) x (offenceOf x (block (r .row-at .result .kind) (drop (k .i .given .0 .0) rows))) (cleared (block (r .row-at .result .kind) (drop (k .i .given .0 .0) rows)) x)) (n .number .ensures)
-    ∙ of-length (a .id) _ (a .bytes .now) (r .row-at .result) (λ j. omega (arith, f .before .before .shared-slice-known .given j)) g (r .row-at .ensures .0) (s .if2 .left)
+    ∙ of-length (a .id) _ (a .bytes .now) (r .row-at .result) (λ j. omega (arith, f .before .before .shared-slice-known .given j)) g (r .row-at .ensures .0) (omega (arith, s .before .before .if2 .left, s .if3 .left))
     ∙ at-row (a .id) _ (a .bytes .now) (a .extended) (r .row-at .result) (not-false (a .extended) (f .before .if1 .left)) g (r .row-at .ensures .0)
 
 pub judge-spec : {M : Type 1} → statement M
@@ -123,6 +131,7 @@ judge-spec =
     returns-2
     row-at-requires
     returns-3
+    returns-4
     number-requires
     judge-number-requires
-    returns-4)
+    returns-5)

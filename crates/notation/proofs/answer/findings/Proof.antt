@@ -1,9 +1,9 @@
 -- `notation::answer::findings` meets its contract, by whether the word is a refusal.
 use mathlib.Core.Path.{_≡_}
 use mathlib.Core.List.{[], _∷_}
-use Prim.Native.Nat.{ℕ, _-_, _≤_, _<_}
+use Prim.Native.Nat.{ℕ, _≤_, _<_}
 use borrow.Author.Tests.{lt-ltb, le-ltb}
-use Rattle.notation.specs.Answers.{capitalA, capitalR, numberedWords, findingsWords}
+use Rattle.notation.specs.Answers.{capitalA, numberedWords, refusedIn, findingsWords}
 use Rattle.notation.proofs.Ink.{like}
 use borrow.Author.Needs.{needs}
 use Rattle.notation.proofs.answer.findings.Statement.{statement}
@@ -13,7 +13,7 @@ accepted : (w : ℕ) → w < 65536 → numberedWords (capitalA ∷ []) w ≡ fin
 unfolding findingsWords
 accepted w h = rw (lt-ltb w 65536 h)
 
-refused : (w : ℕ) → 65536 ≤ w → numberedWords (capitalR ∷ []) (w - 65536) ≡ findingsWords w
+refused : (w : ℕ) → 65536 ≤ w → refusedIn w ≡ findingsWords w
 unfolding findingsWords
 refused w h = rw (le-ltb w 65536 h)
 
@@ -31,19 +31,16 @@ returns c =
     let a = c .before .before .before .before .before .before .before .args in
     like (a .out .now) (a .pen) (accepted (a .word) (c .before .before .before .before .before .if1 .taken)) (c .before .before .numbered .ensures)
 
-slice-aggregate-numbered-2 : tie.Need-slice-aggregate-numbered-2
-slice-aggregate-numbered-2 c = search needs
-
-numbered-requires-2 : tie.Need-numbered-requires-2
-numbered-requires-2 c κs = search needs
+refused-word-requires : tie.Need-refused-word-requires
+refused-word-requires c κs = search needs
 
 same-length-2 : tie.Need-same-length-2
 same-length-2 c = search needs
 
 returns-2 : tie.Need-returns-2
 returns-2 c =
-    let a = c .before .before .before .before .before .before .before .args in
-    like (a .out .now) (a .pen) (refused (a .word) (c .before .before .before .before .before .if1 .left)) (c .before .before .numbered2 .ensures)
+    let a = c .before .before .before .before .before .before .args in
+    like (a .out .now) (a .pen) (refused (a .word) (c .before .before .before .before .if1 .left)) (c .before .before .refused-word .ensures)
 
 pub findings-spec : {M : Type 1} → statement M
 findings-spec =
@@ -53,7 +50,6 @@ findings-spec =
     numbered-requires
     same-length
     returns
-    slice-aggregate-numbered-2
-    numbered-requires-2
+    refused-word-requires
     same-length-2
     returns-2)

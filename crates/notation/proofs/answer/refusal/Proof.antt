@@ -1,35 +1,23 @@
--- `notation::answer::refusal` meets its contract, by the refusal's number.
-use mathlib.Core.Path.{ap}
-use mathlib.Core.List.{[], _∷_}
-use Rattle.notation.specs.Answers.{capitalR, numberedWords}
-use Rattle.notation.proofs.Ink.{like}
+-- `notation::answer::refusal` meets its contract: the refusal, and then the line's end.
+use Rattle.notation.specs.Answers.{refusalWords, endWords}
+use Rattle.notation.proofs.Ink.{then}
 use borrow.Author.Needs.{needs}
 use Rattle.notation.proofs.answer.refusal.Statement.{statement}
 use Rattle.notation.proofs.answer.refusal.Tie as tie
 
-slice-aggregate-numbered : tie.Need-slice-aggregate-numbered
-slice-aggregate-numbered c = search needs
+refusal-name-requires : tie.Need-refusal-name-requires
+refusal-name-requires c κs = search needs
 
-refusal-number-requires : tie.Need-refusal-number-requires
-refusal-number-requires c κs = search needs
-
-numbered-requires : tie.Need-numbered-requires
-numbered-requires c κs = search needs
+line-end-requires : tie.Need-line-end-requires
+line-end-requires c κs = search needs
 
 same-length : tie.Need-same-length
 same-length c = search needs
 
 returns : tie.Need-returns
 returns c =
-    let a = c .before .before .before .before .before .before .before .args in
-    like (a .out .now) (a .pen) (ap (numberedWords (capitalR ∷ [])) (c .before .before .before .refusal-number .ensures)) (c .before .before .numbered .ensures)
+    let a = c .before .before .before .before .before .before .before .before .before .args in
+    then (a .out .now) (a .pen) (refusalWords (a .w)) endWords (c .before .before .before .before .before .before .refusal-name .ensures) (c .before .before .line-end .ensures)
 
 pub refusal-spec : {M : Type 1} → statement M
-refusal-spec =
-    tie.close
-    (tie.spec
-    slice-aggregate-numbered
-    refusal-number-requires
-    numbered-requires
-    same-length
-    returns)
+refusal-spec = tie.close (tie.spec refusal-name-requires line-end-requires same-length returns)

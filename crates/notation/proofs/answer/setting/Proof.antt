@@ -1,19 +1,19 @@
 -- `notation::answer::setting` meets its contract, by whether the word is a refusal.
 use mathlib.Core.Path.{_≡_}
 use mathlib.Core.List.{[], _∷_}
-use Prim.Native.Nat.{ℕ, _-_, _≤_, _<_}
+use Prim.Native.Nat.{ℕ, _≤_, _<_}
 use borrow.Author.Tests.{lt-ltb, le-ltb}
-use Rattle.notation.specs.Answers.{capitalA, capitalR, lineFeed, numberedWords, settingWords}
+use Rattle.notation.specs.Answers.{capitalA, lineFeed, refusedIn, settingWords}
 use Rattle.notation.proofs.Ink.{like, one}
 use borrow.Author.Needs.{needs}
 use Rattle.notation.proofs.answer.setting.Statement.{statement}
 use Rattle.notation.proofs.answer.setting.Tie as tie
 
-accepted : (w : ℕ) → w < 65536 → (capitalA ∷ lineFeed ∷ []) ∷ [] ≡ settingWords w
+accepted : (w : ℕ) → w < 65536 → ((capitalA ∷ lineFeed ∷ []) ∷ []) ≡ settingWords w
 unfolding settingWords
 accepted w h = rw (lt-ltb w 65536 h)
 
-refused : (w : ℕ) → 65536 ≤ w → numberedWords (capitalR ∷ []) (w - 65536) ≡ settingWords w
+refused : (w : ℕ) → 65536 ≤ w → refusedIn w ≡ settingWords w
 unfolding settingWords
 refused w h = rw (le-ltb w 65536 h)
 
@@ -29,21 +29,18 @@ same-length c = search needs
 returns : tie.Need-returns
 returns c =
     let a = c .before .before .before .before .before .before .before .args in
-    like (a .out .now) (a .pen) (accepted (a .word) (c .before .before .before .before .before .if1 .taken)) (one _ _ _ (c .before .before .put .ensures))
+    like (a .out .now) (a .pen) (accepted (a .word) (c .before .before .before .before .before .if1 .taken)) (one (a .out .now) (a .pen) (capitalA ∷ lineFeed ∷ []) (c .before .before .put .ensures))
 
-slice-aggregate-numbered : tie.Need-slice-aggregate-numbered
-slice-aggregate-numbered c = search needs
-
-numbered-requires : tie.Need-numbered-requires
-numbered-requires c κs = search needs
+refused-word-requires : tie.Need-refused-word-requires
+refused-word-requires c κs = search needs
 
 same-length-2 : tie.Need-same-length-2
 same-length-2 c = search needs
 
 returns-2 : tie.Need-returns-2
 returns-2 c =
-    let a = c .before .before .before .before .before .before .before .args in
-    like (a .out .now) (a .pen) (refused (a .word) (c .before .before .before .before .before .if1 .left)) (c .before .before .numbered .ensures)
+    let a = c .before .before .before .before .before .before .args in
+    like (a .out .now) (a .pen) (refused (a .word) (c .before .before .before .before .if1 .left)) (c .before .before .refused-word .ensures)
 
 pub setting-spec : {M : Type 1} → statement M
 setting-spec =
@@ -53,7 +50,6 @@ setting-spec =
     put-requires
     same-length
     returns
-    slice-aggregate-numbered
-    numbered-requires
+    refused-word-requires
     same-length-2
     returns-2)

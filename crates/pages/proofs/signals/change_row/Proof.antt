@@ -1,11 +1,13 @@
 -- `pages::signals::change_row` meets its contract: at a fine row `fits` and `bits` answer for the row's signal.
 use mathlib.Core.Path.{_≡_, sym, ap, _∙_}
 use mathlib.Core.Bool.{true}
+use Prim.Native.Nat.{ℕ}
 use mir.Facts.{toZ-ofZ}
 use borrow.Author.Tests.{not-true, not-false}
 use borrow.Author.Needs.{needs}
 use Rattle.signal.specs.Raw.{fitsIn, bitsIn}
-use Rattle.pages.specs.declared.Judged.the-variants.{Frame}
+use Rattle.pages.specs.declared.Judged.the-variants.{Frame, Refused}
+use Rattle.pages.specs.declared.Refusal.the-variants.{NoLabel}
 use Rattle.pages.specs.Table.{takes}
 use Rattle.pages.specs.Raws.{rowTakes, putRaw}
 use Rattle.pages.proofs.AtRow.{fits-row, bits-row}
@@ -41,10 +43,14 @@ bits-requires c κs = search needs
 label-holds-requires : tie.Need-label-holds-requires
 label-holds-requires c κs = search needs
 
+start-bit-requires : tie.Need-start-bit-requires
+start-bit-requires c κs = c .before .before .before .before .before .pre
+
 returns-2 : tie.Need-returns-2
 returns-2 c =
-    let t = c .before in
-    rw (fitting (t .before .before), labelled t, not-true (t .label-holds .result) (c .if2 .taken))
+    let b = c .before in
+    let t = b .before in
+    rw (fitting (t .before .before), labelled t, not-true (t .label-holds .result) (b .if2 .taken)) (ap (λ (s : ℕ). Refused (NoLabel s)) (c .start-bit .ensures))
 
 held : (c : tie.Else2) → (let a = c .before .before .before .before .before .args in rowTakes (a .r) (a .z) ≡ true)
 held c =
@@ -73,6 +79,7 @@ change-row-spec =
     returns
     bits-requires
     label-holds-requires
+    start-bit-requires
     returns-2
     put-raw-requires
     returns-3)

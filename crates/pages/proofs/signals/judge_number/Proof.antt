@@ -13,17 +13,17 @@ use Rattle.pages.proofs.signals.judge_number.Tie as tie
 sifted-requires : tie.Need-sifted-requires
 sifted-requires c κs = search needs
 
+enum-known-o : tie.Need-enum-known-o
+enum-known-o c = search needs
+
 enum-told : tie.Need-enum-told
 enum-told c = search needs
 
-enum-told-2 : tie.Need-enum-told-2
-enum-told-2 c = search needs
-
 returns : tie.Need-returns
 returns c =
-    let s = c .before .before in
+    let s = c .before .before .before in
     let a = s .before .args in
-    sym (ap (λ (o : Offence). judgedBy (a .kind) (a .n) o (s .sifted .result .rest)) (c .enum-told2 .given .1)) ∙ s .sifted .ensures
+    sym (ap (λ (o : Offence). judgedBy (a .kind) (a .n) o (s .sifted .result .rest)) (c .before .o .given .1)) ∙ s .sifted .ensures
 
 -- what `sifted` found, where no signal offends
 left : (c : tie.After-enum-told) → (
@@ -51,4 +51,4 @@ returns-3 c =
 
 pub judge-number-spec : {M : Type 1} → statement M
 judge-number-spec =
-    tie.close (tie.spec sifted-requires enum-told enum-told-2 returns returns-2 returns-3)
+    tie.close (tie.spec sifted-requires enum-known-o returns enum-told returns-2 returns-3)

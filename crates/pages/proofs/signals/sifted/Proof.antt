@@ -39,6 +39,9 @@ signal-bits-requires c κs = c .before .before .row-at .ensures .1
 label-holds-requires : tie.Need-label-holds-requires Inv-rows μ-rows
 label-holds-requires c κs = search needs
 
+start-bit-requires : tie.Need-start-bit-requires Inv-rows μ-rows
+start-bit-requires c κs = c .before .before .before .before .before .row-at .ensures .1
+
 lowest-bit-requires : tie.Need-lowest-bit-requires Inv-rows μ-rows
 lowest-bit-requires c κs = search needs
 
@@ -103,16 +106,18 @@ returns-2 c =
 returns-3 : tie.Need-returns-3 Inv-rows μ-rows
 unfolding offenceOf
 returns-3 c =
-    let t = c .before in
+    let b = c .before in
+    let t = b .before in
     let q = t .before .before in
     let k = q .before .before in
     let a = k .before .before in
     let g = a .before .args in
-    let b = block (g .kind) (drop (g .at) rows) in
+    let l = block (g .kind) (drop (g .at) rows) in
     let e = block-in (g .kind) (a .rows .i) (k .row-at .result) (omega arith) (k .row-at .ensures .0) (q .if2 .left) in
-    let first : Start (k .row-at .result .start) ≡ offenceOf (g .n) b =
-    sym (ap (offenceOf (g .n)) e ∙ rw (held t, not-true (t .label-holds .result) (c .if3 .taken))) ∙ a .rows .inv .0 in
-    ap (λ (o : Offence). judgedBy (g .kind) (g .n) o (cleared b (g .n))) first
+    let first : Start (k .row-at .result .start) ≡ offenceOf (g .n) l =
+    sym (ap (offenceOf (g .n)) e ∙ rw (held t, not-true (t .label-holds .result) (b .if3 .taken))) ∙ a .rows .inv .0 in
+    ap (λ (s : ℕ). judgedBy (g .kind) (g .n) (Start s) (cleared l (g .n))) (c .start-bit .ensures)
+    ∙ ap (λ (o : Offence). judgedBy (g .kind) (g .n) o (cleared l (g .n))) first
 
 pub sifted-spec : {M : Type 1} → statement M
 sifted-spec =
@@ -124,6 +129,7 @@ sifted-spec =
     row-at-requires
     signal-bits-requires
     label-holds-requires
+    start-bit-requires
     lowest-bit-requires
     put-requires
     add-i
