@@ -20,3 +20,4 @@ pub mod Posts
 pub mod Same
 pub mod Thin
 pub mod Ways
+pub mod WordLaws

@@ -1,5 +1,6 @@
 // The lent table: entries that change the gateway's table in place, and the C interface. Each leaves exactly what the by-value operation of
-// `watch` gives; no entry requires anything. An answer is one word: the findings, or 65,536 plus the refusal's number.
+// `watch` gives; no entry requires anything. An answer is one word: the findings, or 65,536 plus the refusal's number
+// plus 256 times the start bit that 5 carries.
 ghost use mathlib.Core.Path.{_≡_};
 ghost use Prim.Native.Nat.{_<_, _≤_};
 ghost use Rattle.gateway.specs.Words.{refusalWord, answerWord, settingWord};
@@ -32,7 +33,7 @@ pub struct Stepped {
 pub fn refusal_word(w: Refusal) -> u32
     ensures { λ r. ⌜ r ≡ refusalWord w ⌝ }
 {
-    65536 + pages::refusal_number(w)
+    65536 + pages::refusal_number(w) + 256 * pages::refusal_start(w)
 }
 
 pub fn answer_word(a: Answer) -> u32
