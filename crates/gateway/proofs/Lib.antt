@@ -22,3 +22,4 @@ pub mod Posts
 pub mod Same
 pub mod Thin
 pub mod Ways
+pub mod WordLaws

@@ -1,6 +1,6 @@
 // The lent table: entries that change the gateway's table in place, and the C interface. Each leaves exactly what the by-value operation of
-// `watch` gives; no entry requires anything. An answer is one word: the findings, or 65,536 plus the refusal's number. The C interface has the
-// night log too, over the crate `log`; those entries take no table.
+// `watch` gives; no entry requires anything. An answer is one word: the findings, or 65,536 plus the refusal's number plus 256 times the start
+// bit that 5 carries. The C interface has the night log too, over the crate `log`; those entries take no table.
 ghost use mathlib.Core.Path.{_≡_};
 ghost use mathlib.Core.Bool.{cond, _&&_};
 ghost use Prim.Native.Nat.{_<_, _≤_};
@@ -39,7 +39,7 @@ pub struct Stepped {
 pub fn refusal_word(w: Refusal) -> u32
     ensures { λ r. ⌜ r ≡ refusalWord w ⌝ }
 {
-    65536 + pages::refusal_number(w)
+    65536 + pages::refusal_number(w) + 256 * pages::refusal_start(w)
 }
 
 pub fn answer_word(a: Answer) -> u32

@@ -1,4 +1,4 @@
-// The readings of paper 01, and frames on both sides of each edge, run through the library. What is printed is held to the file stdout beside src/.
+// The readings of paper 01, those of 02's requests, and frames on both sides of each edge, run through the library. What is printed is held to the file stdout beside src/.
 mod posts; // posts.rt: the watch
 mod show; // show.rt: numbers, bytes and answers as text
 mod steps; // steps.rt: steps on a table, with their answers
@@ -16,7 +16,7 @@ fn frames() {
     let e1 = [0xa0u8, 0x0f, 0x83, 0xff, 0x41, 0x00, 0x01, 0x64];
     text(b"E1 400.0 V, -12.5 A, 25 C, -40 C, Allowed, 200 kOhm\n");
     read(0x63000, true, &e1);
-    text(b"E2 its first 7 bytes; and 9 bytes\n");
+    text(b"E2 its first 7 bytes; and 9 bytes, 15 by Req 02\n");
     read(0x63000, true, &e1[0..7]);
     read(
         0x63000,
@@ -45,6 +45,19 @@ fn frames() {
     read(0x6b001, true, &[7u8, 5]);
     text(b"E16 an empty payload\n");
     read(0x6b001, true, &e1[0..0]);
+}
+
+// 02, Req 02: the lowest start of the signals that offend, and 15 in 4's place.
+fn offences() {
+    text(b"Req 02 protocol 8 and plug 5; plug 5 alone; one byte too few; one too many\n");
+    read(0x6b001, true, &[8u8, 5]);
+    read(0x6b001, true, &[2u8, 5]);
+    read(0x6b001, true, &[8u8]);
+    read(0x6b001, true, &[8u8, 5, 0]);
+    text(b"the plug to 5 and to 4\n");
+    let mut session = [2u8, 1];
+    change(0x6b001, true, &mut session, 8, 5);
+    change(0x6b001, true, &mut session, 8, 4);
 }
 
 // The label sets with gaps, and signed numbers at both ends.
@@ -114,7 +127,7 @@ fn changes() {
     change(0x63000, true, &mut e1, 32, 256);
     change(0x63000, true, &mut e1, 48, 2);
     change(0x63000, true, &mut e1, 48, 0);
-    text(b"the frame's own refusal first: 4 before 13, 5 before 13; raws at both ends\n");
+    text(b"the frame's own refusal first: 15 before 13, 5 before 13; raws at both ends\n");
     let mut odd = [0u8, 0, 0];
     change(0x6b001, true, &mut odd, 99, 0);
     let mut bad = [9u8, 9];
@@ -127,6 +140,7 @@ fn changes() {
 
 fn main() {
     frames();
+    offences();
     edges();
     writings();
     changes();

@@ -37,8 +37,13 @@ pub fn bytes(s: &[u8]) {
 }
 
 pub fn refusal(w: Refusal) {
+    let n = pages::refusal_number(w);
     text(b"R");
-    natural(pages::refusal_number(w) as u64);
+    natural(n as u64);
+    if n == 5 {
+        text(b":");
+        natural(pages::refusal_start(w) as u64);
+    }
 }
 
 fn spaced(z: i64) {
