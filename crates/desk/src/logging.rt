@@ -1,4 +1,5 @@
 // The steps of the night log: logw, logr.
+ghost use Prim.Native.Nat.{_≤_};
 use crate::paper;
 use log::Entry;
 use log::Found;
@@ -98,6 +99,12 @@ fn front(bytes: &[u8], n: usize) -> [u8; ENOUGH] {
     body
 }
 
+fn at_most_enough(n: usize) -> usize
+    ensures { λ r. ⌜ r ≤ 9 ⌝ }
+{
+    if n < ENOUGH { n } else { ENOUGH }
+}
+
 fn frame(s: &[u8], at: usize, room: &mut [u8], out: &mut [u8], pen: Pen) -> Pen {
     let Asked::Frame {
         time,
@@ -123,7 +130,7 @@ fn frame(s: &[u8], at: usize, room: &mut [u8], out: &mut [u8], pen: Pen) -> Pen 
     if size > room.len() {
         return answer::unknown(out, pen);
     }
-    let k = if n < ENOUGH { n } else { ENOUGH };
+    let k = at_most_enough(n);
     let w = log::write_frame(time, channel, id, extended, &body[0..k], &mut room[0..size]);
     put_logged(out, pen, w, &room[0..size])
 }
