@@ -1,5 +1,5 @@
 -- 02, Req 02. Refusal 5 is given where "a label signal holds a number without a label" and carries "the start bit of the first offending signal,
--- lowest start first" (`first-offence`, `offence-given`): a message's rows stand in order by start, so that the loop's first offence is the lowest.
+-- lowest start first" (`first-offence`, `lowest-given`): a message's rows stand in order by start, so that the loop's first offence is the lowest.
 -- Before it 4 "when too short, 15 when too long" (`too-short`, `too-long`).
 -- Assumes nothing.
 use mathlib.Core.Path.{_≡_, refl, sym, ap, _∙_}
@@ -168,6 +168,17 @@ module _ (m place : ℕ) (bs : List ℕ) (found : firstAt (hasId m) 0 rows ≡ A
   unfolding judgeOf judgedNumber
   offence-given l q a h =
       rw (found, eq-eqb (length bs) (getD rows place noRow .bytes) l, unlabelled-by (numberOf bs) q (rowsOf (getD rows place noRow .kind)) a h)
+
+  -- with that signal's own start where none that offends starts lower
+  pub lowest-given : length bs ≡ getD rows place noRow .bytes → (q : Row) → Among q (rowsOf (getD rows place noRow .kind)) → offends (numberOf bs) q ≡ true
+      → ((r : Row) → Among r (rowsOf (getD rows place noRow .kind)) → offends (numberOf bs) r ≡ true → q .start ≤ r .start)
+      → judgeOf m true bs ≡ Refused (NoLabel (q .start))
+  lowest-given l q a h f =
+      let k = getD rows place noRow .kind in
+      let n = numberOf bs in
+      let o = offender-is (8 * lengthOf k) 0 n (rowsOf k) (ordered k) (unlabelled-by n q (rowsOf k) a h) in
+      let e : offender n (rowsOf k) ≡ q .start = omega (arith, offender-least n q (rowsOf k) a h, f (o .0) (o .1) (o .3), o .2) in
+      offence-given l q a h ∙ ap (λ (s : ℕ). Refused (NoLabel s)) e
 
   -- "4 when too short, 15 when too long"
   pub too-short : length bs < getD rows place noRow .bytes → judgeOf m true bs ≡ Refused TooShort
