@@ -78,7 +78,7 @@ static void bench_watch(uint32_t posts) {
     double ours, plain;
     char what[40];
     rokemaipu_start(&a), rokemaipu_start(&b);
-    for (uint32_t i = 0; i < posts; i++) rokemaipu_set_up(&a, i, i, 5000, 1000, 500, 500), rokemaipu_set_up(&b, i, i, 5000, 1000, 500, 500);
+    for (uint32_t i = 0; i < posts; i++) rokemaipu_set_up(&a, i, i, 5000, 1000, 500, 500, 0), rokemaipu_set_up(&b, i, i, 5000, 1000, 500, 500, 0);
     for (uint32_t turn = 0; turn < 1000; turn++)
         for (uint32_t i = 0; i < MIX; i++)
             if (rokemaipu_frame(&a, turn % posts, turn, mix[i].id, true, mix[i].bytes, mix[i].n) != peer_frame(&b, turn % posts, turn, mix[i].id, true, mix[i].bytes, mix[i].n)) differ("frame");

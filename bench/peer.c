@@ -129,6 +129,8 @@ static uint32_t limit(const rokemaipu_post *p, uint32_t most, int shift) {
     return got && got < most ? got : most;
 }
 
+static bool poor(uint32_t sensor, uint64_t r) { return sensor == ROKEMAIPU_YES_NO ? !(r >> 56) : (r >> 56) * 200 < (r & 0xffff); }
+
 static bool powered(uint64_t f) { return f == 2 || f == 4 || f == 8; }
 
 static uint32_t found(const rokemaipu_post *p, uint32_t kind, uint64_t r) {
@@ -138,7 +140,7 @@ static uint32_t found(const rokemaipu_post *p, uint32_t kind, uint64_t r) {
         int64_t amps = s16(r >> 16);
         if (s->opened && (amps > (int64_t)limit(p, p->limits.charge, 16) || amps < -(int64_t)limit(p, p->limits.discharge, 32))) f |= 128;
         uint64_t g = s->control.raw >> 48 & 15;
-        if (s->opened && s->control.known && (g == 4 || g == 8) && (r >> 56) * 200 < (r & 0xffff)) f |= 256;
+        if (s->opened && s->control.known && (g == 4 || g == 8) && poor(p->limits.sensor, r)) f |= 256;
     } else if (kind == 3) {
         if (s->opened && s->first != r) f |= 512;
     } else if (kind == 5) {

@@ -66,6 +66,12 @@ enum rokemaipu_kind {
     ROKEMAIPU_EV_ID = 8                    /* 0x6b105 */
 };
 
+/* Kinds of insulation sensors. In a table of your own making every other number counts as measuring. */
+enum rokemaipu_sensor {
+    ROKEMAIPU_MEASURING = 0, /* finding 9 is under 100 Ohm per volt */
+    ROKEMAIPU_YES_NO = 1     /* 255 is Valid, 0 Invalid: finding 9 is 0 and nothing else, at any voltage */
+};
+
 /* A post's numbers, in the order in which they are looked up. */
 enum rokemaipu_number {
     ROKEMAIPU_CHANNEL = 0,
@@ -73,13 +79,14 @@ enum rokemaipu_number {
     ROKEMAIPU_CHARGE = 2,
     ROKEMAIPU_DISCHARGE = 3,
     ROKEMAIPU_SILENCE = 4,
-    ROKEMAIPU_HEARD = 5,     /* 1 where a frame or tick was accepted since set-up, else 0 */
-    ROKEMAIPU_TIME = 6,      /* the latest accepted one's time, 0 where none was */
-    ROKEMAIPU_OPENED = 7,    /* 1 where a session is open, else 0, and 0 in the three that follow */
-    ROKEMAIPU_SINCE = 8,
-    ROKEMAIPU_PROTOCOL = 9,  /* the first protocol's number and the first plug's, as the page of New_Charge_Session has them */
-    ROKEMAIPU_PLUG = 10,
-    ROKEMAIPU_NUMBERS = 11   /* how many they are */
+    ROKEMAIPU_SENSOR = 5,
+    ROKEMAIPU_HEARD = 6,     /* 1 where a frame or tick was accepted since set-up, else 0 */
+    ROKEMAIPU_TIME = 7,      /* the latest accepted one's time, 0 where none was */
+    ROKEMAIPU_OPENED = 8,    /* 1 where a session is open, else 0, and 0 in the three that follow */
+    ROKEMAIPU_SINCE = 9,
+    ROKEMAIPU_PROTOCOL = 10, /* the first protocol's number and the first plug's, as the page of New_Charge_Session has them */
+    ROKEMAIPU_PLUG = 11,
+    ROKEMAIPU_NUMBERS = 12   /* how many they are */
 };
 
 /* What stands at a byte of a log. */
@@ -121,6 +128,7 @@ typedef struct rokemaipu_limits {
     uint32_t charge;    /* default, tenths of an ampere, 1 to 32,767 */
     uint32_t discharge; /* default, tenths of an ampere, 0 to 32,767 */
     uint32_t silence;   /* W, ms without Power_Modules_Status, 100 to 60,000 */
+    uint32_t sensor;    /* of rokemaipu_sensor */
 } rokemaipu_limits;
 
 typedef struct rokemaipu_session { /* 48 bytes, all 0 where no session is open */
@@ -131,7 +139,7 @@ typedef struct rokemaipu_session { /* 48 bytes, all 0 where no session is open *
     rokemaipu_slot control; /* the latest DC_Power_Control accepted in it */
 } rokemaipu_session;
 
-typedef struct rokemaipu_post { /* 224 bytes */
+typedef struct rokemaipu_post { /* 232 bytes */
     bool used; /* set up */
     uint32_t channel;
     rokemaipu_limits limits;
@@ -141,7 +149,7 @@ typedef struct rokemaipu_post { /* 224 bytes */
     rokemaipu_session session;
 } rokemaipu_post;
 
-typedef struct rokemaipu_table { /* 1,792 bytes; zeroed memory is the empty table */
+typedef struct rokemaipu_table { /* 1,856 bytes; zeroed memory is the empty table */
     rokemaipu_post posts[ROKEMAIPU_POSTS];
 } rokemaipu_table;
 
@@ -150,8 +158,9 @@ typedef struct rokemaipu_table { /* 1,792 bytes; zeroed memory is the empty tabl
 /* Makes the table empty. Answers 0. */
 uint32_t rokemaipu_start(rokemaipu_table *t);
 
-/* Sets a post up on a channel, with an empty history; set up again, it leaves its old channel. Answers 0, or refuses with 9, 10, 11, 12. */
-uint32_t rokemaipu_set_up(rokemaipu_table *t, uint32_t post, uint32_t channel, uint32_t voltage, uint32_t charge, uint32_t discharge, uint32_t silence);
+/* Sets a post up on a channel, with an empty history; set up again, it leaves its old channel. Answers 0, or refuses with 9, 10, 11, 12; 12 also
+ * where sensor is no kind of sensor. */
+uint32_t rokemaipu_set_up(rokemaipu_table *t, uint32_t post, uint32_t channel, uint32_t voltage, uint32_t charge, uint32_t discharge, uint32_t silence, uint32_t sensor);
 
 /* Frees the post's channel and drops its record. Answers 0, or refuses with 9, 14. */
 uint32_t rokemaipu_release(rokemaipu_table *t, uint32_t post);

@@ -10,6 +10,7 @@ TARGET_MODE, RANGE_MODE = 0, 1
 OPEN, CLOSE = 0, 1
 CLEAN_STOP, RUSHED_STOP = 0, 1
 STOP_BY_EVSE = 1
+VALID, INVALID = 255, 0  # of an insulation sensor that only gives a boolean value
 ISO_2013, CHADEMO_2 = 2, 5
 DC_EXTENDED, CHADEMO_PLUG, DC_CORE = 1, 2, 0
 

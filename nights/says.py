@@ -20,19 +20,23 @@ SAYS = {
     "R5": "a label signal holds a number without a label",
     "R9": "post number above 7",
     "R11": "channel held by another post",
+    "R12": "a post limit outside its range",
     "R14": "post not set up",
 }
 
 SAYS_02 = {
     "R4": "4 when too short",
     "R15": "15 when too long",
+    "F9 yes/no": "For a yes/no sensor F9's insulation test is raw 0 and nothing else",
 }
 
 
-def told(mark, what, events=None):
-    """The comment that announces a finding or a refusal, for one step or for a run of events."""
+def told(mark, what, events=None, case=""):
+    """The comment that announces a finding or a refusal, for one step or for a run of events; `case` where 02 has a
+    sentence for one case of that number."""
     run = "" if events is None else f" from here for {events} events"
     number, _, start = mark.partition(":")
-    quoted = f'02: "{SAYS_02[number]}"' if number in SAYS_02 else f'01: "{SAYS[number]}"'
+    sentence = f"{number} {case}" if case else number
+    quoted = f'02: "{SAYS_02[sentence]}"' if sentence in SAYS_02 else f'01: "{SAYS[sentence]}"'
     signal = f", and that signal starts at bit {start}" if start else ""
     return f"# {mark}{run}: {what} {quoted}{signal}."

@@ -31,9 +31,10 @@ class Post:
         self.vehicle = None
         self.remarks = ()
 
-    def set_up(self, volt=5000, charge=2000, discharge=500, silence=500, comments=()):
-        self.night.at(self.time - 50, f"setup {self.number} {self.channel} {volt} {charge} {discharge} {silence}",
-                      *comments)
+    def set_up(self, volt=5000, charge=2000, discharge=500, silence=500, sensor=None, comments=()):
+        """A set-up that says nothing of the sensor means a measuring one."""
+        limits = [volt, charge, discharge, silence] + ([] if sensor is None else [sensor])
+        self.night.at(self.time - 50, f"setup {self.number} {self.channel} {' '.join(map(str, limits))}", *comments)
 
     def frame(self, after, identifier, payload, *comments, form="x"):
         time = self.time + after

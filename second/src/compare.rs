@@ -52,8 +52,10 @@ pub fn compare(plan: &Plan, subject: &mut Subject, out: &mut dyn Write) -> Resul
             say(out, format_args!("seed {seed}: differs{trouble}"))?;
             return Ok(Verdict::Differs(shortest(plan, seed, script, first, subject)?));
         }
+        let mut desk = Desk::new();
         for (step, answer) in script.iter().filter(|line| is_step(line)).zip(&own) {
-            coverage.count(step, answer);
+            coverage.count(&desk.table, step, answer);
+            desk::answer(&mut desk, step);
         }
         say(out, format_args!("seed {seed}: {} steps agree", own.len()))?;
     }
@@ -206,6 +208,7 @@ mod tests {
                     let few = match name.split_once('-') {
                         Some(("log", _)) => lines == 1 && bytes <= 40,
                         Some(("label", _)) => lines <= 2 && bytes <= 50,
+                        Some(("sensor", _)) => lines <= 4,
                         _ => lines <= 6,
                     };
                     assert!(few, "{name}: {lines} lines, {bytes} bytes");

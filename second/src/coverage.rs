@@ -3,6 +3,9 @@
 use std::collections::{BTreeMap, BTreeSet};
 use std::fmt;
 
+use crate::posts::Table;
+use crate::sensor_coverage;
+
 const WORDS: [&[u8]; 11] =
     [b"setup", b"release", b"frame", b"tick", b"record", b"read", b"change", b"write", b"explain", b"logr", b"logw"];
 
@@ -26,6 +29,7 @@ pub struct Coverage {
     /// The start bits that refusal 5 carried, by the step's word.
     starts: BTreeMap<&'static str, BTreeSet<u32>>,
     logs: BTreeMap<String, u64>,
+    sensors: BTreeMap<&'static str, u64>,
     findings: [u64; 11],
     clean: u64,
     accepted: u64,
@@ -34,10 +38,14 @@ pub struct Coverage {
 }
 
 impl Coverage {
-    pub fn count(&mut self, step: &[u8], answer: &[u8]) {
+    /// `table` is as it was before the step.
+    pub fn count(&mut self, table: &Table, step: &[u8], answer: &[u8]) {
         let word = WORDS.iter().find(|word| step.strip_prefix(**word).is_some_and(|rest| rest.starts_with(b" ")));
         let word = word.map_or("(other)", |word| std::str::from_utf8(word).expect("an ASCII word"));
         *self.steps.entry(word).or_default() += 1;
+        if let Some(shown) = sensor_coverage::shown(table, step, answer) {
+            *self.sensors.entry(shown).or_default() += 1;
+        }
         match answer.split_first() {
             Some((b'?', _)) => self.no_step += 1,
             Some((b'X', _)) => self.no_message += 1,
@@ -75,6 +83,8 @@ impl Coverage {
         missing.extend(
             LOGS.iter().filter(|outcome| !self.logs.contains_key(**outcome)).map(|outcome| outcome.to_string()),
         );
+        let sensors = sensor_coverage::WANTED.iter().filter(|shown| !self.sensors.contains_key(*shown));
+        missing.extend(sensors.map(|shown| shown.to_string()));
         missing.extend((self.no_step == 0).then(|| "?".to_string()));
         missing.extend((self.no_message == 0).then(|| "X".to_string()));
         missing
@@ -103,6 +113,10 @@ impl fmt::Display for Coverage {
         for (outcome, count) in &self.logs {
             write!(out, " {outcome} {count}")?;
         }
+        write!(out, "\nsensors: ")?;
+        for (shown, count) in &self.sensors {
+            write!(out, " {shown} {count},")?;
+        }
         write!(out, "\nother:    accepted {} ? {} X {}", self.accepted, self.no_step, self.no_message)
     }
 }
@@ -126,14 +140,14 @@ mod tests {
 
     #[test]
     fn refusal_5_is_wanted_of_each_word_and_with_three_starts() {
-        let mut coverage = Coverage::default();
+        let (mut coverage, table) = (Coverage::default(), Table::new());
         let misses = |coverage: &Coverage, what: &str| coverage.missing().iter().any(|missing| missing == what);
-        coverage.count(b"frame 4 0 6b000 x 0e", b"R5:0");
-        coverage.count(b"read 6b001 x 0205", b"R5:8");
+        coverage.count(&table, b"frame 4 0 6b000 x 0e", b"R5:0");
+        coverage.count(&table, b"read 6b001 x 0205", b"R5:8");
         assert!(!misses(&coverage, "frame R5") && !misses(&coverage, "read R5") && misses(&coverage, "change R5"));
-        coverage.count(b"change 6b001 x 0201 8 5", b"R5:8 0201");
+        coverage.count(&table, b"change 6b001 x 0201 8 5", b"R5:8 0201");
         assert!(!misses(&coverage, "change R5") && misses(&coverage, "R5 with 3 starts"));
-        coverage.count(b"change 63000 x a00f83ff41000164 48 2", b"R5:48 a00f83ff41000164");
+        coverage.count(&table, b"change 63000 x a00f83ff41000164 48 2", b"R5:48 a00f83ff41000164");
         assert!(!misses(&coverage, "R5 with 3 starts"));
     }
 }

@@ -10,7 +10,7 @@ use crate::log_line;
 use crate::pages;
 use crate::posts::{Arrival, Frame, Table};
 use crate::record;
-use crate::rules::Limits;
+use crate::rules::{Limits, MEASURING};
 
 /// A longer line is no step.
 pub const LONGEST: usize = 65_535;
@@ -77,14 +77,8 @@ fn step(desk: &mut Desk, line: &[u8]) -> Option<String> {
 
 fn table_step(table: &mut Table, fields: &[&[u8]]) -> Option<String> {
     match *fields {
-        [b"setup", post, channel, volt, charge, discharge, silence] => {
-            let (post, channel) = (natural(post)?, natural(channel)?);
-            let limits = Limits {
-                volt: natural(volt)?,
-                charge: natural(charge)?,
-                discharge: natural(discharge)?,
-                silence: natural(silence)?,
-            };
+        [b"setup", ref numbers @ ..] => {
+            let (post, channel, limits) = set_up(numbers)?;
             Some(said(table.set_up(post, channel, limits), |()| "A".to_string()))
         }
         [b"release", post] => Some(said(table.release(natural(post)?), |()| "A".to_string())),
@@ -99,6 +93,18 @@ fn table_step(table: &mut Table, fields: &[&[u8]]) -> Option<String> {
         [b"record", post] => Some(said(table.post(natural(post)?), record::line)),
         _ => None,
     }
+}
+
+/// The fields of a set-up; the sensor may be missing and is then a measuring one.
+pub fn set_up(fields: &[&[u8]]) -> Option<(u32, u32, Limits)> {
+    let mut numbers = fields.iter().map(|field| natural(field)).collect::<Option<Vec<u32>>>()?;
+    if numbers.len() == 6 {
+        numbers.push(MEASURING);
+    }
+    let [post, channel, volt, charge, discharge, silence, sensor] = numbers[..] else {
+        return None;
+    };
+    Some((post, channel, Limits { volt, charge, discharge, silence, sensor }))
 }
 
 /// Steps that need no post.

@@ -9,7 +9,7 @@ const FINDINGS: [&str; 11] = [
     "lowering with a function other than standby or a setpoint not 0",
     "target voltage above the voltage limit",
     "current above the charge limit or below minus the discharge limit",
-    "insulation under 100 Ohm per volt in precharge or power transfer",
+    "insulation under 100 Ohm per volt, or Invalid by a yes/no sensor, in precharge or power transfer",
     "another protocol or plug than the session's first",
     "session finished with none open",
 ];

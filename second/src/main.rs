@@ -26,6 +26,10 @@ mod record;
 mod rng;
 mod rules;
 mod script;
+mod sensor_coverage;
+#[cfg(test)]
+mod sensor_readings;
+mod sensor_slips;
 mod show;
 mod shrink;
 mod slips;

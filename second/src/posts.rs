@@ -2,7 +2,7 @@
 
 use crate::codec::{self, Reader, Refusal};
 use crate::history::{latest_time, Event};
-use crate::rules::{findings, Limits, Rule, RULES};
+use crate::rules::{findings, Limits, Rule, MEASURING, RULES, YES_NO};
 
 pub const POSTS: usize = 8;
 pub const CHANNELS: u32 = 32;
@@ -31,16 +31,27 @@ pub struct Frame<'a> {
 /// The latest time that an arrival for the post at that place may not be earlier than.
 pub type Clock = fn(&[Option<Post>], usize) -> Option<u32>;
 
+/// The limits that a set-up puts in force on the post that stands there, if one does; none where one is outside its
+/// range.
+pub type Admission = fn(Option<&Post>, Limits) -> Option<Limits>;
+
 pub struct Table {
     posts: [Option<Post>; POSTS],
     pub rules: [Rule; RULES.len()],
     pub clock: Clock,
     pub reader: Reader,
+    pub admission: Admission,
 }
 
 impl Table {
     pub fn new() -> Table {
-        Table { posts: std::array::from_fn(|_| None), rules: RULES, clock: own_clock, reader: codec::read }
+        Table {
+            posts: std::array::from_fn(|_| None),
+            rules: RULES,
+            clock: own_clock,
+            reader: codec::read,
+            admission: in_range,
+        }
     }
 
     /// Gives 9 to 12, the lowest that applies.
@@ -52,9 +63,7 @@ impl Table {
         if self.holder(channel).is_some_and(|holder| holder != place) {
             return Err(Refusal::Number(11));
         }
-        if !in_range(&limits) {
-            return Err(Refusal::Number(12));
-        }
+        let limits = (self.admission)(self.posts[place].as_ref(), limits).ok_or(Refusal::Number(12))?;
         self.posts[place] = Some(Post { channel, limits, history: Vec::new() });
         Ok(())
     }
@@ -85,6 +94,11 @@ impl Table {
         Ok(found)
     }
 
+    /// The post that holds a channel.
+    pub fn on(&self, channel: u32) -> Option<&Post> {
+        self.posts[self.holder(channel)?].as_ref()
+    }
+
     /// A channel above 31 has no holder, since no set-up takes one.
     fn holder(&self, channel: u32) -> Option<usize> {
         self.posts.iter().position(|post| post.as_ref().is_some_and(|post| post.channel == channel))
@@ -100,11 +114,14 @@ fn place(post: u32) -> Result<usize, Refusal> {
     }
 }
 
-fn in_range(limits: &Limits) -> bool {
-    (1..=65_535).contains(&limits.volt)
+/// What stood before does not count.
+pub fn in_range(_: Option<&Post>, limits: Limits) -> Option<Limits> {
+    let good = (1..=65_535).contains(&limits.volt)
         && (1..=32_767).contains(&limits.charge)
         && limits.discharge <= 32_767
         && (100..=60_000).contains(&limits.silence)
+        && matches!(limits.sensor, MEASURING | YES_NO);
+    good.then_some(limits)
 }
 
 /// 01: "earlier than that post's latest accepted frame or tick"; the other posts' clocks say nothing.

@@ -16,6 +16,7 @@ pub fn line(post: &Post) -> String {
         format!("chg={}", limits.charge),
         format!("dis={}", limits.discharge),
         format!("w={}", limits.silence),
+        format!("sensor={}", limits.sensor),
         format!("last={}", or_none(latest_time(past).map(|time| time.to_string()))),
         format!("open={}", u8::from(session.is_some())),
         format!("since={}", or_none(session.map(|session| session[0].time.to_string()))),

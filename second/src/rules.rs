@@ -4,14 +4,19 @@ use crate::codec::Message;
 use crate::history::{latest, latest_message, session, Event};
 use crate::pages::{Kind, Unit};
 
-/// A post's defaults: tenths of a volt, tenths of an ampere, milliseconds.
+/// A post's defaults: tenths of a volt, tenths of an ampere, milliseconds; and its insulation sensor's kind.
 #[derive(Clone, Copy, Debug)]
 pub struct Limits {
     pub volt: u32,
     pub charge: u32,
     pub discharge: u32,
     pub silence: u32,
+    pub sensor: u32,
 }
+
+/// The kinds of a sensor: one that measures, and one that only knows yes and no.
+pub const MEASURING: u32 = 0;
+pub const YES_NO: u32 = 1;
 
 pub type Rule = fn(&Limits, &[Event], &Event) -> bool;
 
@@ -76,11 +81,8 @@ fn f8(limits: &Limits, past: &[Event], event: &Event) -> bool {
     })
 }
 
-fn f9(_: &Limits, past: &[Event], event: &Event) -> bool {
-    event.of(Kind::PowerModulesStatus).is_some_and(|status| {
-        let control = session(past).and_then(|session| latest_message(session, Kind::DcPowerControl));
-        control.is_some_and(live) && poor_insulation(status)
-    })
+fn f9(limits: &Limits, past: &[Event], event: &Event) -> bool {
+    under_power(past, event).is_some_and(|status| poor_insulation(limits, status))
 }
 
 fn f10(_: &Limits, past: &[Event], event: &Event) -> bool {
@@ -101,13 +103,32 @@ pub fn powers(event: &Event) -> bool {
     })
 }
 
+/// The status that F9 looks at: in a session "whose latest DC_Power_Control is precharge or power transfer".
+pub fn under_power<'a>(past: &[Event], event: &'a Event) -> Option<&'a Message> {
+    let control = latest_message(session(past)?, Kind::DcPowerControl);
+    event.of(Kind::PowerModulesStatus).filter(|_| control.is_some_and(live))
+}
+
 /// F9's "precharge or power transfer".
 pub fn live(control: &Message) -> bool {
     matches!(control.label("Power_Function"), "Precharge" | "Power_Transfer")
 }
 
+/// 02: "For a yes/no sensor F9's insulation test is raw 0 and nothing else; for a measuring one F9 stays".
+pub fn poor_insulation(limits: &Limits, status: &Message) -> bool {
+    match limits.sensor {
+        YES_NO => said_invalid(status),
+        _ => poor_measure(status),
+    }
+}
+
+/// 02: "The maker's page makes 255 Valid and 0 Invalid there".
+pub fn said_invalid(status: &Message) -> bool {
+    status.raw("Insulation_Resistance") == 0
+}
+
 /// F9's "raw insulation times 200 is below raw voltage".
-pub fn poor_insulation(status: &Message) -> bool {
+pub fn poor_measure(status: &Message) -> bool {
     status.raw("Insulation_Resistance") * 200 < status.raw("Present_Voltage")
 }
 

@@ -1,12 +1,14 @@
 //! Wrong readings of 01 and 02, kept to show that a comparison finds them.
 
+use crate::codec::Message;
 use crate::desk::Desk;
 use crate::history::{latest, latest_message, latest_time, session, Event};
 use crate::label_slips;
 use crate::log_slips;
 use crate::pages::Kind;
 use crate::posts::Post;
-use crate::rules::{self, limit, live, poor_insulation, powers, Limits, Rule};
+use crate::rules::{self, limit, live, poor_insulation, powers, under_power, Limits, Rule};
+use crate::sensor_slips;
 
 /// Name, and the rule that stands in for the right one of that number.
 const WRONG_RULES: [(&str, usize, Rule); 17] = [
@@ -33,7 +35,8 @@ const SHARED_CLOCK: &str = "clock";
 
 pub fn names() -> Vec<&'static str> {
     let rules = WRONG_RULES.iter().map(|(name, ..)| *name);
-    rules.chain([SHARED_CLOCK]).chain(log_slips::names()).chain(label_slips::names()).collect()
+    let later = log_slips::names().chain(label_slips::names()).chain(sensor_slips::names());
+    rules.chain([SHARED_CLOCK]).chain(later).collect()
 }
 
 /// An empty desk with the slip of that name, if there is one.
@@ -44,7 +47,8 @@ pub fn desk(name: &str) -> Option<Desk> {
     } else if let Some((_, number, rule)) = WRONG_RULES.iter().find(|(known, ..)| *known == name) {
         desk.table.rules[number - 1] = *rule;
     } else {
-        log_slips::put_into(&mut desk, name).or_else(|| label_slips::put_into(&mut desk, name))?;
+        let put = [log_slips::put_into, label_slips::put_into, sensor_slips::put_into];
+        put.iter().find_map(|put_into| put_into(&mut desk, name))?;
     }
     Some(desk)
 }
@@ -127,18 +131,15 @@ fn f8_at_the_limit_itself(limits: &Limits, past: &[Event], event: &Event) -> boo
     })
 }
 
-fn f9_at_the_limit_itself(_: &Limits, past: &[Event], event: &Event) -> bool {
-    event.of(Kind::PowerModulesStatus).is_some_and(|status| {
-        let control = session(past).and_then(|session| latest_message(session, Kind::DcPowerControl));
-        let equal = status.raw("Insulation_Resistance") * 200 == status.raw("Present_Voltage");
-        control.is_some_and(live) && (poor_insulation(status) || equal)
-    })
+fn f9_at_the_limit_itself(limits: &Limits, past: &[Event], event: &Event) -> bool {
+    let equal = |status: &Message| status.raw("Insulation_Resistance") * 200 == status.raw("Present_Voltage");
+    rules::RULES[8](limits, past, event) || under_power(past, event).is_some_and(equal)
 }
 
-fn f9_control_before_the_opening(_: &Limits, past: &[Event], event: &Event) -> bool {
+fn f9_control_before_the_opening(limits: &Limits, past: &[Event], event: &Event) -> bool {
     event.of(Kind::PowerModulesStatus).is_some_and(|status| {
         let control = latest_message(past, Kind::DcPowerControl);
-        session(past).is_some() && control.is_some_and(live) && poor_insulation(status)
+        session(past).is_some() && control.is_some_and(live) && poor_insulation(limits, status)
     })
 }
 

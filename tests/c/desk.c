@@ -138,7 +138,8 @@ static void record(uint32_t post) {
         answer(refused, false);
         return;
     }
-    printf("K ch=%" PRIu32 " volt=%" PRIu32 " chg=%" PRIu32 " dis=%" PRIu32 " w=%" PRIu32, n[ROKEMAIPU_CHANNEL], n[ROKEMAIPU_VOLTAGE], n[ROKEMAIPU_CHARGE], n[ROKEMAIPU_DISCHARGE], n[ROKEMAIPU_SILENCE]);
+    printf("K ch=%" PRIu32 " volt=%" PRIu32 " chg=%" PRIu32 " dis=%" PRIu32 " w=%" PRIu32 " sensor=%" PRIu32, n[ROKEMAIPU_CHANNEL], n[ROKEMAIPU_VOLTAGE], n[ROKEMAIPU_CHARGE],
+        n[ROKEMAIPU_DISCHARGE], n[ROKEMAIPU_SILENCE], n[ROKEMAIPU_SENSOR]);
     if (n[ROKEMAIPU_HEARD]) printf(" last=%" PRIu32, n[ROKEMAIPU_TIME]);
     else printf(" last=-");
     if (n[ROKEMAIPU_OPENED]) {
@@ -259,12 +260,13 @@ static bool log_read_step(void) {
 }
 
 static bool step(void) {
-    uint32_t a, b, c, d, e, f, id;
+    uint32_t a, b, c, d, e, f, sensor = ROKEMAIPU_MEASURING, id;
     bool extended;
     if (is("frame", 5)) return u32(1, &a) && u32(2, &b) && frame_id(3, &id, &extended) && hex(words[5]) && (answer(rokemaipu_frame(&table, a, b, id, extended, bytes, size), true), true);
     if (is("tick", 2)) return u32(1, &a) && u32(2, &b) && (answer(rokemaipu_tick(&table, a, b), true), true);
-    if (is("setup", 6))
-        return u32(1, &a) && u32(2, &b) && u32(3, &c) && u32(4, &d) && u32(5, &e) && u32(6, &f) && (answer(rokemaipu_set_up(&table, a, b, c, d, e, f), false), true);
+    if (is("setup", 6) || is("setup", 7))
+        return u32(1, &a) && u32(2, &b) && u32(3, &c) && u32(4, &d) && u32(5, &e) && u32(6, &f) && (count == 7 || u32(7, &sensor))
+            && (answer(rokemaipu_set_up(&table, a, b, c, d, e, f, sensor), false), true);
     if (is("release", 1)) return u32(1, &a) && (answer(rokemaipu_release(&table, a), false), true);
     if (is("record", 1)) return u32(1, &a) && (record(a), true);
     if (is("read", 3)) return read_step();

@@ -25,29 +25,31 @@ static bool same_table(const rokemaipu_table *a, const rokemaipu_table *b) {
 
 static void layout(void) {
     IS(sizeof(rokemaipu_slot), 16);
-    IS(sizeof(rokemaipu_limits), 16);
+    IS(sizeof(rokemaipu_limits), 20);
     IS(sizeof(rokemaipu_session), 48);
-    IS(sizeof(rokemaipu_post), 224);
-    IS(sizeof(rokemaipu_table), 1792);
+    IS(sizeof(rokemaipu_post), 232);
+    IS(sizeof(rokemaipu_table), 1856);
     IS(offsetof(rokemaipu_slot, raw), 8);
+    IS(offsetof(rokemaipu_limits, sensor), 16);
     IS(offsetof(rokemaipu_session, status), 16);
     IS(offsetof(rokemaipu_session, control), 32);
     IS(offsetof(rokemaipu_post, channel), 4);
     IS(offsetof(rokemaipu_post, limits), 8);
-    IS(offsetof(rokemaipu_post, heard), 24);
-    IS(offsetof(rokemaipu_post, time), 28);
-    IS(offsetof(rokemaipu_post, latest), 32);
-    IS(offsetof(rokemaipu_post, session), 176);
+    IS(offsetof(rokemaipu_post, heard), 28);
+    IS(offsetof(rokemaipu_post, time), 32);
+    IS(offsetof(rokemaipu_post, latest), 40);
+    IS(offsetof(rokemaipu_post, session), 184);
     rokemaipu_table t, zero;
     memset(&t, 0, sizeof t);
     memset(&zero, 0, sizeof zero);
-    IS(rokemaipu_set_up(&t, 7, 31, 1, 2, 3, 100), 0);
+    IS(rokemaipu_set_up(&t, 7, 31, 1, 2, 3, 100, ROKEMAIPU_YES_NO), 0);
     IS(t.posts[7].used, 1);
     IS(t.posts[7].channel, 31);
     IS(t.posts[7].limits.voltage, 1);
     IS(t.posts[7].limits.charge, 2);
     IS(t.posts[7].limits.discharge, 3);
     IS(t.posts[7].limits.silence, 100);
+    IS(t.posts[7].limits.sensor, 1);
     IS(rokemaipu_frame(&t, 31, 9, 0x6b001, true, (const uint8_t[]){2, 1}, 2), 0);
     IS(rokemaipu_frame(&t, 31, 10, 0x63000, true, (const uint8_t[]){1, 2, 3, 4, 5, 6, 1, 8}, 8), ROKEMAIPU_F(8)); /* 0x0403 tenths of an ampere, above 2 */
     IS(t.posts[7].heard, 1);
@@ -128,7 +130,7 @@ static void refused_frames(void) {
     IS(rokemaipu_read(0x6b001, true, (const uint8_t[]){7, 4}, 2, raws, 8), ROKEMAIPU_NEW_CHARGE_SESSION);
     rokemaipu_table t;
     memset(&t, 0, sizeof t);
-    IS(rokemaipu_set_up(&t, 0, 4, 5000, 1000, 500, 500), 0);
+    IS(rokemaipu_set_up(&t, 0, 4, 5000, 1000, 500, 500, 0), 0);
     REFUSES(rokemaipu_frame(&t, 4, 0, 0x63000, true, e1, 7), 4, 0);
     REFUSES(rokemaipu_frame(&t, 4, 0, 0x63000, true, e3, 8), 5, 48);
     REFUSES(rokemaipu_frame(&t, 4, 0, 0x6b001, true, (const uint8_t[]){8, 5}, 2), 5, 0);
@@ -164,7 +166,7 @@ static void posts(void) {
     rokemaipu_table t;
     memset(&t, 0, sizeof t);
     IS(rokemaipu_frame(&t, 4, 0, 0x63000, true, e1, 8), R(1));
-    IS(rokemaipu_set_up(&t, 0, 4, 5000, 1000, 500, 500), 0);
+    IS(rokemaipu_set_up(&t, 0, 4, 5000, 1000, 500, 500, 0), 0);
     uint8_t s[8] = {0, 0, 0, 0, 65, 65, 1, 255}, d[7] = {0x88, 0x13, 0, 0, 0, 0, 4};
     IS(rokemaipu_frame(&t, 4, 0, 0x6b001, true, (const uint8_t[]){2, 1}, 2), 0); /* E8 */
     IS(rokemaipu_frame(&t, 4, 10, 0x63000, true, s, 8), 0);
@@ -174,26 +176,26 @@ static void posts(void) {
     s[7] = 24;
     IS(rokemaipu_frame(&t, 4, 40, 0x63000, true, s, 8), ROKEMAIPU_F(9));
     IS(rokemaipu_start(&t), 0); /* E9 */
-    IS(rokemaipu_set_up(&t, 0, 4, 5000, 1000, 500, 500), 0);
+    IS(rokemaipu_set_up(&t, 0, 4, 5000, 1000, 500, 500, 0), 0);
     IS(rokemaipu_frame(&t, 4, 1000, 0x6b000, true, (const uint8_t[]){7}, 1), 0);
     IS(rokemaipu_tick(&t, 4, 1200), 0);
     IS(rokemaipu_tick(&t, 4, 1201), ROKEMAIPU_F(2));
-    IS(rokemaipu_set_up(&t, 0, 4, 5000, 1000, 500, 500), 0); /* E10 */
+    IS(rokemaipu_set_up(&t, 0, 4, 5000, 1000, 500, 500, 0), 0); /* E10 */
     s[0] = 0, s[1] = 0, s[7] = 255;
     IS(rokemaipu_frame(&t, 4, 0, 0x6b001, true, (const uint8_t[]){2, 1}, 2), 0);
     IS(rokemaipu_tick(&t, 4, 500), 0);
     IS(rokemaipu_frame(&t, 4, 501, 0x63000, true, s, 8), ROKEMAIPU_F(1));
     IS(rokemaipu_tick(&t, 4, 1001), 0);
     IS(rokemaipu_tick(&t, 4, 1002), ROKEMAIPU_F(1));
-    IS(rokemaipu_set_up(&t, 0, 4, 5000, 1000, 500, 500), 0); /* E11 */
+    IS(rokemaipu_set_up(&t, 0, 4, 5000, 1000, 500, 500, 0), 0); /* E11 */
     d[6] = 0x48;
     IS(rokemaipu_frame(&t, 4, 0, 0x6b003, true, d, 7), ROKEMAIPU_F(3) | ROKEMAIPU_F(4));
-    IS(rokemaipu_set_up(&t, 1, 4, 5000, 1000, 500, 500), R(11)); /* E12 */
-    IS(rokemaipu_set_up(&t, 0, 4, 5000, 1000, 500, 500), 0);
+    IS(rokemaipu_set_up(&t, 1, 4, 5000, 1000, 500, 500, 0), R(11)); /* E12 */
+    IS(rokemaipu_set_up(&t, 0, 4, 5000, 1000, 500, 500, 0), 0);
     IS(t.posts[0].heard, 0);
-    IS(rokemaipu_set_up(&t, 8, 5, 5000, 1000, 500, 500), R(9));
-    IS(rokemaipu_set_up(&t, 1, 32, 5000, 1000, 500, 500), R(10));
-    IS(rokemaipu_set_up(&t, 1, 5, 5000, 1000, 500, 99), R(12));
+    IS(rokemaipu_set_up(&t, 8, 5, 5000, 1000, 500, 500, 0), R(9));
+    IS(rokemaipu_set_up(&t, 1, 32, 5000, 1000, 500, 500, 0), R(10));
+    IS(rokemaipu_set_up(&t, 1, 5, 5000, 1000, 500, 99, 0), R(12));
     uint8_t p[8] = {0xa0, 0x0f, 0, 0, 0, 0, 0, 0}; /* E13 */
     IS(rokemaipu_frame(&t, 4, 0, 0x63001, true, p, 8), 0);
     d[0] = 0xa0, d[1] = 0x0f, d[6] = 1;
@@ -208,6 +210,39 @@ static void posts(void) {
     IS(rokemaipu_release(&t, 8), R(9));
     IS(rokemaipu_tick(&t, 4, 101), R(1));
     puts("posts: E8 to E14");
+}
+
+/* ---- 02: "For a yes/no sensor F9's insulation test is raw 0 and nothing else; for a measuring one F9 stays" */
+
+static void sensors(void) {
+    static const struct { uint32_t sensor, voltage, insulation, found; } rows[] = {
+        {ROKEMAIPU_YES_NO, 0, 0, ROKEMAIPU_F(9)},    {ROKEMAIPU_MEASURING, 0, 0, 0}, /* the site's reading */
+        {ROKEMAIPU_YES_NO, 0, 1, 0},                 {ROKEMAIPU_MEASURING, 0, 1, 0},
+        {ROKEMAIPU_YES_NO, 0, 255, 0},               {ROKEMAIPU_MEASURING, 0, 255, 0},
+        {ROKEMAIPU_YES_NO, 1, 0, ROKEMAIPU_F(9)},    {ROKEMAIPU_MEASURING, 1, 0, ROKEMAIPU_F(9)},
+        {ROKEMAIPU_YES_NO, 5000, 24, 0},             {ROKEMAIPU_MEASURING, 5000, 24, ROKEMAIPU_F(9)}, /* E8 */
+        {ROKEMAIPU_YES_NO, 5000, 25, 0},             {ROKEMAIPU_MEASURING, 5000, 25, 0},
+        {ROKEMAIPU_YES_NO, 65535, 1, 0},             {ROKEMAIPU_MEASURING, 65535, 1, ROKEMAIPU_F(9)},
+    };
+    static const uint32_t unknown[] = {2, 3, 256, 257, UINT32_MAX};
+    rokemaipu_table t, before;
+    memset(&t, 0, sizeof t);
+    for (size_t i = 0; i < sizeof rows / sizeof *rows; i++) {
+        const uint8_t valid[8] = {0, 0, 0, 0, 65, 65, 1, 255}, precharge[7] = {0, 0, 0, 0, 0, 0, 4};
+        const uint8_t s[8] = {(uint8_t)rows[i].voltage, (uint8_t)(rows[i].voltage >> 8), 0, 0, 65, 65, 1, (uint8_t)rows[i].insulation};
+        IS(rokemaipu_set_up(&t, 0, 4, 5000, 1000, 500, 500, rows[i].sensor), 0); /* a second set-up names the kind anew */
+        IS(rokemaipu_frame(&t, 4, 0, 0x6b001, true, (const uint8_t[]){2, 1}, 2), 0);
+        IS(rokemaipu_frame(&t, 4, 0, 0x63000, true, valid, 8), 0);
+        IS(rokemaipu_frame(&t, 4, 0, 0x6b003, true, precharge, 7), 0);
+        IS(rokemaipu_frame(&t, 4, 0, 0x63000, true, s, 8), rows[i].found);
+    }
+    before = t;
+    for (size_t i = 0; i < sizeof unknown / sizeof *unknown; i++) {
+        IS(rokemaipu_set_up(&t, 0, 4, 5000, 1000, 500, 500, unknown[i]), R(12));
+        IS(rokemaipu_set_up(&t, 1, 4, 5000, 1000, 500, 500, unknown[i]), R(11)); /* 9, 10 and 11 before 12 */
+    }
+    IS(same_table(&t, &before), true);
+    puts("sensors: F9 of both kinds at 0 V and at E8's edge; an unknown kind");
 }
 
 /* a post's numbers, field by field */
@@ -230,18 +265,18 @@ static void looks(void) {
     IS(rokemaipu_look_up(&t, 8, numbers, ROKEMAIPU_NUMBERS), R(9));
     IS(rokemaipu_look_up(&t, 8, NULL, 0), R(9)); /* 9 and 14 before 8 */
     IS(rokemaipu_look_up(&t, 0, NULL, 0), R(14));
-    IS(rokemaipu_set_up(&t, 0, 4, 5000, 1000, 500, 600), 0); /* as E8 */
+    IS(rokemaipu_set_up(&t, 0, 4, 5000, 1000, 500, 600, ROKEMAIPU_YES_NO), 0); /* as E8 */
     IS(rokemaipu_look_up(&t, 0, numbers, ROKEMAIPU_NUMBERS - 1), R(8));
-    NUMBERS(&t, 0, 4, 5000, 1000, 500, 600, 0, 0, 0, 0, 0, 0);
+    NUMBERS(&t, 0, 4, 5000, 1000, 500, 600, 1, 0, 0, 0, 0, 0, 0);
     IS(rokemaipu_latest(&t, 0, ROKEMAIPU_NEW_CHARGE_SESSION, NULL, 0, NULL, 0), 0);
     const uint8_t s[8] = {0x88, 0x13, 0, 0, 65, 65, 1, 25}, d[7] = {0x88, 0x13, 0, 0, 0, 0, 4};
     IS(rokemaipu_frame(&t, 4, 5, 0x6b001, true, (const uint8_t[]){2, 1}, 2), 0);
-    NUMBERS(&t, 0, 4, 5000, 1000, 500, 600, 1, 5, 1, 5, 2, 1);
+    NUMBERS(&t, 0, 4, 5000, 1000, 500, 600, 1, 1, 5, 1, 5, 2, 1);
     IS(rokemaipu_frame(&t, 4, 10, 0x63000, true, s, 8), 0);
     IS(rokemaipu_frame(&t, 4, 20, 0x6b003, true, d, 7), 0);
     IS(rokemaipu_frame(&t, 4, 25, 0x6b001, true, (const uint8_t[]){3, 2}, 2), ROKEMAIPU_F(10)); /* repeated: the first protocol and plug stay */
     IS(rokemaipu_tick(&t, 4, 30), 0);
-    NUMBERS(&t, 0, 4, 5000, 1000, 500, 600, 1, 30, 1, 5, 2, 1);
+    NUMBERS(&t, 0, 4, 5000, 1000, 500, 600, 1, 1, 30, 1, 5, 2, 1);
     memset(buf, 0x55, sizeof buf);
     IS(rokemaipu_latest(&t, 0, ROKEMAIPU_POWER_MODULES_STATUS, time, 1, buf, 8), 8);
     IS(time[0], 10);
@@ -263,15 +298,18 @@ static void looks(void) {
     IS(rokemaipu_latest(&t, 0, ROKEMAIPU_POWER_MODULES_STATUS, time, 1, buf, 7), R(8));
     IS(rokemaipu_latest(&t, 0, ROKEMAIPU_POWER_MODULES_STATUS, NULL, 0, buf, 8), R(8));
     IS(rokemaipu_frame(&t, 4, 31, 0x6b004, true, (const uint8_t[]){0}, 1), 0); /* finished: the session's part is none, the frames stay */
-    NUMBERS(&t, 0, 4, 5000, 1000, 500, 600, 1, 31, 0, 0, 0, 0);
+    NUMBERS(&t, 0, 4, 5000, 1000, 500, 600, 1, 1, 31, 0, 0, 0, 0);
     IS(rokemaipu_latest(&t, 0, ROKEMAIPU_DC_POWER_CONTROL, time, 1, buf, 8), 7);
-    IS(rokemaipu_set_up(&t, 0, 6, 5000, 1000, 500, 600), 0); /* E12: an empty history */
-    NUMBERS(&t, 0, 6, 5000, 1000, 500, 600, 0, 0, 0, 0, 0, 0);
+    IS(rokemaipu_set_up(&t, 0, 6, 5000, 1000, 500, 600, 0), 0); /* E12: an empty history */
+    NUMBERS(&t, 0, 6, 5000, 1000, 500, 600, 0, 0, 0, 0, 0, 0, 0);
     IS(rokemaipu_latest(&t, 0, ROKEMAIPU_DC_POWER_CONTROL, time, 1, buf, 8), 0);
     puts("look-ups: E8's and E12's posts, their numbers and their latest frames");
 }
 
 /* ---- any input: tables of random numbers, slices of every length, lent at a fence; a refusal leaves all as it was */
+
+/* a table that the functions did not make may hold any number; all but 1 count as measuring */
+static uint32_t some_sensor(void) { return below(4) ? below(3) : (uint32_t)next(); }
 
 static void random_slot(rokemaipu_slot *s) { s->known = below(2), s->time = (uint32_t)next(), s->raw = next(); }
 
@@ -280,6 +318,7 @@ static void random_table(rokemaipu_table *t) {
         rokemaipu_post *p = &t->posts[i];
         p->used = below(2), p->channel = below(40), p->heard = below(2), p->time = (uint32_t)next();
         p->limits.voltage = (uint32_t)next(), p->limits.charge = (uint32_t)next(), p->limits.discharge = (uint32_t)next(), p->limits.silence = (uint32_t)next();
+        p->limits.sensor = some_sensor();
         for (int k = 0; k < ROKEMAIPU_KINDS; k++) random_slot(&p->latest[k]);
         p->session.opened = below(2), p->session.since = (uint32_t)next(), p->session.first = next();
         random_slot(&p->session.status);
@@ -287,8 +326,11 @@ static void random_table(rokemaipu_table *t) {
     }
 }
 
+/* by kind, and behind the kinds such that are none */
+static const uint32_t lengths_of[ROKEMAIPU_KINDS] = {8, 8, 1, 2, 1, 7, 1, 1, 6};
 static const uint32_t ids[] = {0x63000, 0x63001, 0x6b000, 0x6b001, 0x6b002, 0x6b003, 0x6b004, 0x6b005, 0x6b105, 0x63003, 0, 0xffffffff};
-static uint32_t some_id(void) { return ids[below(sizeof ids / sizeof *ids)]; }
+enum { IDS = sizeof ids / sizeof *ids };
+static uint32_t some_id(void) { return ids[below(IDS)]; }
 
 static void anything(void) {
     rokemaipu_table *t = (rokemaipu_table *)fenced(sizeof *t), before;
@@ -304,7 +346,7 @@ static void anything(void) {
         case 0: r = rokemaipu_frame(t, channel, time, some_id(), below(8) != 0, payload, length); break;
         case 1: r = rokemaipu_tick(t, channel, time); break;
         case 2: r = rokemaipu_release(t, below(12)); break;
-        default: r = rokemaipu_set_up(t, below(12), channel, below(70000), below(40000), below(40000), below(70000)); break;
+        default: r = rokemaipu_set_up(t, below(12), channel, below(70000), below(40000), below(40000), below(70000), some_sensor()); break;
         }
         if (rokemaipu_refusal(r) && !same_table(t, &before)) IS(r, 0);
         if (!rokemaipu_refusal(r) && r > 2047) IS(r, 2047);
@@ -320,29 +362,34 @@ static void anything(void) {
 /* any frame, read and watched as plain C does it */
 static void any_frame(void) {
     uint8_t *end = fenced(12) + 12;
-    uint32_t seen[32] = {0}, starts[256] = {0}, time = 0;
+    uint32_t seen[32] = {0}, starts[256] = {0}, low[2][2] = {{0}}, time = 0;
     rokemaipu_table ours, plain;
     memset(&ours, 0, sizeof ours);
-    IS(rokemaipu_set_up(&ours, 0, 4, 5000, 1000, 500, 500), 0);
+    IS(rokemaipu_set_up(&ours, 0, 4, 5000, 1000, 500, 500, 0), 0);
     plain = ours;
     for (int turn = 0; turn < 400000 && !bad; turn++) {
         int64_t got[8] = {0}, want[8] = {0};
-        size_t length = below(11);
+        uint32_t which = below(IDS), most = below(4) ? 10 : 1;
+        size_t length = which < ROKEMAIPU_KINDS && below(2) ? lengths_of[which] : below(11);
         uint8_t *payload = end - length;
-        for (size_t i = 0; i < length; i++) payload[i] = below(3) ? (uint8_t)below(10) : (uint8_t)next();
+        for (size_t i = 0; i < length; i++) payload[i] = below(3) ? (uint8_t)below(most) : (uint8_t)next();
         bool extended = below(8) != 0;
-        uint32_t id = some_id(), word = peer_read(id, extended, payload, length, want, 8);
+        uint32_t id = ids[which], word = peer_read(id, extended, payload, length, want, 8);
         IS(rokemaipu_read(id, extended, payload, length, got, 8), word);
         IS(memcmp(got, want, sizeof want), 0);
         seen[rokemaipu_refusal(word)]++;
         if (rokemaipu_refusal(word) == 5) starts[rokemaipu_start_bit(word)]++;
         time += below(20);
-        IS(rokemaipu_frame(&ours, 4, time, id, extended, payload, length), peer_frame(&plain, 4, time, id, extended, payload, length));
+        if (turn % 50 == 0) ours.posts[0].limits.sensor = plain.posts[0].limits.sensor = some_sensor();
+        word = peer_frame(&plain, 4, time, id, extended, payload, length);
+        IS(rokemaipu_frame(&ours, 4, time, id, extended, payload, length), word);
         if (!same_table(&ours, &plain)) IS(turn, -1);
+        if (!rokemaipu_refusal(word) && (word & ROKEMAIPU_F(9))) low[plain.posts[0].limits.sensor == ROKEMAIPU_YES_NO][!payload[0] && !payload[1]]++;
     }
     IS(seen[0] && seen[3] && seen[4] && seen[15], true);
     IS(starts[0] && starts[8] && starts[48], true);
-    puts("any frame: read and watched as plain C does it, with the start bits 0, 8 and 48");
+    IS(low[0][0] && !low[0][1] && low[1][0] && low[1][1], true);
+    puts("any frame, any sensor: read and watched as plain C does it, with the start bits 0, 8 and 48, and F9 at 0 V by a yes/no sensor");
 }
 
 static void lengths(void) {
@@ -372,7 +419,6 @@ static void lengths(void) {
 static uint32_t least(uint32_t a, uint32_t b) { return a < b ? a : b; }
 
 static void any_look(void) {
-    static const uint32_t lengths_of[ROKEMAIPU_KINDS] = {8, 8, 1, 2, 1, 7, 1, 1, 6};
     size_t page = (size_t)sysconf(_SC_PAGESIZE);
     rokemaipu_table *t = (rokemaipu_table *)fenced(page); /* a page of its own, which is read-only while it is looked at */
     lent numbers = {.end = fenced(page) + page, .width = 4}, time = {.end = fenced(page) + page, .width = 4}, buf = {.end = fenced(page) + page, .width = 1};
@@ -385,7 +431,8 @@ static void any_look(void) {
             const rokemaipu_post *p = &t->posts[post % 8];
             const rokemaipu_session *s = &p->session;
             uint32_t refused = post > 7 ? R(9) : !p->used ? R(14) : 0;
-            const uint32_t want[ROKEMAIPU_NUMBERS] = {p->channel, p->limits.voltage, p->limits.charge, p->limits.discharge, p->limits.silence, p->heard, p->heard ? p->time : 0,
+            const uint32_t want[ROKEMAIPU_NUMBERS] = {p->channel, p->limits.voltage, p->limits.charge, p->limits.discharge, p->limits.silence,
+                p->limits.sensor == ROKEMAIPU_YES_NO, p->heard, p->heard ? p->time : 0,
                 s->opened, s->opened ? s->since : 0, s->opened ? least(s->first & 0xff, 7) : 0, s->opened ? least(s->first >> 8 & 0xff, 4) : 0}; /* without a label: the last one */
             for (size_t places = 0; places <= MOST; places++) {
                 uint32_t answer = refused ? refused : places < ROKEMAIPU_NUMBERS ? R(8) : 0;
@@ -422,6 +469,7 @@ int main(void) {
     refused_frames();
     refused_changes();
     posts();
+    sensors();
     looks();
     anything();
     any_frame();

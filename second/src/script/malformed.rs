@@ -4,7 +4,7 @@ use super::Generator;
 use crate::desk::LONGEST;
 use crate::rng::Rng;
 
-const ODD_LINES: [&[u8]; 32] = [
+const ODD_LINES: [&[u8]; 36] = [
     b" ",
     b"  ",
     b"\t",
@@ -23,6 +23,10 @@ const ODD_LINES: [&[u8]; 32] = [
     b"record 00",
     b"record 4294967296",
     b"release -1",
+    b"setup 0 0 1 1 0 100 ",
+    b"setup 0 0 1 1 0 100 -1",
+    b"setup 0 0 1 1 0 100 4294967296",
+    b"setup 0 0 1 1 0 100 1 0",
     b"read 63000 x",
     b"read 63000 x ",
     b"write 6b000 x - 00",
@@ -50,7 +54,7 @@ impl Generator {
             1..=4 => self.rng.pick(&ODD_LINES).to_vec(),
             _ => {
                 let line = match self.rng.below(8) {
-                    0 => "setup 9 40 5000 1000 500 500".to_string(),
+                    0 => self.rng.pick(&["setup 9 40 5000 1000 500 500", "setup 9 40 5000 1000 500 500 1"]).to_string(),
                     1 => self.record(),
                     2 => self.read(),
                     3 => self.change(),

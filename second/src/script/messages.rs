@@ -98,7 +98,7 @@ fn near(rng: &mut Rng, mark: i64) -> i64 {
 }
 
 fn power_modules_status(rng: &mut Rng, post: &Sketch) -> Message {
-    let insulation = rng.pick(&[0, 1, 24, 25, 100, 254, 255]);
+    let insulation = rng.pick(&[0, 0, 0, 1, 24, 25, 100, 254, 255]);
     let voltage = match rng.below(4) {
         0 => rng.between(0, 65_535),
         1 => 0,

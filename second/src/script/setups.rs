@@ -14,6 +14,7 @@ const CHARGE: ([u64; 6], [u64; 5]) = ([1, 2, 100, 1000, 32_766, 32_767], [0, 0, 
 const DISCHARGE: ([u64; 6], [u64; 5]) =
     ([0, 0, 1, 500, 32_766, 32_767], [32_768, 32_768, 32_768, 65_535, 4_294_967_295]);
 const SILENCE: ([u64; 8], [u64; 5]) = ([100, 100, 101, 150, 250, 500, 1000, 60_000], [99, 99, 60_001, 60_001, 0]);
+const SENSOR: ([u64; 2], [u64; 5]) = ([0, 1], [2, 2, 3, 256, 4_294_967_295]);
 
 impl Generator {
     /// A set-up to be accepted: a free post or one to start anew, on its own channel or a free one.
@@ -26,7 +27,7 @@ impl Generator {
         };
         let limits = self.limits();
         self.sketch(post as usize, channel as u32, limits);
-        set_up_line(post, channel, limits)
+        self.set_up_line(post, channel, limits)
     }
 
     /// A set-up with one thing wrong, or with several.
@@ -48,10 +49,10 @@ impl Generator {
             channel = if taken.is_empty() { channel } else { self.rng.pick(&taken) };
         }
         if flaws & 8 != 0 || flaws == 4 && self.posts.iter().flatten().count() < 2 {
-            let which = self.rng.below(4) as usize;
-            limits[which] = self.rng.pick(&[VOLT.1, CHARGE.1, DISCHARGE.1, SILENCE.1][which]);
+            let which = self.rng.below(5) as usize;
+            limits[which] = self.rng.pick(&[VOLT.1, CHARGE.1, DISCHARGE.1, SILENCE.1, SENSOR.1][which]);
         }
-        set_up_line(post, channel, limits)
+        self.set_up_line(post, channel, limits)
     }
 
     pub fn release(&mut self) -> String {
@@ -89,9 +90,9 @@ impl Generator {
         }
     }
 
-    fn limits(&mut self) -> [u64; 4] {
+    fn limits(&mut self) -> [u64; 5] {
         let rng = &mut self.rng;
-        [rng.pick(&VOLT.0), rng.pick(&CHARGE.0), rng.pick(&DISCHARGE.0), rng.pick(&SILENCE.0)]
+        [rng.pick(&VOLT.0), rng.pick(&CHARGE.0), rng.pick(&DISCHARGE.0), rng.pick(&SILENCE.0), rng.pick(&SENSOR.0)]
     }
 
     pub fn free_channel(&mut self) -> u64 {
@@ -103,20 +104,23 @@ impl Generator {
     }
 
     /// Starts small, at 0, or close to the largest time.
-    fn sketch(&mut self, post: usize, channel: u32, limits: [u64; 4]) {
+    fn sketch(&mut self, post: usize, channel: u32, limits: [u64; 5]) {
         let now = match self.rng.below(10) {
             0 | 1 => 0,
             2 | 3 => u32::MAX - self.rng.below(3000) as u32,
             4 => u32::MAX,
             _ => self.rng.below(100_000) as u32,
         };
-        let [volt, charge, discharge, silence] = limits.map(|limit| limit as u32);
-        let limits = Limits { volt, charge, discharge, silence };
+        let [volt, charge, discharge, silence, sensor] = limits.map(|limit| limit as u32);
+        let limits = Limits { volt, charge, discharge, silence, sensor };
         self.posts[post] = Some(Sketch::new(channel, limits, now));
         self.busy = post;
     }
-}
 
-fn set_up_line(post: u64, channel: u64, [volt, charge, discharge, silence]: [u64; 4]) -> String {
-    format!("setup {post} {channel} {volt} {charge} {discharge} {silence}")
+    /// Sensor 0 may go without saying.
+    fn set_up_line(&mut self, post: u64, channel: u64, limits: [u64; 5]) -> String {
+        let said = if limits[4] == 0 && self.rng.chance(50) { &limits[..4] } else { &limits };
+        let said: Vec<String> = said.iter().map(u64::to_string).collect();
+        format!("setup {post} {channel} {}", said.join(" "))
+    }
 }
