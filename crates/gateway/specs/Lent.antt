@@ -3,7 +3,7 @@ use Prim.Native.Nat.{ℕ}
 use mathlib.Core.List.{List}
 use mathlib.Core.Bool.{Bool}
 use Rattle.pages.specs.Judge.{judgeOf}
-use Rattle.post.specs.declared.Limits.{Limits}
+use Rattle.post.specs.declared.PlainLimits.{PlainLimits}
 use Rattle.watch.specs.declared.Table.{Table}
 use Rattle.watch.specs.declared.Fed.{Fed}
 use Rattle.watch.specs.declared.Settled.{Settled}
@@ -22,8 +22,8 @@ lentSettled r = record { table = r .table; answer = settingWord (r .answer) }
 unfoldable pub startOf : Table → Lent
 startOf t = record { table = emptyTable; answer = 0 }
 
-unfoldable pub setUpWord : Table → ℕ → ℕ → ℕ → ℕ → ℕ → ℕ → Lent
-setUpWord t i c volt chg dis w = lentSettled (setUpOf t i c (record { voltage = volt; charge = chg; discharge = dis; silence = w }))
+unfoldable pub setUpWord : Table → ℕ → ℕ → ℕ → ℕ → ℕ → ℕ → ℕ → Lent
+setUpWord t i c volt chg dis w sensor = lentSettled (setUpOf t i c (record { voltage = volt; charge = chg; discharge = dis; silence = w; sensor = sensor }))
 
 unfoldable pub releaseWord : Table → ℕ → Lent
 releaseWord t i = lentSettled (releaseOf t i)

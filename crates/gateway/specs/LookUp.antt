@@ -14,6 +14,7 @@ use Rattle.post.specs.declared.SessionPart.{SessionPart}
 use Rattle.post.specs.declared.SessionPart.the-variants as part
 use Rattle.post.specs.declared.Record.{Record}
 use Rattle.post.specs.declared.Slot.{Slot}
+use Rattle.post.specs.Sensor.{sensorNumber}
 use Rattle.post.specs.Record.{kindCount}
 use Rattle.post.specs.Step.{latestIn}
 use Rattle.watch.specs.declared.Table.{Table}
@@ -25,7 +26,7 @@ use Rattle.gateway.specs.Words.{refusalWord}
 -- ---- a post's numbers: of the record that `watch::look_up` hands out, all but the messages
 
 abbrev pub numberCount : ℕ
-numberCount = 11
+numberCount = 12
 
 -- 1 and the time, or 0 and 0
 abbrev pub lastNumbers : LastTime → List ℕ
@@ -39,7 +40,7 @@ sessionNumbers (part.Opened s) = 1 ∷ s .since ∷ protocolNumber (s .protocol)
 
 unfoldable pub numbersOf : Record → List ℕ
 numbersOf r =
-    r .channel ∷ r .limits .voltage ∷ r .limits .charge ∷ r .limits .discharge ∷ r .limits .silence
+    r .channel ∷ r .limits .voltage ∷ r .limits .charge ∷ r .limits .discharge ∷ r .limits .silence ∷ sensorNumber (r .limits .sensor)
     ∷ (lastNumbers (r .last) ++ sessionNumbers (r .session))
 
 -- 8 where the lent places are too few

@@ -17,7 +17,7 @@ pub mod night; // night.rt: records of the night log, written and read
 use pages::Judged;
 use pages::Refusal;
 use post::KINDS;
-use post::Limits;
+use post::PlainLimits;
 use post::Post;
 use post::Slot;
 use watch::Answer;
@@ -81,16 +81,18 @@ pub fn settled(
     charge: u32,
     discharge: u32,
     silence: u32,
+    sensor: u32,
 ) -> Lent
-    ensures { λ r. ⌜ r ≡ setUpWord t post channel voltage charge discharge silence ⌝ }
+    ensures { λ r. ⌜ r ≡ setUpWord t post channel voltage charge discharge silence sensor ⌝ }
 {
-    let limits = Limits {
+    let limits = PlainLimits {
         voltage,
         charge,
         discharge,
         silence,
+        sensor,
     };
-    let r = watch::set_up(t, post, channel, limits);
+    let r = watch::set_up_plain(t, post, channel, limits);
     let a = r.answer;
     let u = r.table;
     Lent {
@@ -212,10 +214,20 @@ pub extern "C" fn rokemaipu_set_up(
     charge: u32,
     discharge: u32,
     silence: u32,
+    sensor: u32,
 ) -> u32
-    ensures { λ r. ⌜ (r ≡ setUpWord (now (t .entry)) post channel voltage charge discharge silence .answer) × (now (t .exit) ≡ setUpWord (now (t .entry)) post channel voltage charge discharge silence .table) ⌝ }
+    ensures { λ r. ⌜ (r ≡ setUpWord (now (t .entry)) post channel voltage charge discharge silence sensor .answer) × (now (t .exit) ≡ setUpWord (now (t .entry)) post channel voltage charge discharge silence sensor .table) ⌝ }
 {
-    let r = settled(*t, post, channel, voltage, charge, discharge, silence);
+    let r = settled(
+        *t,
+        post,
+        channel,
+        voltage,
+        charge,
+        discharge,
+        silence,
+        sensor,
+    );
     *t = r.table;
     r.answer
 }
@@ -276,10 +288,20 @@ pub fn lend_set_up(
     charge: u32,
     discharge: u32,
     silence: u32,
+    sensor: u32,
 ) -> Lent
-    ensures { λ r. ⌜ r ≡ setUpWord t post channel voltage charge discharge silence ⌝ }
+    ensures { λ r. ⌜ r ≡ setUpWord t post channel voltage charge discharge silence sensor ⌝ }
 {
-    let answer = rokemaipu_set_up(&mut t, post, channel, voltage, charge, discharge, silence);
+    let answer = rokemaipu_set_up(
+        &mut t,
+        post,
+        channel,
+        voltage,
+        charge,
+        discharge,
+        silence,
+        sensor,
+    );
     Lent { table: t, answer }
 }
 

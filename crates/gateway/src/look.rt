@@ -13,6 +13,8 @@ use messages::labels::protocol_number;
 use pages::Refusal;
 use post::Post;
 use post::Slot;
+use post::kept::sensor_number;
+use post::kept::sensor_of;
 use watch::Table;
 
 // ---- a post's numbers
@@ -29,10 +31,11 @@ fn where_set(b: bool, x: u32) -> u32
     if b { x } else { 0 }
 }
 
-fn numbers_of(p: Post) -> [u32; 11]
+fn numbers_of(p: Post) -> [u32; 12]
     ensures { λ r. ⌜ r ≡ numbersOf (recordIn p) ⌝ }
 {
     let l = p.limits;
+    let sensor = sensor_of(l.sensor);
     let s = p.session;
     let n = messages::session_in(s.first);
     let protocol = n.protocol;
@@ -43,6 +46,7 @@ fn numbers_of(p: Post) -> [u32; 11]
         l.charge,
         l.discharge,
         l.silence,
+        sensor_number(sensor),
         flag(p.heard),
         where_set(p.heard, p.time),
         flag(s.opened),
@@ -52,12 +56,12 @@ fn numbers_of(p: Post) -> [u32; 11]
     ]
 }
 
-fn store_numbers(numbers: &mut [u32], ns: [u32; 11])
+fn store_numbers(numbers: &mut [u32], ns: [u32; 12])
     requires { ⌜ numberCount ≤ length (now numbers) ⌝ }
     ensures { λ _. ⌜ now (numbers .exit) ≡ ns ++ drop numberCount (now (numbers .entry)) ⌝ }
 {
     let mut j: usize = 0;
-    while j < 11 {
+    while j < 12 {
         numbers[j] = ns[j];
         j += 1;
     }
@@ -74,7 +78,7 @@ pub fn looked(t: Table, post: u32, numbers: &mut [u32]) -> u32
     if !p.used {
         return refusal_word(Refusal::NotSetUp);
     }
-    if numbers.len() < 11 {
+    if numbers.len() < 12 {
         return refusal_word(Refusal::ShortBuffer);
     }
     store_numbers(numbers, numbers_of(p));

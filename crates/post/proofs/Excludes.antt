@@ -3,7 +3,7 @@ use Prim.Native.Nat.{ℕ}
 use mathlib.Core.Path.{_≡_, refl}
 use mathlib.Core.Bool.{Bool, true, false, _&&_}
 use mathlib.Core.Option.{Option, none, some}
-use Rattle.post.specs.declared.Limits.{Limits}
+use Rattle.post.specs.declared.PlainLimits.{PlainLimits}
 use Rattle.post.specs.History.{Event, History, opening}
 use Rattle.post.specs.Rules.{ask, isOpen, f1, f3, f4, f5, f8, f9, f10, f11}
 
@@ -19,8 +19,8 @@ and-false : (b : Bool) → (b && false) ≡ false
 and-false true = refl
 and-false false = refl
 
-pub excludes : (lim : Limits) (h : History) (e : Event)
-    → (isOpen (opening h) ≡ false → (f1 lim h e ≡ false) × (f5 h e ≡ false) × (f8 lim h e ≡ false) × (f9 h e ≡ false) × (f10 h e ≡ false))
+pub excludes : (lim : PlainLimits) (h : History) (e : Event)
+    → (isOpen (opening h) ≡ false → (f1 lim h e ≡ false) × (f5 h e ≡ false) × (f8 lim h e ≡ false) × (f9 lim h e ≡ false) × (f10 h e ≡ false))
     × (isOpen (opening h) ≡ true → (f3 h e ≡ false) × (f4 h e ≡ false) × (f11 h e ≡ false))
 unfolding f1 f3 f4 f5 f8 f9 f10 f11
 excludes lim h e = (

@@ -8,7 +8,7 @@ use lib.Dec.{ltb}
 use Rattle.messages.specs.declared.DcPowerParameters.{DcPowerParameters}
 use Rattle.messages.specs.declared.NewChargeSession.{NewChargeSession}
 use Rattle.messages.specs.Parts.{statusKind, sessionKind, controlKind, finishedKind, statusIn, sessionIn, controlIn}
-use Rattle.post.specs.declared.Limits.{Limits}
+use Rattle.post.specs.declared.PlainLimits.{PlainLimits}
 use Rattle.post.specs.History.{Event, frame, tick, History, timeOf, elapsed}
 use Rattle.post.specs.Judgements.{bit, differs, isCarrying}
 use Rattle.post.specs.Rules.{ask, isOpen, laterTime, limitBy, limitOf, unready, f1, f2, f3, f4, f5, f6, f7, f8, f9, f10, f11, findings01}
@@ -62,12 +62,12 @@ differs-look (some o) s d n = refl
 -- ---- the sum
 
 -- of the rules that ask for a message
-abbrev messageBits : Limits → History → Event → ℕ
+abbrev messageBits : PlainLimits → History → Event → ℕ
 messageBits lim h e =
     bit (f3 h e) 4 + bit (f4 h e) 8 + bit (f5 h e) 16 + bit (f6 e) 32 + bit (f7 lim h e) 64
-    + bit (f8 lim h e) 128 + bit (f9 h e) 256 + bit (f10 h e) 512 + bit (f11 h e) 1024
+    + bit (f8 lim h e) 128 + bit (f9 lim h e) 256 + bit (f10 h e) 512 + bit (f11 h e) 1024
 
-module _ (c : ℕ) (lim : Limits) (h : History) where
+module _ (c : ℕ) (lim : PlainLimits) (h : History) where
   any-look : (e : Event) → anyFindings (postAt c lim true (timeOf e) h) ≡ bit (f1 lim h e) 1 + bit (f2 h e) 2
   unfolding anyFindings postAt latests session01 f1 f2
   any-look e = simp (silent-look, late-look)

@@ -7,3 +7,4 @@ pub mod Excludes
 pub mod Capping
 pub mod Filled
 pub mod Unmapped
+pub mod HandedBack

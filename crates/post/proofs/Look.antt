@@ -8,7 +8,7 @@ use mathlib.Core.Option.{Option, none, some}
 use borrow.Author.Tests.{eq-eqb, ne-eqb}
 use lib.ListN.{set}
 use Rattle.messages.specs.Parts.{statusKind, controlKind}
-use Rattle.post.specs.declared.Limits.{Limits}
+use Rattle.post.specs.declared.PlainLimits.{PlainLimits}
 use Rattle.post.specs.declared.Latest.{Latest}
 use Rattle.post.specs.History.{frame, tick, History, newest, ofKind, sinceFinished, opening, earlierIn, countFrom}
 use Rattle.post.specs.Rules.{sessionStatus, sessionControl, findings01}
@@ -42,7 +42,7 @@ part-look : (o s d : Option (ℕ × ℕ)) → partIn (sessionOf o s d) ≡ partO
 part-look none s d = refl
 part-look (some o) s d = rw (dated-look statusKind s, dated-look controlKind d)
 
-module _ (c : ℕ) (lim : Limits) where
+module _ (c : ℕ) (lim : PlainLimits) where
   -- ---- the post after one event more
 
   aged-look : (h : History) (t : ℕ) → agedTo (postOf c lim h) t ≡ postAt c lim true t h

@@ -16,6 +16,8 @@ use Rattle.messages.specs.declared.PowerModulesStatus.{PowerModulesStatus}
 use Rattle.messages.specs.declared.NewChargeSession.{NewChargeSession}
 use Rattle.messages.specs.declared.DcPowerControl.{DcPowerControl}
 use Rattle.messages.specs.Labels.{protocolNumber, plugNumber}
+use Rattle.post.specs.declared.Sensor.{Sensor}
+use Rattle.post.specs.declared.Sensor.the-variants.{Measuring, YesNo}
 
 abbrev pub isAllowed : SystemEnable → Bool
 isAllowed NotAllowed = false
@@ -75,6 +77,11 @@ outside z charge discharge = ltZ (pos charge) z || ltZ z (negℤ (pos discharge)
 -- F9: "under 100 Ohm per volt of the same message's voltage": kOhm times 1,000 below 100 times tenths of a volt over 10
 unfoldable pub leaking : PowerModulesStatus → Bool
 leaking s = ltb (s .insulation * 100) (s .voltage)
+
+-- 02, Req 03: "For a yes/no sensor F9's insulation test is raw 0 and nothing else; for a measuring one F9 stays." Insulation is twice the raw number: 0 exactly where that is 0.
+unfoldable pub badInsulation : Sensor → PowerModulesStatus → Bool
+badInsulation Measuring s = leaking s
+badInsulation YesNo s = eqb (s .insulation) 0
 
 -- F10: "another protocol or plug"
 unfoldable pub differs : NewChargeSession → NewChargeSession → Bool

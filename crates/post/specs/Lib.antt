@@ -1,4 +1,5 @@
 pub mod History
+pub mod Sensor
 pub mod Judgements
 pub mod Rules
 pub mod Record

@@ -8,7 +8,7 @@ use mathlib.Core.Option.{Option, none, some}
 use Rattle.messages.specs.Parts.{statusKind, controlKind, sessionIn}
 use Rattle.messages.specs.Read.{messageOf}
 use Rattle.post.specs.declared.Slot.{Slot}
-use Rattle.post.specs.declared.Limits.{Limits}
+use Rattle.post.specs.declared.PlainLimits.{PlainLimits}
 use Rattle.post.specs.declared.Session.{Session}
 use Rattle.post.specs.declared.Post.{Post}
 use Rattle.post.specs.declared.LastTime.{LastTime}
@@ -20,6 +20,7 @@ use Rattle.post.specs.declared.SessionPart.{SessionPart}
 use Rattle.post.specs.declared.SessionPart.the-variants as part
 use Rattle.post.specs.declared.Record.{Record}
 use Rattle.post.specs.History.{History, timeOf, newest, ofKind, opening, countFrom}
+use Rattle.post.specs.Sensor.{limitsOf}
 use Rattle.post.specs.Rules.{sessionStatus, sessionControl}
 
 abbrev pub kindCount : ℕ
@@ -48,11 +49,11 @@ partOf (some o) s d =
       control = datedOf controlKind d;
     })
 
-unfoldable pub recordOf : ℕ → Limits → History → Record
+unfoldable pub recordOf : ℕ → PlainLimits → History → Record
 recordOf c lim h =
     record {
       channel = c;
-      limits = lim;
+      limits = limitsOf lim;
       last = lastOf h;
       latest = map (λ k. record { message = datedOf k (newest (ofKind k) h) }) (countFrom 0 kindCount);
       session = partOf (opening h) (sessionStatus h) (sessionControl h);
@@ -92,9 +93,9 @@ unfoldable pub session01 : History → Session
 session01 h = sessionOf (opening h) (sessionStatus h) (sessionControl h)
 
 -- as of the time `now`
-unfoldable pub postAt : ℕ → Limits → Bool → ℕ → History → Post
+unfoldable pub postAt : ℕ → PlainLimits → Bool → ℕ → History → Post
 postAt c lim heard now h =
     record { used = true; channel = c; limits = lim; heard = heard; time = now; latest = latests h; session = session01 h }
 
-abbrev pub postOf : ℕ → Limits → History → Post
+abbrev pub postOf : ℕ → PlainLimits → History → Post
 postOf c lim h = postAt c lim (heardIn h) (latestTime h) h

@@ -5,9 +5,10 @@ use mathlib.Core.Option.{Option, none, some}
 use lib.Dec.{ltb}
 use Rattle.messages.specs.declared.DcPowerParameters.{DcPowerParameters}
 use Rattle.messages.specs.Parts.{statusKind, parametersKind, controllerKind, sessionKind, controlKind, finishedKind, statusIn, parametersIn, sessionIn, controlIn}
-use Rattle.post.specs.declared.Limits.{Limits}
+use Rattle.post.specs.declared.PlainLimits.{PlainLimits}
 use Rattle.post.specs.History.{Event, History, timeOf, newest, ofKind, opening, inSession, elapsed}
-use Rattle.post.specs.Judgements.{isAllowed, isClose, isPowered, isCarrying, isOff, lowersBadly, outside, leaking, differs, capped, bit}
+use Rattle.post.specs.Sensor.{sensorOf}
+use Rattle.post.specs.Judgements.{isAllowed, isClose, isPowered, isCarrying, isOff, lowersBadly, outside, badInsulation, differs, capped, bit}
 
 -- a test of what was found, failing where nothing was
 abbrev pub ask : {A : Type 0} → Option A → (A → Bool) → Bool
@@ -39,7 +40,7 @@ unfoldable pub limitOf : ℕ → (DcPowerParameters → ℕ) → History → ℕ
 limitOf most number h = limitBy most number (newest (ofKind parametersKind) h)
 
 -- "any event, session open: time minus the later of the opening and the latest Power_Modules_Status in this session is above W"
-unfoldable pub f1 : Limits → History → Event → Bool
+unfoldable pub f1 : PlainLimits → History → Event → Bool
 f1 lim h e = ask (opening h) (λ o. ltb (lim .silence) (elapsed (timeOf e) (laterTime (o .0) (sessionStatus h))))
 
 -- "any event, once a controller status was accepted: time minus its latest is above 200 ms"
@@ -68,23 +69,23 @@ unfoldable pub f6 : Event → Bool
 f6 e = ask (ofKind controlKind e) (λ d. lowersBadly (controlIn (d .1)))
 
 -- "DC_Power_Control, function not off: Target_Voltage above the voltage limit"
-unfoldable pub f7 : Limits → History → Event → Bool
+unfoldable pub f7 : PlainLimits → History → Event → Bool
 f7 lim h e =
     ask (ofKind controlKind e)
     (λ d. not (isOff (controlIn (d .1) .function)) && ltb (limitOf (lim .voltage) (λ p. p .voltage) h) (controlIn (d .1) .target))
 
 -- "Power_Modules_Status, session open: current above the charge limit, or below minus the discharge limit"
-unfoldable pub f8 : Limits → History → Event → Bool
+unfoldable pub f8 : PlainLimits → History → Event → Bool
 f8 lim h e =
     ask (ofKind statusKind e)
     (λ s. isOpen (opening h)
     && outside (statusIn (s .1) .current) (limitOf (lim .charge) (λ p. p .charge) h) (limitOf (lim .discharge) (λ p. p .discharge) h))
 
--- "Power_Modules_Status, session open whose latest DC_Power_Control is precharge or power transfer: under 100 Ohm per volt of the same message's voltage"
-unfoldable pub f9 : History → Event → Bool
-f9 h e =
+-- "Power_Modules_Status, session open whose latest DC_Power_Control is precharge or power transfer: under 100 Ohm per volt of the same message's voltage"; 02, Req 03: or, for a yes/no sensor, raw 0
+unfoldable pub f9 : PlainLimits → History → Event → Bool
+f9 lim h e =
     ask (ofKind statusKind e)
-    (λ s. (isOpen (opening h) && ask (sessionControl h) (λ d. isCarrying (controlIn (d .1) .function))) && leaking (statusIn (s .1)))
+    (λ s. (isOpen (opening h) && ask (sessionControl h) (λ d. isCarrying (controlIn (d .1) .function))) && badInsulation (sensorOf (lim .sensor)) (statusIn (s .1)))
 
 -- "New_Charge_Session while open with another protocol or plug than the session's first"
 unfoldable pub f10 : History → Event → Bool
@@ -95,7 +96,7 @@ unfoldable pub f11 : History → Event → Bool
 f11 h e = ask (ofKind finishedKind e) (λ f. not (isOpen (opening h)))
 
 -- "Finding k is bit k - 1 of the answer"
-unfoldable pub findings01 : Limits → History → Event → ℕ
+unfoldable pub findings01 : PlainLimits → History → Event → ℕ
 findings01 lim h e =
     bit (f1 lim h e) 1 + bit (f2 h e) 2 + bit (f3 h e) 4 + bit (f4 h e) 8 + bit (f5 h e) 16 + bit (f6 e) 32
-    + bit (f7 lim h e) 64 + bit (f8 lim h e) 128 + bit (f9 h e) 256 + bit (f10 h e) 512 + bit (f11 h e) 1024
+    + bit (f7 lim h e) 64 + bit (f8 lim h e) 128 + bit (f9 lim h e) 256 + bit (f10 h e) 512 + bit (f11 h e) 1024

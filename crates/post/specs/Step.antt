@@ -11,7 +11,7 @@ use Rattle.messages.specs.declared.NewChargeSession.{NewChargeSession}
 use Rattle.messages.specs.Parts.{statusKind, parametersKind, controllerKind, sessionKind, controlKind, finishedKind, statusIn, parametersIn, sessionIn, controlIn}
 use Rattle.messages.specs.Read.{messageOf}
 use Rattle.post.specs.declared.Slot.{Slot}
-use Rattle.post.specs.declared.Limits.{Limits}
+use Rattle.post.specs.declared.PlainLimits.{PlainLimits}
 use Rattle.post.specs.declared.Session.{Session}
 use Rattle.post.specs.declared.Post.{Post}
 use Rattle.post.specs.declared.Stepped.{Stepped}
@@ -24,7 +24,8 @@ use Rattle.post.specs.declared.SessionPart.{SessionPart}
 use Rattle.post.specs.declared.SessionPart.the-variants as part
 use Rattle.post.specs.declared.Record.{Record}
 use Rattle.post.specs.History.{elapsed, earlier, countFrom}
-use Rattle.post.specs.Judgements.{isAllowed, isClose, isPowered, isCarrying, isOff, lowersBadly, outside, leaking, differs, capped, bit}
+use Rattle.post.specs.Sensor.{sensorOf, limitsOf}
+use Rattle.post.specs.Judgements.{isAllowed, isClose, isPowered, isCarrying, isOff, lowersBadly, outside, badInsulation, differs, capped, bit}
 use Rattle.post.specs.Record.{kindCount, unknown, slotAt, closedSession}
 
 -- ---- the session's part after a frame
@@ -108,7 +109,7 @@ controlFindings p d =
 unfoldable pub statusFindings : Post → PowerModulesStatus → ℕ
 statusFindings p s =
     bit (p .session .opened && outside (s .current) (limitIn (p .limits .charge) (λ q. q .charge) (latestIn p parametersKind)) (limitIn (p .limits .discharge) (λ q. q .discharge) (latestIn p parametersKind))) 128
-    + bit (carryingIn (p .session) && leaking s) 256
+    + bit (carryingIn (p .session) && badInsulation (sensorOf (p .limits .sensor)) s) 256
 
 unfoldable pub openingFindings : Session → NewChargeSession → ℕ
 openingFindings s n = bit (s .opened && differs (sessionIn (s .first)) n) 512
@@ -134,14 +135,14 @@ frameStep p t k raw =
 
 -- ---- posts that nothing was heard of
 
-abbrev pub noLimits : Limits
-noLimits = record { voltage = 0; charge = 0; discharge = 0; silence = 0 }
+abbrev pub noLimits : PlainLimits
+noLimits = record { voltage = 0; charge = 0; discharge = 0; silence = 0; sensor = 0 }
 
 -- a post that is not set up
 abbrev pub freePost : Post
 freePost = record { used = false; channel = 0; limits = noLimits; heard = false; time = 0; latest = replicate kindCount unknown; session = closedSession }
 
-abbrev pub freshPost : ℕ → Limits → Post
+abbrev pub freshPost : ℕ → PlainLimits → Post
 freshPost c lim = record { used = true; channel = c; limits = lim; heard = false; time = 0; latest = replicate kindCount unknown; session = closedSession }
 
 -- ---- the record that a post hands out
@@ -169,7 +170,7 @@ unfoldable pub recordIn : Post → Record
 recordIn p =
     record {
       channel = p .channel;
-      limits = p .limits;
+      limits = limitsOf (p .limits);
       last = lastIn p;
       latest = map (λ k. record { message = datedIn k (latestIn p k) }) (countFrom 0 kindCount);
       session = partIn (p .session);

@@ -2,8 +2,9 @@
 ghost use mathlib.Core.Path.{_≡_};
 ghost use mathlib.Core.Bool.{_&&_, not};
 ghost use Prim.Native.Nat.{_≤_};
-ghost use Rattle.post.specs.Judgements.{isAllowed, isClose, isPowered, isCarrying, isOff, isStandby, isLowering, lowersBadly, outside, leaking, differs, capped, bit};
+ghost use Rattle.post.specs.Judgements.{isAllowed, isClose, isPowered, isCarrying, isOff, isStandby, isLowering, lowersBadly, outside, leaking, badInsulation, differs, capped, bit};
 ghost use Rattle.messages.specs.Labels.{protocolNumber, plugNumber};
+use crate::Sensor;
 use messages::DcPowerControl;
 use messages::LowerOutput;
 use messages::NewChargeSession;
@@ -119,11 +120,21 @@ pub fn is_outside(current: i16, charge: u32, discharge: u32) -> bool
     z < -(discharge as i64)
 }
 
-// F9
-pub fn is_leaking(s: PowerModulesStatus) -> bool
+// F9 of a measuring sensor
+fn is_leaking(s: PowerModulesStatus) -> bool
     ensures { λ r. ⌜ r ≡ leaking s ⌝ }
 {
     (s.insulation as u32) * 100 < s.voltage as u32
+}
+
+// F9
+pub fn insulates_badly(sensor: Sensor, s: PowerModulesStatus) -> bool
+    ensures { λ r. ⌜ r ≡ badInsulation sensor s ⌝ }
+{
+    match sensor {
+        Sensor::Measuring => is_leaking(s),
+        Sensor::YesNo => s.insulation == 0,
+    }
 }
 
 // F10

@@ -7,6 +7,7 @@ use crate::Post;
 use crate::Session;
 use crate::Slot;
 use crate::asked::*;
+use crate::kept::sensor_of;
 use crate::times::ms_between;
 use messages::CONTROL;
 use messages::CONTROLLER;
@@ -157,11 +158,12 @@ fn status_findings(p: Post, m: PowerModulesStatus) -> u32
     let l = p.latest[PARAMETERS];
     let charge = charge_limit(p.limits.charge, l);
     let discharge = discharge_limit(p.limits.discharge, l);
+    let sensor = sensor_of(p.limits.sensor);
     flag(
         both(s.opened, is_outside(m.current, charge, discharge)),
         128,
     )
-        + flag(both(carrying_session(s), is_leaking(m)), 256)
+        + flag(both(carrying_session(s), insulates_badly(sensor, m)), 256)
 }
 
 // ---- New_Charge_Session, Charge_Session_Finished

@@ -5,6 +5,7 @@ ghost use Rattle.post.specs.History.{earlier, elapsed};
 ghost use Rattle.post.specs.Step.{isEarly, tickStep, frameStep, freePost, freshPost, recordIn};
 
 mod times; // times.rt: earlier and elapsed
+pub mod kept; // kept.rt: limits as they are handed in and out, and as they are kept
 mod asked; // asked.rt: what a rule asks of a message's fields
 mod found; // found.rt: F1 to F11
 mod step; // step.rt: a post after one event more
@@ -24,13 +25,29 @@ pub struct Slot {
     pub raw: u64,
 }
 
-// Default voltage in tenths of a volt, default charge and discharge current in tenths of an ampere, power module silence W in ms.
-#[repr(C)]
+// 02, Req 03: an insulation sensor that measures, or one that only knows yes and no.
+pub enum Sensor {
+    Measuring,
+    YesNo,
+}
+
+// Default voltage in tenths of a volt, default charge and discharge current in tenths of an ampere, power module silence W in ms, and the sensor kind.
 pub struct Limits {
     pub voltage: u32,
     pub charge: u32,
     pub discharge: u32,
     pub silence: u32,
+    pub sensor: Sensor,
+}
+
+// The same as a post keeps them: the sensor kind by its number.
+#[repr(C)]
+pub struct PlainLimits {
+    pub voltage: u32,
+    pub charge: u32,
+    pub discharge: u32,
+    pub silence: u32,
+    pub sensor: u32,
 }
 
 // All zero where none is open. `first` is the payload number of the New_Charge_Session that opened it.
@@ -47,7 +64,7 @@ pub struct Session {
 pub struct Post {
     pub used: bool,
     pub channel: u32,
-    pub limits: Limits,
+    pub limits: PlainLimits,
     pub heard: bool,
     pub time: u32,
     pub latest: [Slot; 9],
@@ -106,11 +123,12 @@ pub fn free_post() -> Post
     Post {
         used: false,
         channel: 0,
-        limits: Limits {
+        limits: PlainLimits {
             voltage: 0,
             charge: 0,
             discharge: 0,
             silence: 0,
+            sensor: 0,
         },
         heard: false,
         time: 0,
@@ -124,7 +142,7 @@ pub fn free_post() -> Post
 }
 
 // A post that was just set up.
-pub fn fresh_post(channel: u32, limits: Limits) -> Post
+pub fn fresh_post(channel: u32, limits: PlainLimits) -> Post
     ensures { λ r. ⌜ r ≡ freshPost channel limits ⌝ }
 {
     let s = step::no_session();

@@ -11,6 +11,7 @@ use crate::Record;
 use crate::Session;
 use crate::SessionPart;
 use crate::Slot;
+use crate::kept::limits_in;
 use messages::CONTROL;
 use messages::STATUS;
 
@@ -70,7 +71,8 @@ pub fn shown(p: Post) -> Record
         };
         k += 1;
     }
-    let limits = p.limits;
+    let kept = p.limits;
+    let limits = limits_in(kept);
     let s = p.session;
     let session = part(s);
     let last = last_time(p);

@@ -2,10 +2,12 @@
 use crate::show::text;
 use crate::steps::frame;
 use crate::steps::limits;
+use crate::steps::limits_with;
 use crate::steps::record;
 use crate::steps::release;
 use crate::steps::set_up;
 use crate::steps::tick;
+use post::Sensor;
 use watch::Table;
 
 const STATUS: u32 = 0x63000;
@@ -31,6 +33,35 @@ fn insulation() {
     record(t, 0);
     t = frame(t, 4, 50, FINISHED, &[0u8]);
     t = frame(t, 4, 60, STATUS, &[0x88u8, 0x13, 0, 0, 65, 65, 1, 24]);
+    record(t, 0);
+}
+
+// 02, Req 03: the sensor "gave 0 for invalid at 0 V and F9 stayed silent".
+fn sensed(sensor: Sensor) {
+    let mut t = set_up(watch::empty(), 0, 4, limits_with(sensor));
+    t = frame(t, 4, 0, SESSION, &[2u8, 1]);
+    t = frame(t, 4, 10, STATUS, &[0u8, 0, 0, 0, 65, 65, 1, 0]);
+    t = frame(t, 4, 20, CONTROL, &[0x88u8, 0x13, 0, 0, 0, 0, 0x04]);
+    t = frame(t, 4, 30, STATUS, &[0u8, 0, 0, 0, 65, 65, 1, 0]);
+    t = frame(t, 4, 40, STATUS, &[0u8, 0, 0, 0, 65, 65, 1, 1]);
+    t = frame(t, 4, 50, STATUS, &[0x88u8, 0x13, 0, 0, 65, 65, 1, 24]);
+    t = frame(t, 4, 60, STATUS, &[0x88u8, 0x13, 0, 0, 65, 65, 1, 0]);
+    record(t, 0);
+}
+
+fn sensors() {
+    text(
+        b"Req 03 a measuring sensor at 0 V: raw 0 before and under precharge, raw 1; at 500.0 V raw 24, raw 0\n",
+    );
+    sensed(Sensor::Measuring);
+    text(b"a yes/no sensor, the same\n");
+    sensed(Sensor::YesNo);
+    text(b"set up again with the other kind\n");
+    let mut t = set_up(watch::empty(), 0, 4, limits_with(Sensor::YesNo));
+    record(t, 0);
+    t = set_up(t, 0, 4, limits());
+    record(t, 0);
+    t = set_up(t, 0, 4, limits_with(Sensor::YesNo));
     record(t, 0);
 }
 
@@ -115,6 +146,7 @@ fn lowest(voltage: u32) -> post::Limits {
         charge: 1,
         discharge: 0,
         silence: 100,
+        sensor: Sensor::Measuring,
     }
 }
 
@@ -138,6 +170,7 @@ fn clocks(table: Table) {
 
 pub fn all() {
     insulation();
+    sensors();
     silences();
     orders();
     channels();

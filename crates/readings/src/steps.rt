@@ -7,6 +7,7 @@ use libc::STDOUT_FILENO;
 use pages::Refusal;
 use post::LastTime;
 use post::Limits;
+use post::Sensor;
 use post::SessionPart;
 use watch::Answer;
 use watch::Setting;
@@ -43,13 +44,18 @@ fn at(channel: u32, time: u32) {
 }
 
 // Default voltage 500.0 V, charge 100.0 A, discharge 50.0 A, W 500 ms.
-pub fn limits() -> Limits {
+pub fn limits_with(sensor: Sensor) -> Limits {
     Limits {
         voltage: 5000,
         charge: 1000,
         discharge: 500,
         silence: 500,
+        sensor,
     }
+}
+
+pub fn limits() -> Limits {
+    limits_with(Sensor::Measuring)
 }
 
 pub fn set_up(t: Table, post: u32, channel: u32, limits: Limits) -> Table {
@@ -105,6 +111,13 @@ fn last_time(l: LastTime) {
     }
 }
 
+fn sensor(x: Sensor) {
+    match x {
+        Sensor::Measuring => text(b"measuring, "),
+        Sensor::YesNo => text(b"yes/no, "),
+    }
+}
+
 fn session(s: SessionPart) {
     match s {
         SessionPart::Closed => text(b"no session\n"),
@@ -128,6 +141,9 @@ pub fn record(t: Table, post: u32) {
             text(b" -> channel ");
             natural(shown.channel as u64);
             text(b", ");
+            let limits = shown.limits;
+            let x = limits.sensor;
+            sensor(x);
             let l = shown.last;
             last_time(l);
             let s = shown.session;

@@ -10,7 +10,7 @@ use Rattle.pages.specs.declared.Refusal.{Refusal}
 use Rattle.pages.specs.declared.Refusal.the-variants.{ChannelFree, Earlier}
 use Rattle.pages.specs.declared.Judged.the-variants as judged
 use Rattle.pages.specs.Judge.{judgeOf}
-use Rattle.post.specs.declared.Limits.{Limits}
+use Rattle.post.specs.declared.PlainLimits.{PlainLimits}
 use Rattle.post.specs.declared.Post.{Post}
 use Rattle.post.specs.History.{History, earlierIn}
 use Rattle.post.specs.History as history
@@ -61,7 +61,7 @@ every-answer rs a = reply-right (run rs) (accepted rs) (run-kept rs) a
 pub every-record : (rs : List Request) (i : ℕ) → lookUpOf (run rs) i ≡ lookUp01 (accepted rs) i
 every-record rs i = lookUp-right (run rs) (accepted rs) i (run-kept rs)
 
-module _ (rs : List Request) (i c : ℕ) (lim : Limits) (h : History) (low : i < postCount) (own : standing i (accepted rs) ≡ held c lim h) where
+module _ (rs : List Request) (i c : ℕ) (lim : PlainLimits) (h : History) (low : i < postCount) (own : standing i (accepted rs) ≡ held c lim h) where
   feed-own : (t : ℕ) (a : Arrival) → feed01 (accepted rs) c t a ≡ answerIn (held c lim h) t a
   unfolding feed01
   feed-own t a =
@@ -98,7 +98,7 @@ counted-none i = standing-none i
 
 module _ (rs : List Request) (i : ℕ) where
   -- 01: "Setting up a post again .. starts an empty history."
-  pub counted-setUp : (c : ℕ) (lim : Limits) → reply (run rs) (setUp i c lim) ≡ set setting.Done → standing i (accepted (setUp i c lim ∷ rs)) ≡ held c lim []
+  pub counted-setUp : (c : ℕ) (lim : PlainLimits) → reply (run rs) (setUp i c lim) ≡ set setting.Done → standing i (accepted (setUp i c lim ∷ rs)) ≡ held c lim []
   unfolding accepted setUpSteps
   counted-setUp c lim q =
       let z : setUp01 (accepted rs) i c lim ≡ setting.Done = cc (every-answer rs (setUp i c lim)) in
@@ -111,7 +111,7 @@ module _ (rs : List Request) (i : ℕ) where
       let z : release01 (accepted rs) i ≡ setting.Done = cc (every-answer rs (release i)) in
       rw z (standing-release (accepted rs) i)
 
-  module _ (c : ℕ) (lim : Limits) (h : History) (own : standing i (accepted rs) ≡ held c lim h) (t found : ℕ) where
+  module _ (c : ℕ) (lim : PlainLimits) (h : History) (own : standing i (accepted rs) ≡ held c lim h) (t found : ℕ) where
     pub counted-tick : reply (run rs) (tick c t) ≡ fed (Findings found) → standing i (accepted (tick c t ∷ rs)) ≡ held c lim (history.tick t ∷ h)
     unfolding accepted feedSteps
     counted-tick q =
@@ -233,11 +233,11 @@ module _ (rs qs : List Request) (i : ℕ) (same : standing i (accepted rs) ≡ s
   pub alike-arrival : i < postCount → (c : ℕ) → holdsIn (standing i (accepted rs)) c ≡ true → (a : Request) → arrivesOn c a ≡ true → reply (run rs) a ≡ reply (run qs) a
   alike-arrival low c q a e = go (held-on (standing i (accepted rs)) c q) a e
     where
-      answers : (o : (lim : Limits) × (h : History) × (standing i (accepted rs) ≡ held c lim h)) (t : ℕ) (x : Arrival)
+      answers : (o : (lim : PlainLimits) × (h : History) × (standing i (accepted rs) ≡ held c lim h)) (t : ℕ) (x : Arrival)
           → feed01 (accepted rs) c t x ≡ feed01 (accepted qs) c t x
       answers o t x = feed-own rs i c (o .0) (o .1) low (o .2) t x ∙ sym (feed-own qs i c (o .0) (o .1) low (sym same ∙ o .2) t x)
 
-      go : (lim : Limits) × (h : History) × (standing i (accepted rs) ≡ held c lim h) → (x : Request) → arrivesOn c x ≡ true → reply (run rs) x ≡ reply (run qs) x
+      go : (lim : PlainLimits) × (h : History) × (standing i (accepted rs) ≡ held c lim h) → (x : Request) → arrivesOn c x ≡ true → reply (run rs) x ≡ reply (run qs) x
       go o (setUp k d lim) e′ = absurd (true≢false (sym e′))
       go o (release k) e′ = absurd (true≢false (sym e′))
       go o (frame d time m x bs) e′ =
@@ -245,18 +245,18 @@ module _ (rs qs : List Request) (i : ℕ) (same : standing i (accepted rs) ≡ s
       go o (tick d time) e′ =
           rw (eqb-true d c e′) (both rs qs (tick c time) (ap fed (answers o time Tick)))
 
-setUp-alike : (s z : Steps) (i c : ℕ) (lim : Limits) → otherHolds s i c 0 postCount ≡ otherHolds z i c 0 postCount → setUp01 s i c lim ≡ setUp01 z i c lim
+setUp-alike : (s z : Steps) (i c : ℕ) (lim : PlainLimits) → otherHolds s i c 0 postCount ≡ otherHolds z i c 0 postCount → setUp01 s i c lim ≡ setUp01 z i c lim
 unfolding setUp01
 setUp-alike s z i c lim same = rw same
 
 module _ (rs qs : List Request) (i c : ℕ) where
   pub alike-setUp : otherHolds (accepted rs) i c 0 postCount ≡ otherHolds (accepted qs) i c 0 postCount
-      → (lim : Limits) → reply (run rs) (setUp i c lim) ≡ reply (run qs) (setUp i c lim)
+      → (lim : PlainLimits) → reply (run rs) (setUp i c lim) ≡ reply (run qs) (setUp i c lim)
   alike-setUp same lim = both rs qs (setUp i c lim) (ap set (setUp-alike (accepted rs) (accepted qs) i c lim same))
 
   -- so that it suffices that each other post holds the channel after both runs or after neither
   pub alike-channels : ((j : ℕ) → j < postCount → (j ≡ i → ⊥) → holdsIn (standing j (accepted rs)) c ≡ holdsIn (standing j (accepted qs)) c)
-      → (lim : Limits) → reply (run rs) (setUp i c lim) ≡ reply (run qs) (setUp i c lim)
+      → (lim : PlainLimits) → reply (run rs) (setUp i c lim) ≡ reply (run qs) (setUp i c lim)
   alike-channels agree lim = alike-setUp (others-alike (accepted rs) (accepted qs) i c agree) lim
 
 -- ---- the same in the order in which requests come, oldest first

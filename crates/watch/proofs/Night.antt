@@ -14,10 +14,10 @@ use Rattle.signal.specs.Signal.{getBits}
 use Rattle.signal.specs.Payload.{numberOf}
 use Rattle.signal.specs.Twos.{toSigned}
 use Rattle.messages.specs.Parts.{statusIn, parametersIn, sessionIn, controlIn}
-use Rattle.post.specs.declared.Limits.{Limits}
+use Rattle.post.specs.declared.PlainLimits.{PlainLimits}
 use Rattle.post.specs.History.{History, sinceFinished, opening, inSession, earlierIn}
 use Rattle.post.specs.History as history
-use Rattle.post.specs.Judgements.{lowersBadly, outside, leaking, differs}
+use Rattle.post.specs.Judgements.{lowersBadly, outside, leaking, badInsulation, differs}
 use Rattle.post.specs.Rules.{sessionStatus, sessionControl, limitOf, f1, f2, f3, f4, f5, f6, f7, f8, f9, f10, f11, findings01}
 use Rattle.post.specs.Record.{recordOf}
 use Rattle.watch.specs.declared.Answer.the-variants.{Findings, Refused}
@@ -28,8 +28,8 @@ use Rattle.watch.specs.Run.{Request, setUp, frame, tick, set, fed, reply
 use Rattle.watch.proofs.Standings.{holder-is}
 use Rattle.watch.proofs.Demand.{every-answer, every-record, one-holder, own-tick, own-frame, own-unread, refused-nothing, others-record, nobody-holds, alike-record, alike-arrival, alike-setUp, counted-tick}
 
-abbrev limits : Limits
-limits = record { voltage = 5000; charge = 1000; discharge = 500; silence = 500 }
+abbrev limits : PlainLimits
+limits = record { voltage = 5000; charge = 1000; discharge = 500; silence = 500; sensor = 0 }
 
 -- newest first
 abbrev alone : List Request
@@ -57,7 +57,7 @@ computed : (standing 0 (accepted night) ≡ held 4 limits heard) × (standing 0 
     × (judgeOf 0x6b001 true (2 ∷ []) ≡ judged.Refused TooShort) × (setUp01 (accepted night) 2 4 limits ≡ setting.Refused ChannelTaken) × (holder (accepted night) 5 ≡ 8)
     × (judgeOf 0x63000 true status ≡ judged.Frame 0 allowed) × (findings01 limits heard (history.frame 501 0 allowed) ≡ 1)
     × (otherHolds (accepted night) 2 4 0 postCount ≡ otherHolds (accepted alone) 2 4 0 postCount) × (lookUp01 (accepted night) 0 ≡ record { answer = setting.Done; shown = recordOf 4 limits heard })
-unfolding standing findFrom holder otherHolds feed01 setUp01 release01 lookUp01 feedSteps setUpSteps releaseSteps limitsFit accepted sinceFinished opening inSession earlierIn lowersBadly outside leaking differs sessionStatus sessionControl limitOf f1 f2 f3 f4 f5 f6 f7 f8 f9 f10 f11 findings01 rows ofKind firstAt covered unlabelled strayBelow judgedNumber judgeOf wholesOf pad rawsOf getBits numberOf toSigned statusIn parametersIn sessionIn controlIn
+unfolding standing findFrom holder otherHolds feed01 setUp01 release01 lookUp01 feedSteps setUpSteps releaseSteps limitsFit accepted sinceFinished opening inSession earlierIn lowersBadly outside leaking badInsulation differs sessionStatus sessionControl limitOf f1 f2 f3 f4 f5 f6 f7 f8 f9 f10 f11 findings01 rows ofKind firstAt covered unlabelled strayBelow judgedNumber judgeOf wholesOf pad rawsOf getBits numberOf toSigned statusIn parametersIn sessionIn controlIn
 computed = (refl, refl, refl, refl, refl, refl, refl, refl, refl, refl, refl, refl, refl, refl)
 
 abbrev own : standing 0 (accepted night) ≡ held 4 limits heard

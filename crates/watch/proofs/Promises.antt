@@ -1,7 +1,7 @@
 -- Each operation's two promises: the second follows from the first.
 use Prim.Native.Nat.{ℕ}
 use mathlib.Core.Path.{_≡_, sym, subst, _∙_}
-use Rattle.post.specs.declared.Limits.{Limits}
+use Rattle.post.specs.declared.PlainLimits.{PlainLimits}
 use Rattle.watch.specs.declared.Table.{Table}
 use Rattle.watch.specs.declared.Fed.{Fed}
 use Rattle.watch.specs.declared.Settled.{Settled}
@@ -15,7 +15,7 @@ module _ (t : Table) where
   pub fed-both : (c time : ℕ) (a : Arrival) {r : Fed} → r ≡ feedOf t c time a → (r ≡ feedOf t c time a) × ((s : Steps) → Kept t s → FeedRight s c time a r)
   fed-both c time a e = (e, λ s kept. subst (FeedRight s c time a) (sym e) (feed-right t s c time a kept))
 
-  pub set-both : (i c : ℕ) (lim : Limits) {r : Settled} → r ≡ setUpOf t i c lim → (r ≡ setUpOf t i c lim) × ((s : Steps) → Kept t s → SetUpRight s i c lim r)
+  pub set-both : (i c : ℕ) (lim : PlainLimits) {r : Settled} → r ≡ setUpOf t i c lim → (r ≡ setUpOf t i c lim) × ((s : Steps) → Kept t s → SetUpRight s i c lim r)
   set-both i c lim e = (e, λ s kept. subst (SetUpRight s i c lim) (sym e) (setUp-right t s i c lim kept))
 
   pub released-both : (i : ℕ) {r : Settled} → r ≡ releaseOf t i → (r ≡ releaseOf t i) × ((s : Steps) → Kept t s → ReleaseRight s i r)

@@ -7,7 +7,7 @@ use lib.Dec.{leb}
 use lib.ListN.{getD}
 use lib.Seq.{set-getD}
 use Rattle.pages.specs.Judge.{judgeOf}
-use Rattle.post.specs.declared.Limits.{Limits}
+use Rattle.post.specs.declared.PlainLimits.{PlainLimits}
 use Rattle.post.specs.declared.Post.{Post}
 use Rattle.post.specs.Step.{isEarly}
 use Rattle.watch.specs.declared.Table.{Table}
@@ -64,7 +64,7 @@ module _ (t : Table) where
   abbrev SettledStays : Settled → Type 0
   SettledStays r = isRefusal (set (r .answer)) ≡ true → r .table ≡ t
 
-  setUp-stays : (i c : ℕ) (lim : Limits) → SettledStays (setUpOf t i c lim)
+  setUp-stays : (i c : ℕ) (lim : PlainLimits) → SettledStays (setUpOf t i c lim)
   unfolding setUpOf
   setUp-stays i c lim =
       either SettledStays (isPost i)

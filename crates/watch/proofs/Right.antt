@@ -5,7 +5,7 @@ use mathlib.Core.List.{[], _∷_}
 use mathlib.Core.Bool.{Bool, true, false, true≢false}
 use lib.Dec.{eqb}
 use borrow.Author.Tests.{eqb-true, ne-eqb}
-use Rattle.post.specs.declared.Limits.{Limits}
+use Rattle.post.specs.declared.PlainLimits.{PlainLimits}
 use Rattle.post.specs.History.{Event}
 use Rattle.watch.specs.declared.Table.{Table}
 use Rattle.watch.specs.declared.Answer.{Answer}
@@ -49,7 +49,7 @@ module _ (s : Steps) (sound : Sound s) where
     λ i h. over-release s InRange i k tt (sound .1 i h),
   )
 
-  sound-setUp : (k c : ℕ) (lim : Limits) → isChannel c ≡ true → otherHolds s k c 0 postCount ≡ false → limitsFit lim ≡ true → Sound (setUp k c lim ∷ s)
+  sound-setUp : (k c : ℕ) (lim : PlainLimits) → isChannel c ≡ true → otherHolds s k c 0 postCount ≡ false → limitsFit lim ≡ true → Sound (setUp k c lim ∷ s)
   unfolding Apart
   sound-setUp k c lim channel others fit = (apart-now, λ i h. over-setUp s InRange i k c lim (λ e. (channel, fit)) (λ ne. sound .1 i h))
     where
@@ -74,7 +74,7 @@ module _ (s : Steps) (sound : Sound s) where
   sound-released i setting.Done = sound-release i
   sound-released i (setting.Refused w) = sound
 
-  sound-set : (i c : ℕ) (lim : Limits) → Sound (setUpSteps s i c lim)
+  sound-set : (i c : ℕ) (lim : PlainLimits) → Sound (setUpSteps s i c lim)
   unfolding setUpSteps setUp01
   sound-set i c lim = go (isPost i) (isChannel c) (otherHolds s i c 0 postCount) (limitsFit lim) refl refl refl refl
     where
@@ -103,7 +103,7 @@ module _ (t : Table) (s : Steps) where
         kept = kept-sound _ _ (sound-fed s (sound-kept kept) c (eventIn time a) (feed01 s c time a)) (ap (λ (r : Fed). r .table) same);
       }
 
-  pub setUp-right : (i c : ℕ) (lim : Limits) → Kept t s → SetUpRight s i c lim (setUpOf t i c lim)
+  pub setUp-right : (i c : ℕ) (lim : PlainLimits) → Kept t s → SetUpRight s i c lim (setUpOf t i c lim)
   setUp-right i c lim kept =
       let same = ap (λ (u : Table). setUpOf u i c lim) (kept .table) ∙ setUp-look s (kept .apart) i c lim in
       record {

@@ -8,7 +8,7 @@ use mathlib.Core.Bool.{Bool, true, false, cond, not, _&&_, true≢false}
 use mathlib.Core.Option.{Option, none, some}
 use borrow.Author.Tests.{eqb-true, eqb-false, eq-eqb, ne-eqb, ltb-true, ltb-false, lt-ltb, le-ltb, not-true}
 use lib.Dec.{eqb, ltb}
-use Rattle.post.specs.declared.Limits.{Limits}
+use Rattle.post.specs.declared.PlainLimits.{PlainLimits}
 use Rattle.post.specs.History.{Event, History, newest, sinceNewest}
 use Rattle.watch.specs.Table.{postCount, isOther}
 use Rattle.watch.specs.Steps.{setUp, release, event, Steps, Standing, free, held, settingOf, standingFrom, standing, holdsIn, findFrom, holder, otherHolds, Apart}
@@ -20,9 +20,9 @@ unfolding standing
 standing-none i = refl
 
 abbrev Found : Type 0
-Found = Option (Option (ℕ × Limits))
+Found = Option (Option (ℕ × PlainLimits))
 
-quiet-setUp : (x : Found) (s : Steps) (i c : ℕ) (lim : Limits) → standingFrom x (setUp i c lim ∷ s) ≡ standingFrom x s
+quiet-setUp : (x : Found) (s : Steps) (i c : ℕ) (lim : PlainLimits) → standingFrom x (setUp i c lim ∷ s) ≡ standingFrom x s
 quiet-setUp none s i c lim = refl
 quiet-setUp (some none) s i c lim = refl
 quiet-setUp (some (some p)) s i c lim = refl
@@ -37,18 +37,18 @@ quiet-event none s c e q = refl
 quiet-event (some none) s c e q = refl
 quiet-event (some (some p)) s c e q = rw (ne-eqb c (p .0) (λ r. eqb-false (p .0) c q (sym r)))
 
-own-event : (x : Found) (s : Steps) (c : ℕ) (lim : Limits) (h : History) (e : Event) → standingFrom x s ≡ held c lim h → standingFrom x (event c e ∷ s) ≡ held c lim (e ∷ h)
+own-event : (x : Found) (s : Steps) (c : ℕ) (lim : PlainLimits) (h : History) (e : Event) → standingFrom x s ≡ held c lim h → standingFrom x (event c e ∷ s) ≡ held c lim (e ∷ h)
 own-event none s c lim h e q = cc
 own-event (some none) s c lim h e q = cc
 own-event (some (some p)) s c lim h e q = let z : c ≡ p .0 = cc in rw (eq-eqb c (p .0) z) (cc)
 
 module _ (s : Steps) where
   -- 01: "Setting up a post again .. starts an empty history."
-  pub standing-setUp : (i c : ℕ) (lim : Limits) → standing i (setUp i c lim ∷ s) ≡ held c lim []
+  pub standing-setUp : (i c : ℕ) (lim : PlainLimits) → standing i (setUp i c lim ∷ s) ≡ held c lim []
   unfolding standing
   standing-setUp i c lim = rw (eq-eqb i i refl)
 
-  pub standing-setUp-other : (i c : ℕ) (lim : Limits) (j : ℕ) → eqb i j ≡ false → standing j (setUp i c lim ∷ s) ≡ standing j s
+  pub standing-setUp-other : (i c : ℕ) (lim : PlainLimits) (j : ℕ) → eqb i j ≡ false → standing j (setUp i c lim ∷ s) ≡ standing j s
   unfolding standing
   standing-setUp-other i c lim j q = rw q (quiet-setUp (newest (settingOf j) s) (sinceNewest (settingOf j) s) i c lim)
 
@@ -62,7 +62,7 @@ module _ (s : Steps) where
   standing-release-other i j q = rw q (quiet-release (newest (settingOf j) s) (sinceNewest (settingOf j) s) i)
 
   -- 01: "A frame or tick goes to the post that holds its channel."
-  pub standing-event : (i c : ℕ) (lim : Limits) (h : History) (e : Event) → standing i s ≡ held c lim h → standing i (event c e ∷ s) ≡ held c lim (e ∷ h)
+  pub standing-event : (i c : ℕ) (lim : PlainLimits) (h : History) (e : Event) → standing i s ≡ held c lim h → standing i (event c e ∷ s) ≡ held c lim (e ∷ h)
   unfolding standing
   standing-event i c lim h e q = own-event (newest (settingOf i) s) (sinceNewest (settingOf i) s) c lim h e q
 
@@ -71,14 +71,14 @@ module _ (s : Steps) where
   standing-event-other c e j q = quiet-event (newest (settingOf j) s) (sinceNewest (settingOf j) s) c e q
 
 -- a standing that holds a channel is a set-up on it
-pub held-on : (x : Standing) (c : ℕ) → holdsIn x c ≡ true → (lim : Limits) × (h : History) × (x ≡ held c lim h)
+pub held-on : (x : Standing) (c : ℕ) → holdsIn x c ≡ true → (lim : PlainLimits) × (h : History) × (x ≡ held c lim h)
 held-on free c q = absurd (true≢false (sym q))
 held-on (held d lim h) c q = (lim, h, rw (eqb-true d c q))
 
 -- ---- a fact of every standing, carried over one step more
 
 module _ (s : Steps) (P : Standing → Type 0) (j : ℕ) where
-  pub over-setUp : (i c : ℕ) (lim : Limits) → (i ≡ j → P (held c lim [])) → ((i ≡ j → ⊥) → P (standing j s)) → P (standing j (setUp i c lim ∷ s))
+  pub over-setUp : (i c : ℕ) (lim : PlainLimits) → (i ≡ j → P (held c lim [])) → ((i ≡ j → ⊥) → P (standing j s)) → P (standing j (setUp i c lim ∷ s))
   over-setUp i c lim here there = go (ℕ-discrete i j)
     where
       go : Dec (i ≡ j) → P (standing j (setUp i c lim ∷ s))
@@ -92,7 +92,7 @@ module _ (s : Steps) (P : Standing → Type 0) (j : ℕ) where
       go (yes e) = subst (λ (k : ℕ). P (standing j (release k ∷ s))) (sym e) (subst P (sym (standing-release s j)) here)
       go (no ne) = subst P (sym (standing-release-other s i j (ne-eqb i j ne))) there
 
-  pub over-event : (c : ℕ) (e : Event) → ((lim : Limits) (h : History) → P (held c lim h) → P (held c lim (e ∷ h))) → P (standing j s) → P (standing j (event c e ∷ s))
+  pub over-event : (c : ℕ) (e : Event) → ((lim : PlainLimits) (h : History) → P (held c lim h) → P (held c lim (e ∷ h))) → P (standing j s) → P (standing j (event c e ∷ s))
   over-event c e more before = go (holdsIn (standing j s) c) refl
     where
       go : (b : Bool) → holdsIn (standing j s) c ≡ b → P (standing j (event c e ∷ s))

@@ -10,7 +10,7 @@ use lib.ListN.{getD}
 use lib.Seq.{set-getD}
 use borrow.Author.Tests.{eqb-true, eqb-false, eq-eqb, ne-eqb, ltb-true, ltb-false, le-leb, lt-leb}
 use Rattle.pages.specs.declared.Refusal.the-variants.{NotSetUp}
-use Rattle.post.specs.declared.Limits.{Limits}
+use Rattle.post.specs.declared.PlainLimits.{PlainLimits}
 use Rattle.post.specs.declared.Post.{Post}
 use Rattle.post.specs.History.{Event, frame, tick, History, earlierIn, countFrom}
 use Rattle.post.specs.Record.{postOf}
@@ -80,7 +80,7 @@ module _ (s : Steps) where
 -- ---- frames, ticks and set-ups, where no channel is held twice
 
 module _ (s : Steps) (apart : Apart s) where
-  module _ (i c : ℕ) (lim : Limits) (h : History) (low : i < postCount) (own : standing i s ≡ held c lim h) where
+  module _ (i c : ℕ) (lim : PlainLimits) (h : History) (low : i < postCount) (own : standing i s ≡ held c lim h) where
     table-event : (e : Event) → putIn (tableOf s) i (postOf c lim (e ∷ h)) ≡ tableOf (event c e ∷ s)
     table-event e =
         table-put s (event c e ∷ s) i (postOf c lim (e ∷ h))
@@ -117,13 +117,13 @@ module _ (s : Steps) (apart : Apart s) where
           let o = held-on (standing (holder s c) s) c (holder-holds s c h) in
           rw (e, place-look s c, f, lt-leb postCount (holder s c) h, post-at s (holder s c) h, o .2) (heard-look (holder s c) c (o .0) (o .1) h (o .2) t a)
 
-  table-setUp : (i c : ℕ) (lim : Limits) → putIn (tableOf s) i (freshPost c lim) ≡ tableOf (setUp i c lim ∷ s)
+  table-setUp : (i c : ℕ) (lim : PlainLimits) → putIn (tableOf s) i (freshPost c lim) ≡ tableOf (setUp i c lim ∷ s)
   table-setUp i c lim =
       table-put s (setUp i c lim ∷ s) i (freshPost c lim)
       (ap keptPost (standing-setUp s i c lim) ∙ sym (fresh-look c lim))
       (λ j hj ne. standing-setUp-other s i c lim j (ne-eqb i j (λ e. ne (sym e))))
 
-  pub setUp-look : (i c : ℕ) (lim : Limits) → setUpOf (tableOf s) i c lim ≡ record { table = tableOf (setUpSteps s i c lim); answer = setUp01 s i c lim }
+  pub setUp-look : (i c : ℕ) (lim : PlainLimits) → setUpOf (tableOf s) i c lim ≡ record { table = tableOf (setUpSteps s i c lim); answer = setUp01 s i c lim }
   unfolding setUpOf setUp01 setUpSteps
   setUp-look i c lim = go (isPost i) (isChannel c) (otherHolds s i c 0 postCount) (limitsFit lim) refl refl refl refl
     where

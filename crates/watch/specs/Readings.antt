@@ -1,9 +1,9 @@
--- 01, "Readings from both sides of each edge": E1* to E13*, and 02, Req 02: one table under one statement, closed by computing the definitions. What the watch answers is read by looking back.
+-- 01, "Readings from both sides of each edge": E1* to E13*, and 02, Req 02 and 03: one table under one statement, closed by computing the definitions. What the watch answers is read by looking back.
 use Prim.Native.Nat.{ℕ}
 use mathlib.Core.Path.{_≡_, refl}
 use mathlib.Core.Bool.{Bool, true, false}
 use mathlib.Core.List.{List, [], _∷_}
-use Rattle.pages.specs.declared.Refusal.the-variants.{TooShort, TooLong, NoLabel, ChannelTaken}
+use Rattle.pages.specs.declared.Refusal.the-variants.{TooShort, TooLong, NoLabel, ChannelTaken, LimitOutside}
 use Rattle.pages.specs.Table.{rows, ofKind, firstAt, covered}
 use Rattle.pages.specs.Judge.{unlabelled, offender, strayBelow, judgedNumber, judgeOf}
 use Rattle.pages.specs.Raws.{wholesOf, pad, rawsOf}
@@ -12,9 +12,11 @@ use Rattle.signal.specs.Payload.{numberOf}
 use Rattle.signal.specs.Twos.{toSigned}
 use Rattle.messages.specs.Parts.{statusIn, parametersIn, sessionIn, controlIn}
 use Rattle.messages.specs.Readings as messages
-use Rattle.post.specs.declared.Limits.{Limits}
+use Rattle.post.specs.declared.PlainLimits.{PlainLimits}
+use Rattle.post.specs.declared.Sensor.{Sensor}
+use Rattle.post.specs.declared.Sensor.the-variants.{Measuring, YesNo}
 use Rattle.post.specs.History.{sinceFinished, opening, inSession, earlierIn}
-use Rattle.post.specs.Judgements.{lowersBadly, outside, leaking, differs}
+use Rattle.post.specs.Judgements.{lowersBadly, outside, leaking, badInsulation, differs}
 use Rattle.post.specs.Rules.{sessionStatus, sessionControl, limitOf, f1, f2, f3, f4, f5, f6, f7, f8, f9, f10, f11, findings01}
 use Rattle.post.specs.Record.{recordOf}
 use Rattle.watch.specs.declared.Answer.the-variants.{Findings, Refused}
@@ -24,24 +26,29 @@ use Rattle.watch.specs.Table.{limitsFit}
 use Rattle.watch.specs.Steps.{standing, findFrom, holder, otherHolds, feed01, setUp01, release01, lookUp01, feedSteps, setUpSteps, releaseSteps}
 use Rattle.watch.specs.Run.{Request, setUp, release, frame, tick, Reply, set, fed, acceptedFrom, replies01From}
 
--- a reading of frames and messages (E1 to E7); requests to the empty table in order of arrival, with their replies; such requests, and a post's record after them
+-- a reading of frames and messages (E1 to E7); requests to the empty table in order of arrival, with their replies; such requests, and a post's record after them, or the sensor kind in it
 pub data Case : Type 0 where
   codec : messages.Case → Case
   answers : List Request → List Reply → Case
   shows : List Request → ℕ → LookedUp → Case
+  senses : List Request → ℕ → Sensor → Case
 
 abbrev pub Holds : Case → Type 0
 Holds (codec c) = messages.Holds c
 Holds (answers asked replies) = replies01From [] asked ≡ replies
 Holds (shows asked post shown) = lookUp01 (acceptedFrom [] asked) post ≡ shown
+Holds (senses asked post sensor) = lookUp01 (acceptedFrom [] asked) post .shown .limits .sensor ≡ sensor
 
 abbrev pub All : List Case → Type 0
 All [] = Unit {0}
 All (c ∷ cs) = Holds c × All cs
 
--- default voltage 500.0 V, charge 100.0 A, discharge 50.0 A, W 500 ms
-abbrev limits : Limits
-limits = record { voltage = 5000; charge = 1000; discharge = 500; silence = 500 }
+-- default voltage 500.0 V, charge 100.0 A, discharge 50.0 A, W 500 ms, and a sensor kind by its number
+abbrev limitsWith : ℕ → PlainLimits
+limitsWith n = record { voltage = 5000; charge = 1000; discharge = 500; silence = 500; sensor = n }
+
+abbrev limits : PlainLimits
+limits = limitsWith 0
 
 abbrev done : Reply
 done = set setting.Done
@@ -69,6 +76,10 @@ control t low high last = frame 4 t 0x6b003 true (low ∷ high ∷ 0 ∷ 0 ∷ 0
 abbrev set-up : Request
 set-up = setUp 0 4 limits
 
+-- post 0 with a sensor kind by its number
+abbrev sensing : ℕ → Request
+sensing n = setUp 0 4 (limitsWith n)
+
 abbrev e1to7 : List messages.Case → List Case → List Case
 e1to7 [] rest = rest
 e1to7 (c ∷ cs) rest = codec c ∷ e1to7 cs rest
@@ -94,6 +105,19 @@ e8to13 =
     -- 02, Req 02: the watch hands the start bit on, "lowest start first"; a byte too few is 4, one too many 15
     ∷ answers (set-up ∷ frame 4 0 0x6b001 true (8 ∷ 5 ∷ []) ∷ frame 4 0 0x6b001 true (2 ∷ 5 ∷ []) ∷ frame 4 0 0x6b001 true (8 ∷ []) ∷ frame 4 0 0x6b001 true (8 ∷ 5 ∷ 0 ∷ []) ∷ [])
     (done ∷ fed (Refused (NoLabel 0)) ∷ fed (Refused (NoLabel 8)) ∷ fed (Refused TooShort) ∷ fed (Refused TooLong) ∷ [])
+    -- 02, Req 03: under precharge at 0 V raw 0 and raw 1 have no F9 on a measuring post, which has it at raw 24 of voltage raw 5000
+    ∷ answers (sensing 0 ∷ session 0 ∷ control 10 0x88 0x13 0x01 ∷ status 20 0 0 0 ∷ control 30 0x88 0x13 0x04 ∷ status 40 0 0 0 ∷ status 50 0 0 1 ∷ status 60 0x88 0x13 24 ∷ [])
+    (done ∷ found 0 ∷ found 0 ∷ found 0 ∷ found 0 ∷ found 0 ∷ found 0 ∷ found 256 ∷ [])
+    -- on a yes/no post raw 0 has F9 at 0 V and at raw 5000, raw 1 at neither; under standby raw 0 has none
+    ∷ answers (sensing 1 ∷ session 0 ∷ control 10 0x88 0x13 0x01 ∷ status 20 0 0 0 ∷ control 30 0x88 0x13 0x04 ∷ status 40 0 0 0 ∷ status 50 0 0 1 ∷ status 60 0x88 0x13 0 ∷ status 70 0x88 0x13 1 ∷ [])
+    (done ∷ found 0 ∷ found 0 ∷ found 0 ∷ found 0 ∷ found 256 ∷ found 0 ∷ found 256 ∷ found 0 ∷ [])
+    -- a number that is no sensor kind gets 12, and the post stays as it was
+    ∷ answers (sensing 1 ∷ session 0 ∷ status 10 0 0 255 ∷ control 20 0x88 0x13 0x04 ∷ sensing 2 ∷ status 30 0 0 0 ∷ [])
+    (done ∷ found 0 ∷ found 0 ∷ found 0 ∷ set (setting.Refused LimitOutside) ∷ found 256 ∷ [])
+    ∷ senses (sensing 1 ∷ sensing 2 ∷ []) 0 YesNo
+    -- the record shows the kind of the latest set-up
+    ∷ senses (sensing 0 ∷ sensing 1 ∷ []) 0 YesNo
+    ∷ senses (sensing 1 ∷ sensing 0 ∷ []) 0 Measuring
     ∷ []
 
 abbrev pub table : List Case
@@ -105,5 +129,5 @@ joined [] rest a b = b
 joined (c ∷ cs) rest a b = (a .0, joined cs rest (a .1) b)
 
 pub readings : All table
-unfolding standing findFrom holder otherHolds feed01 setUp01 release01 lookUp01 feedSteps setUpSteps releaseSteps limitsFit sinceFinished opening inSession earlierIn lowersBadly outside leaking differs sessionStatus sessionControl limitOf f1 f2 f3 f4 f5 f6 f7 f8 f9 f10 f11 findings01 recordOf statusIn parametersIn sessionIn controlIn rows ofKind firstAt covered unlabelled offender strayBelow judgedNumber judgeOf wholesOf pad rawsOf getBits numberOf toSigned
-readings = joined messages.table e8to13 messages.readings (refl, (refl, (refl, (refl, (refl, (refl, (refl, (refl, (refl, (refl, tt))))))))))
+unfolding standing findFrom holder otherHolds feed01 setUp01 release01 lookUp01 feedSteps setUpSteps releaseSteps limitsFit sinceFinished opening inSession earlierIn lowersBadly outside leaking badInsulation differs sessionStatus sessionControl limitOf f1 f2 f3 f4 f5 f6 f7 f8 f9 f10 f11 findings01 recordOf statusIn parametersIn sessionIn controlIn rows ofKind firstAt covered unlabelled offender strayBelow judgedNumber judgeOf wholesOf pad rawsOf getBits numberOf toSigned
+readings = joined messages.table e8to13 messages.readings (refl, (refl, (refl, (refl, (refl, (refl, (refl, (refl, (refl, (refl, (refl, (refl, (refl, (refl, (refl, (refl, tt))))))))))))))))

@@ -6,7 +6,7 @@ use mathlib.Core.Path.{_≡_}
 use lib.Dec.{eqb}
 use lib.ListN.{getD}
 use Rattle.pages.specs.Judge.{judgeOf}
-use Rattle.post.specs.declared.Limits.{Limits}
+use Rattle.post.specs.declared.PlainLimits.{PlainLimits}
 use Rattle.post.specs.declared.Post.{Post}
 use Rattle.watch.specs.declared.Table.{Table}
 use Rattle.watch.specs.declared.Answer.{Answer}
@@ -19,7 +19,7 @@ use Rattle.watch.specs.Steps.{Steps, standing, holdsIn, feed01, setUp01,
 
 -- post, channel, limits; post; channel, time, identifier, extended or not, payload; channel, time
 pub data Request : Type 0 where
-  setUp : ℕ → ℕ → Limits → Request
+  setUp : ℕ → ℕ → PlainLimits → Request
   release : ℕ → Request
   frame : ℕ → ℕ → ℕ → Bool → List ℕ → Request
   tick : ℕ → ℕ → Request

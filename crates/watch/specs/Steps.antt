@@ -7,7 +7,7 @@ use mathlib.Core.Option.{Option, none, some}
 use lib.Dec.{ltb, leb, eqb}
 use Rattle.pages.specs.declared.Refusal.{Refusal}
 use Rattle.pages.specs.declared.Refusal.the-variants.{ChannelFree, Earlier, NoSuchPost, NoSuchChannel, ChannelTaken, LimitOutside, NotSetUp}
-use Rattle.post.specs.declared.Limits.{Limits}
+use Rattle.post.specs.declared.PlainLimits.{PlainLimits}
 use Rattle.post.specs.declared.Post.{Post}
 use Rattle.post.specs.History.{Event, frame, tick, History, newest, sinceNewest, earlierIn, countFrom}
 use Rattle.post.specs.Rules.{findings01}
@@ -29,7 +29,7 @@ use Rattle.watch.specs.Table.{postCount, isChannel, isPost, limitsFit, n
 
 -- post, channel and limits; post; channel and event
 pub data Step : Type 0 where
-  setUp : ℕ → ℕ → Limits → Step
+  setUp : ℕ → ℕ → PlainLimits → Step
   release : ℕ → Step
   event : ℕ → Event → Step
 
@@ -39,10 +39,10 @@ Steps = List Step
 -- a post as its steps left it: not set up, or on a channel with limits and its own accepted events since that set-up
 pub data Standing : Type 0 where
   free : Standing
-  held : ℕ → Limits → History → Standing
+  held : ℕ → PlainLimits → History → Standing
 
 -- a set-up of post i, or its release
-abbrev pub settingOf : ℕ → Step → Option (Option (ℕ × Limits))
+abbrev pub settingOf : ℕ → Step → Option (Option (ℕ × PlainLimits))
 settingOf i (setUp j c lim) = cond (eqb j i) (some (some (c, lim))) none
 settingOf i (release j) = cond (eqb j i) (some none) none
 settingOf i (event c e) = none
@@ -54,7 +54,7 @@ eventsOn c (setUp j d lim ∷ s) = eventsOn c s
 eventsOn c (release j ∷ s) = eventsOn c s
 eventsOn c (event d e ∷ s) = cond (eqb d c) (e ∷ eventsOn c s) (eventsOn c s)
 
-abbrev pub standingFrom : Option (Option (ℕ × Limits)) → Steps → Standing
+abbrev pub standingFrom : Option (Option (ℕ × PlainLimits)) → Steps → Standing
 standingFrom none s = free
 standingFrom (some none) s = free
 standingFrom (some (some p)) s = held (p .0) (p .1) (eventsOn (p .0) s)
@@ -85,7 +85,7 @@ otherHolds s i c k (suc n) = cond (not (eqb k i) && holdsIn (standing k s) c) tr
 -- ---- 01's answers
 
 -- the findings, or the reader's refusal
-abbrev pub found01 : Limits → History → ℕ → Arrival → Answer
+abbrev pub found01 : PlainLimits → History → ℕ → Arrival → Answer
 found01 lim h t Tick = Findings (findings01 lim h (tick t))
 found01 lim h t (Frame k n) = Findings (findings01 lim h (frame t k n))
 found01 lim h t (Unread w) = Refused w
@@ -99,7 +99,7 @@ unfoldable pub feed01 : Steps → ℕ → ℕ → Arrival → Answer
 feed01 s c t a = cond (isChannel c && ltb (holder s c) postCount) (answerIn (standing (holder s c) s) t a) (Refused ChannelFree)
 
 -- 9, 10, 11, 12
-unfoldable pub setUp01 : Steps → ℕ → ℕ → Limits → Setting
+unfoldable pub setUp01 : Steps → ℕ → ℕ → PlainLimits → Setting
 setUp01 s i c lim =
     cond (isPost i)
     (cond (isChannel c)
@@ -142,7 +142,7 @@ abbrev pub ifDone : Setting → Step → Steps → Steps
 ifDone setting.Done x s = x ∷ s
 ifDone (setting.Refused w) x s = s
 
-unfoldable pub setUpSteps : Steps → ℕ → ℕ → Limits → Steps
+unfoldable pub setUpSteps : Steps → ℕ → ℕ → PlainLimits → Steps
 setUpSteps s i c lim = ifDone (setUp01 s i c lim) (setUp i c lim) s
 
 unfoldable pub releaseSteps : Steps → ℕ → Steps
@@ -178,7 +178,7 @@ pub record FeedRight (s : Steps) (c t : ℕ) (a : Arrival) (r : Fed) : Type 0 wh
   pub answer : r .answer ≡ feed01 s c t a
   pub kept : Kept (r .table) (feedSteps s c t a)
 
-pub record SetUpRight (s : Steps) (i c : ℕ) (lim : Limits) (r : Settled) : Type 0 where
+pub record SetUpRight (s : Steps) (i c : ℕ) (lim : PlainLimits) (r : Settled) : Type 0 where
   pub answer : r .answer ≡ setUp01 s i c lim
   pub kept : Kept (r .table) (setUpSteps s i c lim)
 

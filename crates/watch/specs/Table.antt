@@ -8,7 +8,7 @@ use Rattle.pages.specs.declared.Refusal.{Refusal}
 use Rattle.pages.specs.declared.Refusal.the-variants.{ChannelFree, Earlier, NoSuchPost, NoSuchChannel, ChannelTaken, LimitOutside, NotSetUp}
 use Rattle.pages.specs.declared.Judged.{Judged}
 use Rattle.pages.specs.declared.Judged.the-variants as judged
-use Rattle.post.specs.declared.Limits.{Limits}
+use Rattle.post.specs.declared.PlainLimits.{PlainLimits}
 use Rattle.post.specs.declared.Post.{Post}
 use Rattle.post.specs.declared.Stepped.{Stepped}
 use Rattle.post.specs.declared.Record.{Record}
@@ -84,13 +84,14 @@ feedOf t c time a = cond (isChannel c) (feedAt t (placeOf (t .posts) c) time a) 
 abbrev pub emptyTable : Table
 emptyTable = record { posts = replicate postCount freePost }
 
--- 01: "default voltage 1 to 65,535 tenths of a volt, default charge current 1 to 32,767 tenths of an ampere, default discharge current 0 to 32,767, power module silence W 100 to 60,000 ms"
-unfoldable pub limitsFit : Limits → Bool
+-- 01: "default voltage 1 to 65,535 tenths of a volt, default charge current 1 to 32,767 tenths of an ampere, default discharge current 0 to 32,767, power module silence W 100 to 60,000 ms"; 02, Req 03: a sensor kind by its number
+unfoldable pub limitsFit : PlainLimits → Bool
 limitsFit lim =
     leb 1 (lim .voltage) && (leb (lim .voltage) 65535
     && (leb 1 (lim .charge) && (leb (lim .charge) 32767
     && (leb (lim .discharge) 32767
-    && (leb 100 (lim .silence) && leb (lim .silence) 60000)))))
+    && (leb 100 (lim .silence) && (leb (lim .silence) 60000
+    && leb (lim .sensor) 1))))))
 
 -- a place of the table, and another than i
 unfoldable pub isOther : ℕ → ℕ → Bool
@@ -105,7 +106,7 @@ unsettled t w = record { table = t; answer = setting.Refused w }
 abbrev pub settled : Table → Settled
 settled t = record { table = t; answer = setting.Done }
 
-unfoldable pub setUpOf : Table → ℕ → ℕ → Limits → Settled
+unfoldable pub setUpOf : Table → ℕ → ℕ → PlainLimits → Settled
 setUpOf t i c lim =
     cond (isPost i)
     (cond (isChannel c)

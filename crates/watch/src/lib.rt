@@ -7,12 +7,14 @@ ghost use Prim.Native.Nat.{_<_, _≤_};
 ghost use Rattle.watch.specs.Table.{holds, placeOf, putIn, heardOf, arrivalOf, feedOf, emptyTable, limitsFit, isOther, setUpOf, releaseOf, lookUpOf, noRecord};
 ghost use Rattle.watch.specs.Steps.{Steps, Kept, FeedRight, SetUpRight, ReleaseRight, lookUp01};
 ghost use Rattle.pages.specs.Judge.{judgeOf};
+ghost use Rattle.post.specs.Sensor.{plainOf};
 use pages::Judged;
 use pages::Refusal;
 use post::Dated;
 use post::LastTime;
 use post::Latest;
 use post::Limits;
+use post::PlainLimits;
 use post::Post;
 use post::Record;
 use post::Session;
@@ -193,7 +195,7 @@ pub fn tick(t: Table, channel: u32, time: u32) -> Fed
     feed(t, channel, time, Arrival::Tick)
 }
 
-fn limits_fit(lim: Limits) -> bool
+fn limits_fit(lim: PlainLimits) -> bool
     ensures { λ r. ⌜ r ≡ limitsFit lim ⌝ }
 {
     if lim.voltage < 1 {
@@ -214,7 +216,10 @@ fn limits_fit(lim: Limits) -> bool
     if lim.silence < 100 {
         return false;
     }
-    lim.silence <= 60000
+    if 60000 < lim.silence {
+        return false;
+    }
+    lim.sensor <= 1
 }
 
 // Whether a place is a post's, and another's than the post i.
@@ -228,8 +233,8 @@ fn other(at: usize, i: u32) -> bool
     }
 }
 
-// "Set-up gives 9 to 12."
-pub fn set_up(t: Table, post: u32, channel: u32, limits: Limits) -> Settled
+// "Set-up gives 9 to 12." The sensor kind comes as a number, and one that is no kind is a limit outside its range.
+pub fn set_up_plain(t: Table, post: u32, channel: u32, limits: PlainLimits) -> Settled
     ensures by_record { λ r. ⌜ r ≡ setUpOf t post channel limits ⌝ }
     ensures by_history { λ r. ⌜ ((s : Steps) → Kept t s → SetUpRight s post channel limits r) ⌝ }
 {
@@ -262,6 +267,15 @@ pub fn set_up(t: Table, post: u32, channel: u32, limits: Limits) -> Settled
         table: u,
         answer: Setting::Done,
     }
+}
+
+// The same with the sensor kind by its name.
+pub fn set_up(t: Table, post: u32, channel: u32, limits: Limits) -> Settled
+    ensures by_record { λ r. ⌜ r ≡ setUpOf t post channel (plainOf limits) ⌝ }
+    ensures by_history { λ r. ⌜ ((s : Steps) → Kept t s → SetUpRight s post channel (plainOf limits) r) ⌝ }
+{
+    let kept = post::kept::plain(limits);
+    set_up_plain(t, post, channel, kept)
 }
 
 // "Release and looking up a record give 9 or 14."

@@ -1,18 +1,18 @@
--- `gateway::settled` meets its contract, by what `set_up` ensures.
+-- `gateway::settled` meets its contract, by what `set_up_plain` ensures.
 use borrow.Author.Needs.{needs}
 use Rattle.gateway.specs.Lent.{setUpWord}
 use Rattle.gateway.proofs.settled.Statement.{statement}
 use Rattle.gateway.proofs.settled.Tie as tie
 
-set-up-requires : tie.Need-set-up-requires
-set-up-requires c κs = search needs
+set-up-plain-requires : tie.Need-set-up-plain-requires
+set-up-plain-requires c κs = search needs
 
 setting-word-requires : tie.Need-setting-word-requires
 setting-word-requires c κs = search needs
 
 returns : tie.Need-returns
 unfolding setUpWord
-returns c = rw (← c .before .before .set-up .ensures .0, c .setting-word .ensures)
+returns c = rw (← c .before .before .set-up-plain .ensures .0, c .setting-word .ensures)
 
 pub settled-spec : {M : Type 1} → statement M
-settled-spec = tie.close (tie.spec set-up-requires setting-word-requires returns)
+settled-spec = tie.close (tie.spec set-up-plain-requires setting-word-requires returns)

@@ -14,6 +14,9 @@ charge-limit-requires c κs = search needs
 discharge-limit-requires : tie.Need-discharge-limit-requires
 discharge-limit-requires c κs = search needs
 
+sensor-of-requires : tie.Need-sensor-of-requires
+sensor-of-requires c κs = search needs
+
 is-outside-requires : tie.Need-is-outside-requires
 is-outside-requires c κs = search needs
 
@@ -26,8 +29,8 @@ flag-requires c κs = search needs
 carrying-session-requires : tie.Need-carrying-session-requires
 carrying-session-requires c κs = search needs
 
-is-leaking-requires : tie.Need-is-leaking-requires
-is-leaking-requires c κs = search needs
+insulates-badly-requires : tie.Need-insulates-badly-requires
+insulates-badly-requires c κs = search needs
 
 both-requires-2 : tie.Need-both-requires-2
 both-requires-2 c κs = search needs
@@ -44,16 +47,18 @@ returns c =
     let l = c .before .before in
     let g = l .before .before in
     let o = g .before .before in
-    let d = o .before .before in (
+    let k = o .before .before in
+    let d = k .before in (
       search (
         needs,
         c .flag2 .ensures .0,
         c .before .both2 .ensures,
-        l .is-leaking .ensures,
+        l .insulates-badly .ensures,
         l .before .carrying-session .ensures,
         g .flag .ensures .0,
         g .before .both .ensures,
         o .is-outside .ensures,
+        k .sensor-of .ensures,
         d .discharge-limit .ensures,
         d .before .charge-limit .ensures,
       ),
@@ -67,11 +72,12 @@ status-findings-spec =
     element-copy-out-l
     charge-limit-requires
     discharge-limit-requires
+    sensor-of-requires
     is-outside-requires
     both-requires
     flag-requires
     carrying-session-requires
-    is-leaking-requires
+    insulates-badly-requires
     both-requires-2
     flag-requires-2
     add-result

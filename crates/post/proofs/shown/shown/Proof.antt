@@ -55,6 +55,9 @@ loop-again c =
     let a = c .before .before .before in
     (search needs, rw (a .loop .inv .1, c .dated .ensures) (filled-next (shownIn (a .before .args .t1)) nothing (a .loop .k) kindCount))
 
+limits-in-requires : tie.Need-limits-in-requires Inv-loop μ-loop
+limits-in-requires c κs = search needs
+
 part-requires : tie.Need-part-requires Inv-loop μ-loop
 part-requires c κs = search needs
 
@@ -64,8 +67,9 @@ last-time-requires c κs = search needs
 returns : tie.Need-returns Inv-loop μ-loop
 unfolding recordIn
 returns c =
-    let a = c .before .before .before .before .before in
-    rw (c .last-time .ensures, c .before .part .ensures, a .loop .inv .1, filled-all (shownIn (a .before .args .t1)) nothing (a .loop .k) kindCount (search needs))
+    let l = c .before .before .before in
+    let a = l .before .before .before in
+    rw (c .last-time .ensures, c .before .part .ensures, l .limits-in .ensures, a .loop .inv .1, filled-all (shownIn (a .before .args .t1)) nothing (a .loop .k) kindCount (search needs))
 
 pub shown-spec : {M : Type 1} → statement M
 shown-spec =
@@ -82,6 +86,7 @@ shown-spec =
     add-k
     loop-less
     loop-again
+    limits-in-requires
     part-requires
     last-time-requires
     returns)
