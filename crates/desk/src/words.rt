@@ -44,7 +44,7 @@ fn finding_high(out: &mut [u8], pen: Pen, k: u32) -> Pen {
         9 => text::put(
             out,
             pen,
-            b"insulation under 100 Ohm per volt in precharge or power transfer",
+            b"insulation under 100 Ohm per volt, or Invalid by a yes/no sensor, in precharge or power transfer",
         ),
         10 => text::put(
             out,
