@@ -69,16 +69,19 @@ enum rokemaipu_kind {
     ROKEMAIPU_PT1000_STATE = 11            /* standard 8 */
 };
 
-/* The raw numbers of the safety controller's messages, in the order of the maker's page. A flag is 0 or 1.
+/* The raw numbers of the safety controller's messages by their places, in the order of the maker's page. Where no numbers are named, it is a
+ * flag, 0 or 1.
  *
- *   CHARGE_CONTROL_1  0 target duty, tenths of a percent, 0 to 1,023 (the safety controller takes those above 1,000 as 1,000); 1 PWM active;
- *                     2 contactor 1, 3 contactor 2
- *   CHARGE_STATE_1    0 current duty, 1 PWM active; 2 state of the control pilot, 0 unknown, 1 to 6 A to F, 7 invalid; 3 CP short circuit,
- *                     4 diode fault; 5 state of the proximity pin, 0 no cable, 1 13 A, 2 20 A, 3 32 A, 4 63/70 A, 5 type 1 connected,
- *                     6 the same with its button pressed, 7 error; 6 contactor 1, 7 contactor 2, 8 and 9 their errors; charging aborted by
- *                     10 to 12 emergency stop 1 to 3, 13 IMD or RCM; 14 its test failed
- *   PT1000_STATE      0 temperature of probe 1, tenths of a degree Celsius, -8,192 to 8,191, where 8,191 says that it is not used; 1 it stops
- *                     charging, 2 its self-test failed; 3 to 5, 6 to 8, 9 to 11 the same of probes 2, 3, 4 */
+ *   CHARGE_CONTROL_1  [0] target duty, tenths of a percent, 0 to 1,023; what is above 1,000 the safety controller takes as 1,000
+ *                     [1] PWM active  [2] contactor 1  [3] contactor 2
+ *   CHARGE_STATE_1    [0] current duty, likewise  [1] PWM active
+ *                     [2] control pilot: 0 unknown, 1 A, 2 B, 3 C, 4 D, 5 E, 6 F, 7 invalid
+ *                     [3] pilot's short circuit  [4] diode fault
+ *                     [5] proximity pin: 0 no cable, 1 13 A, 2 20 A, 3 32 A, 4 63/70 A, 5 type 1, 6 type 1 with its button pressed, 7 error
+ *                     [6] contactor 1  [7] contactor 2  [8] contactor 1's error  [9] contactor 2's error
+ *                     charging aborted by [10] emergency stop 1  [11] 2  [12] 3  [13] IMD or RCM;  [14] the test of IMD or RCM failed
+ *   PT1000_STATE      [0] probe 1, tenths of a degree Celsius, -8,192 to 8,191; 8,191 is a probe that is not used
+ *                     [1] it stops charging  [2] its self-test failed;  [3] to [5], [6] to [8], [9] to [11] likewise probes 2, 3, 4 */
 
 /* Kinds of insulation sensors. In a table of your own making every other number counts as measuring. */
 enum rokemaipu_sensor {
@@ -128,8 +131,8 @@ enum rokemaipu_entry {
 
 /* ---- the table that you lend: read it as you like, change it through the functions below ----
  *
- * A frame's payload stands in it as a number, byte 0 lowest, as it came; that of the safety controller's byte 0 highest. Padding bytes may hold anything after a call: compare
- * tables field by field. */
+ * A frame's payload stands in it as a number, byte 0 lowest, as it came; a safety controller's with byte 0 highest. Padding bytes may hold
+ * anything after a call: compare tables field by field. */
 
 typedef struct rokemaipu_slot { /* 16 bytes: the latest frame of a kind, all 0 where none was accepted */
     bool known;
