@@ -7,7 +7,7 @@
 #include <string.h>
 #include <time.h>
 
-/* All nine messages, as a charging session mixes them: what comes every 100 ms by the pages more than once, the rest once. */
+/* The charger's nine messages, as a charging session mixes them: what comes every 100 ms by the pages more than once, the rest once. */
 typedef struct { uint32_t id; uint8_t n, bytes[8]; } frame;
 static const frame mix[] = {
     {0x63000, 8, {0xa0, 0x0f, 0x83, 0x00, 0x41, 0x40, 0x01, 0x64}}, {0x6b000, 1, {7}},
@@ -49,27 +49,27 @@ static void differ(const char *what) {
 }
 
 static void bench_read(void) {
-    int64_t a[8], b[8];
+    int64_t a[ROKEMAIPU_SIGNALS], b[ROKEMAIPU_SIGNALS];
     double ours, plain;
     for (int i = 0; i < MIX; i++)
-        if (rokemaipu_read(mix[i].id, true, mix[i].bytes, mix[i].n, a, 8) != peer_read(mix[i].id, true, mix[i].bytes, mix[i].n, b, 8) || memcmp(a, b, sizeof a)) differ("read");
-    TIMED(ours, MIX, for (int i = 0; i < MIX; i++) sum += rokemaipu_read(mix[i].id, true, mix[i].bytes, mix[i].n, a, 8););
-    TIMED(plain, MIX, for (int i = 0; i < MIX; i++) sum += peer_read(mix[i].id, true, mix[i].bytes, mix[i].n, b, 8););
+        if (rokemaipu_read(mix[i].id, true, mix[i].bytes, mix[i].n, a, ROKEMAIPU_SIGNALS) != peer_read(mix[i].id, true, mix[i].bytes, mix[i].n, b, ROKEMAIPU_SIGNALS) || memcmp(a, b, sizeof a)) differ("read");
+    TIMED(ours, MIX, for (int i = 0; i < MIX; i++) sum += rokemaipu_read(mix[i].id, true, mix[i].bytes, mix[i].n, a, ROKEMAIPU_SIGNALS););
+    TIMED(plain, MIX, for (int i = 0; i < MIX; i++) sum += peer_read(mix[i].id, true, mix[i].bytes, mix[i].n, b, ROKEMAIPU_SIGNALS););
     line("read", ours, plain);
 }
 
 static void bench_write(void) {
-    static int64_t raws[MIX][8];
+    static int64_t raws[MIX][ROKEMAIPU_SIGNALS];
     uint32_t kinds[MIX];
     uint8_t a[8], b[8];
     double ours, plain;
     for (int i = 0; i < MIX; i++) {
-        kinds[i] = peer_read(mix[i].id, true, mix[i].bytes, mix[i].n, raws[i], 8);
+        kinds[i] = peer_read(mix[i].id, true, mix[i].bytes, mix[i].n, raws[i], ROKEMAIPU_SIGNALS);
         memset(a, 0, 8), memset(b, 0, 8);
-        if (rokemaipu_write(kinds[i], raws[i], 8, a, 8) != peer_write(kinds[i], raws[i], 8, b, 8) || memcmp(a, b, 8)) differ("write");
+        if (rokemaipu_write(kinds[i], raws[i], ROKEMAIPU_SIGNALS, a, 8) != peer_write(kinds[i], raws[i], ROKEMAIPU_SIGNALS, b, 8) || memcmp(a, b, 8)) differ("write");
     }
-    TIMED(ours, MIX, for (int i = 0; i < MIX; i++) sum += rokemaipu_write(kinds[i], raws[i], 8, a, 8););
-    TIMED(plain, MIX, for (int i = 0; i < MIX; i++) sum += peer_write(kinds[i], raws[i], 8, b, 8););
+    TIMED(ours, MIX, for (int i = 0; i < MIX; i++) sum += rokemaipu_write(kinds[i], raws[i], ROKEMAIPU_SIGNALS, a, 8););
+    TIMED(plain, MIX, for (int i = 0; i < MIX; i++) sum += peer_write(kinds[i], raws[i], ROKEMAIPU_SIGNALS, b, 8););
     line("write", ours, plain);
 }
 

@@ -9,11 +9,27 @@ static uint64_t number(const uint8_t *p, size_t n) {
     return r;
 }
 
+/* byte 0 highest */
+static uint64_t big(const uint8_t *p) {
+    uint64_t r = 0;
+    for (size_t i = 0; i < 8; i++) r = r << 8 | p[i];
+    return r;
+}
+
+/* The safety controller's: standard frames of eight bytes, and the bits that their signals cover. */
+static uint32_t judge_standard(uint32_t id, const uint8_t *p, size_t n, uint64_t *raw) {
+    static const uint64_t covered[] = {0x83ff030000000000, 0x83ff1f070f1f0000, UINT64_MAX};
+    if (id < 6 || id > 8) return R(3);
+    if (n != 8) return R(n < 8 ? 4 : 15);
+    *raw = big(p);
+    return *raw & ~covered[id - 6] ? R(6) : id + 3;
+}
+
 /* The kind and the payload number, or the refusal. */
 static uint32_t judge(uint32_t id, bool extended, const uint8_t *p, size_t n, uint64_t *raw) {
     uint32_t kind;
     size_t length;
-    if (!extended) return R(3);
+    if (!extended) return judge_standard(id, p, n, raw);
     switch (id) {
     case 0x63000: kind = 0, length = 8; break;
     case 0x63001: kind = 1, length = 8; break;
@@ -41,13 +57,14 @@ static uint32_t judge(uint32_t id, bool extended, const uint8_t *p, size_t n, ui
 }
 
 static int64_t s16(uint64_t x) { return (int16_t)x; }
+static int64_t s14(uint64_t x) { return (int64_t)((x & 0x3fff) ^ 0x2000) - 0x2000; }
 
 uint32_t peer_read(uint32_t id, bool extended, const uint8_t *p, size_t n, int64_t *raws, size_t places) {
     uint64_t r;
     uint32_t kind = judge(id, extended, p, n, &r);
     if (kind >= ROKEMAIPU_REFUSED) return kind;
-    if (places < 8) return R(8);
-    for (int i = 0; i < 8; i++) raws[i] = 0;
+    if (places < ROKEMAIPU_SIGNALS) return R(8);
+    for (int i = 0; i < ROKEMAIPU_SIGNALS; i++) raws[i] = 0;
     switch (kind) {
     case 0: raws[0] = r & 0xffff, raws[1] = s16(r >> 16), raws[2] = r >> 32 & 0xff, raws[3] = r >> 40 & 0xff, raws[4] = r >> 48 & 0xff, raws[5] = r >> 56; break;
     case 1: raws[0] = r & 0xffff, raws[1] = r >> 16 & 0xffff, raws[2] = r >> 32 & 0xffff, raws[3] = s16(r >> 48); break;
@@ -57,6 +74,13 @@ uint32_t peer_read(uint32_t id, bool extended, const uint8_t *p, size_t n, int64
         raws[4] = r >> 52 & 1, raws[5] = r >> 53 & 1, raws[6] = r >> 54 & 1, raws[7] = r >> 55 & 1;
         break;
     case 8: for (int i = 0; i < 6; i++) raws[i] = r >> (8 * i) & 0xff; break;
+    case 9: raws[0] = r >> 48 & 0x3ff, raws[1] = r >> 63, raws[2] = r >> 40 & 1, raws[3] = r >> 41 & 1; break;
+    case 10:
+        raws[0] = r >> 48 & 0x3ff, raws[1] = r >> 63, raws[2] = r >> 40 & 7, raws[3] = r >> 43 & 1, raws[4] = r >> 44 & 1, raws[5] = r >> 32 & 7;
+        for (int i = 0; i < 4; i++) raws[6 + i] = r >> (24 + i) & 1;
+        for (int i = 0; i < 5; i++) raws[10 + i] = r >> (16 + i) & 1;
+        break;
+    case 11: for (int i = 0; i < 4; i++, r <<= 16) raws[3 * i] = s14(r >> 50), raws[3 * i + 1] = r >> 48 & 1, raws[3 * i + 2] = r >> 49 & 1; break;
     default: raws[0] = r & 0xff; break;
     }
     return kind;
@@ -64,10 +88,16 @@ uint32_t peer_read(uint32_t id, bool extended, const uint8_t *p, size_t n, int64
 
 static bool in(int64_t z, int64_t low, int64_t high) { return low <= z && z <= high; }
 
+static bool flags(const int64_t *z, int n) {
+    for (int i = 0; i < n; i++)
+        if (!in(z[i], 0, 1)) return false;
+    return true;
+}
+
 uint32_t peer_write(uint32_t kind, const int64_t *z, size_t places, uint8_t *buffer, size_t room) {
     uint64_t r;
     size_t n;
-    if (places < 8) return R(7);
+    if (places < ROKEMAIPU_SIGNALS) return R(7);
     switch (kind) {
     case 0:
         if (!in(z[0], 0, 65535) || !in(z[1], -32768, 32767) || !in(z[2], 0, 255) || !in(z[3], 0, 255) || !in(z[4], 0, 1) || !in(z[5], 0, 255)) return R(7);
@@ -95,10 +125,28 @@ uint32_t peer_write(uint32_t kind, const int64_t *z, size_t places, uint8_t *buf
             r |= (uint64_t)z[i] << (8 * i);
         }
         break;
+    case 9:
+        if (!in(z[0], 0, 1023) || !flags(z + 1, 3)) return R(7);
+        n = 8, r = (uint64_t)z[0] << 48 | (uint64_t)z[1] << 63 | (uint64_t)z[2] << 40 | (uint64_t)z[3] << 41;
+        break;
+    case 10:
+        if (!in(z[0], 0, 1023) || !flags(z + 1, 1) || !in(z[2], 0, 7) || !flags(z + 3, 2) || !in(z[5], 0, 7) || !flags(z + 6, 9)) return R(7);
+        n = 8, r = (uint64_t)z[0] << 48 | (uint64_t)z[1] << 63 | (uint64_t)z[2] << 40 | (uint64_t)z[3] << 43 | (uint64_t)z[4] << 44 | (uint64_t)z[5] << 32;
+        for (int i = 0; i < 4; i++) r |= (uint64_t)z[6 + i] << (24 + i);
+        for (int i = 0; i < 5; i++) r |= (uint64_t)z[10 + i] << (16 + i);
+        break;
+    case 11:
+        n = 8, r = 0;
+        for (int i = 0; i < 4; i++, z += 3) {
+            if (!in(z[0], -8192, 8191) || !flags(z + 1, 2)) return R(7);
+            r = r << 16 | ((uint64_t)z[0] & 0x3fff) << 2 | (uint64_t)z[2] << 1 | (uint64_t)z[1];
+        }
+        break;
     default: return R(7);
     }
     if (room < n) return R(8);
-    for (size_t i = 0; i < n; i++) buffer[i] = (uint8_t)(r >> (8 * i));
+    if (kind < 9) for (size_t i = 0; i < n; i++) buffer[i] = (uint8_t)(r >> (8 * i));
+    else for (size_t i = 0; i < n; i++) buffer[i] = (uint8_t)(r >> (56 - 8 * i));
     return (uint32_t)n;
 }
 

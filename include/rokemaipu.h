@@ -1,4 +1,4 @@
-/* Rokemaipu: the CAN messages of charge controllers, the session watch over up to 8 posts, and the night log.
+/* Rokemaipu: the CAN messages of charge and safety controllers, the session watch over up to 8 posts, and the night log.
  *
  * Link librokemaipu.a (make lib). The functions are proved: each takes any input and answers; nothing outside the memory that you
  * lend is read or written, no memory is kept after a call, and nothing is allocated. What you owe, since C cannot be proved:
@@ -17,7 +17,7 @@
  *
  *    1  channel above 31, or held by no post          9  post above 7
  *    2  time earlier than the post's latest          10  channel above 31 at set-up
- *    3  unknown identifier or kind, standard frame   11  channel held by another post
+ *    3  unknown identifier in this form, or kind     11  channel held by another post
  *    4  frame too short                              12  a limit outside its range
  *    5  a number without a label                     13  no signal starts at that bit
  *    6  a bit that no signal covers is 1             14  post not set up
@@ -41,8 +41,8 @@ extern "C" {
 #endif
 
 #define ROKEMAIPU_POSTS 8
-#define ROKEMAIPU_KINDS 9
-#define ROKEMAIPU_SIGNALS 8 /* no message has more signals */
+#define ROKEMAIPU_KINDS 12
+#define ROKEMAIPU_SIGNALS 16 /* places of raw numbers; no message has more signals */
 #define ROKEMAIPU_RECORD_BYTES 20 /* no record of the night log is longer */
 #define ROKEMAIPU_REFUSED 65536u
 
@@ -53,7 +53,7 @@ static inline uint32_t rokemaipu_refusal(uint32_t answer) { return answer < ROKE
  * lowest. 0 for any other answer. */
 static inline uint32_t rokemaipu_start_bit(uint32_t answer) { return answer < ROKEMAIPU_REFUSED ? 0 : answer / 256 % 256; }
 
-/* Kinds of messages, by the identifier of their extended frames. */
+/* Kinds of messages, by the identifier of their extended frames; the last three are the safety controller's, standard frames. */
 enum rokemaipu_kind {
     ROKEMAIPU_POWER_MODULES_STATUS = 0,    /* 0x63000 */
     ROKEMAIPU_DC_POWER_PARAMETERS = 1,     /* 0x63001 */
@@ -63,8 +63,25 @@ enum rokemaipu_kind {
     ROKEMAIPU_DC_POWER_CONTROL = 5,        /* 0x6b003 */
     ROKEMAIPU_CHARGE_SESSION_FINISHED = 6, /* 0x6b004 */
     ROKEMAIPU_EMERGENCY_STOP = 7,          /* 0x6b005 */
-    ROKEMAIPU_EV_ID = 8                    /* 0x6b105 */
+    ROKEMAIPU_EV_ID = 8,                   /* 0x6b105 */
+    ROKEMAIPU_CHARGE_CONTROL_1 = 9,        /* standard 6 */
+    ROKEMAIPU_CHARGE_STATE_1 = 10,         /* standard 7 */
+    ROKEMAIPU_PT1000_STATE = 11            /* standard 8 */
 };
+
+/* The raw numbers of the safety controller's messages by their places, in the order of the maker's page. Where no numbers are named, it is a
+ * flag, 0 or 1.
+ *
+ *   CHARGE_CONTROL_1  [0] target duty, tenths of a percent, 0 to 1,023; what is above 1,000 the safety controller takes as 1,000
+ *                     [1] PWM active  [2] contactor 1  [3] contactor 2
+ *   CHARGE_STATE_1    [0] current duty, likewise  [1] PWM active
+ *                     [2] control pilot: 0 unknown, 1 A, 2 B, 3 C, 4 D, 5 E, 6 F, 7 invalid
+ *                     [3] pilot's short circuit  [4] diode fault
+ *                     [5] proximity pin: 0 no cable, 1 13 A, 2 20 A, 3 32 A, 4 63/70 A, 5 type 1, 6 type 1 with its button pressed, 7 error
+ *                     [6] contactor 1  [7] contactor 2  [8] contactor 1's error  [9] contactor 2's error
+ *                     charging aborted by [10] emergency stop 1  [11] 2  [12] 3  [13] IMD or RCM;  [14] the test of IMD or RCM failed
+ *   PT1000_STATE      [0] probe 1, tenths of a degree Celsius, -8,192 to 8,191; 8,191 is a probe that is not used
+ *                     [1] it stops charging  [2] its self-test failed;  [3] to [5], [6] to [8], [9] to [11] likewise probes 2, 3, 4 */
 
 /* Kinds of insulation sensors. In a table of your own making every other number counts as measuring. */
 enum rokemaipu_sensor {
@@ -114,8 +131,8 @@ enum rokemaipu_entry {
 
 /* ---- the table that you lend: read it as you like, change it through the functions below ----
  *
- * A frame's payload stands in it as a number, byte 0 lowest, as it came. Padding bytes may hold anything after a call: compare
- * tables field by field. */
+ * A frame's payload stands in it as a number, byte 0 lowest, as it came; a safety controller's with byte 0 highest. Padding bytes may hold
+ * anything after a call: compare tables field by field. */
 
 typedef struct rokemaipu_slot { /* 16 bytes: the latest frame of a kind, all 0 where none was accepted */
     bool known;
@@ -139,7 +156,7 @@ typedef struct rokemaipu_session { /* 48 bytes, all 0 where no session is open *
     rokemaipu_slot control; /* the latest DC_Power_Control accepted in it */
 } rokemaipu_session;
 
-typedef struct rokemaipu_post { /* 232 bytes */
+typedef struct rokemaipu_post { /* 280 bytes */
     bool used; /* set up */
     uint32_t channel;
     rokemaipu_limits limits;
@@ -149,7 +166,7 @@ typedef struct rokemaipu_post { /* 232 bytes */
     rokemaipu_session session;
 } rokemaipu_post;
 
-typedef struct rokemaipu_table { /* 1,856 bytes; zeroed memory is the empty table */
+typedef struct rokemaipu_table { /* 2,240 bytes; zeroed memory is the empty table */
     rokemaipu_post posts[ROKEMAIPU_POSTS];
 } rokemaipu_table;
 
@@ -177,7 +194,7 @@ uint32_t rokemaipu_look_up(const rokemaipu_table *t, uint32_t post, uint32_t *nu
 
 /* Looks up the latest frame of a kind that the post accepted since set-up: puts its time into time[0] and its bytes, as they came, into
  * buffer from index 0 on. Answers its number of bytes; 0 where there is none, and then nothing is written, whatever is lent. Refuses
- * with 9, 14, with 3 for a kind above 8, then with 8 where time has no place or buffer is shorter than the frame. */
+ * with 9, 14, with 3 for a kind above 11, then with 8 where time has no place or buffer is shorter than the frame. */
 uint32_t rokemaipu_latest(const rokemaipu_table *t, uint32_t post, uint32_t kind, uint32_t *time, size_t places, uint8_t *buffer, size_t room);
 
 /* ---- frames ---- */

@@ -1,6 +1,7 @@
-"""The four nights: what happens, and what is said of it."""
+"""The nights: what happens, and what is said of it."""
 
 from pages import *
+from safety import safety
 from says import told
 from traffic import Night, Post
 
@@ -336,7 +337,8 @@ def damaged():
                                              "\"lowest start first\"."))
     post.frame(48, NEW_SESSION, "080500", told("R15", "The same with a byte behind it; the length is judged before the "
                                                "labels."))
-    post.frame(48, NEW_SESSION, "0201", told("R3", "A standard frame with a known number."), form="s")
+    post.frame(48, NEW_SESSION, "0201",
+               told("R3", "As a standard frame; in that form the table has 6, 7 and 8 only."), form="s")
     post.record(49)
     post.plug_in()
     post.frame(45, FINISHED, "02", told("R5:0", "State 2 has no label; the session stays open."))
@@ -406,4 +408,4 @@ def damaged():
     return night
 
 
-NIGHTS = (clean, march, faults, damaged)
+NIGHTS = (clean, march, faults, damaged, safety)

@@ -1,4 +1,4 @@
-"""Identifiers, label numbers and payloads of the maker's pages (000)."""
+"""Identifiers, label numbers and payloads of the maker's pages (000, and 004 behind it)."""
 
 import struct
 
@@ -34,3 +34,29 @@ def control_bytes(function, target=0, most=0, least=0, mode=TARGET_MODE, contact
 
 def parameter_bytes(volt=0, charge=0, discharge=0, target=0):
     return struct.pack("<HHHh", volt, charge, discharge, target).hex()
+
+
+# 004: standard identifiers, byte 0 highest.
+CHARGE_CONTROL, CHARGE_STATE, PROBES = "6", "7", "8"
+CP_A, CP_B, CP_C = 1, 2, 3
+NO_CABLE, CABLE_32A = 0, 3
+NOT_USED = 0x1fff
+
+
+def flags(*bits):
+    return sum(bit << place for place, bit in enumerate(bits))
+
+
+def safety_control_bytes(duty, active, first=0, second=0):
+    return struct.pack(">HB5x", active << 15 | duty, flags(first, second)).hex()
+
+
+def safety_state_bytes(duty, active, pilot, cable, contactors):
+    """`contactors` are the two contactors and their errors; no fault of the pilot, and no stop."""
+    return struct.pack(">HBBB3x", active << 15 | duty, pilot, cable, flags(*contactors)).hex()
+
+
+def probe_bytes(*probes):
+    """Four times tenths of a degree, whether that probe stops the charge, and whether its self-test failed."""
+    words = ((tenths & 0x3fff) << 2 | flags(stopped, failed) for tenths, stopped, failed in probes)
+    return struct.pack(">4H", *words).hex()

@@ -3,7 +3,7 @@
 use std::cmp::Ordering;
 use std::fmt;
 
-use crate::pages::{self, Kind, Page, Signal, Unit};
+use crate::pages::{self, Kind, Order, Page, Signal, Unit};
 
 /// Why nothing was done: a number of 01's table "Numbers given back" or of 02.
 #[derive(Clone, Copy, Debug, PartialEq, Eq)]
@@ -28,7 +28,7 @@ pub type Reader = fn(u32, bool, &[u8]) -> Result<Message, Refusal>;
 pub type Changer = fn(u32, bool, &mut [u8], u32, i64) -> Result<(), Refusal>;
 
 /// The largest count of signals on a page.
-const MOST: usize = 8;
+const MOST: usize = 15;
 
 /// A message as received: its raw numbers, in the order of its page.
 #[derive(Clone, Copy, Debug, PartialEq, Eq)]
@@ -78,7 +78,7 @@ impl Message {
 
     fn put_into(&self, bytes: &mut [u8]) {
         for (signal, raw) in self.signals() {
-            put(signal, raw, bytes);
+            put(places(self.kind.page(), signal), raw, bytes);
         }
     }
 }
@@ -95,7 +95,7 @@ fn value_of(signal: &Signal, raw: i64) -> i64 {
     match signal.unit {
         Unit::Celsius => raw - 40,
         Unit::KiloOhms => raw * 2,
-        Unit::None | Unit::Volts | Unit::Amps => raw,
+        Unit::None | Unit::Volts | Unit::Amps | Unit::Tenths => raw,
     }
 }
 
@@ -105,7 +105,7 @@ fn raw_of(signal: &Signal, value: i64) -> Option<i64> {
         Unit::Celsius => value.checked_add(40)?,
         Unit::KiloOhms if value % 2 != 0 => return None,
         Unit::KiloOhms => value / 2,
-        Unit::None | Unit::Volts | Unit::Amps => value,
+        Unit::None | Unit::Volts | Unit::Amps | Unit::Tenths => value,
     };
     (fits(signal, raw) && !lacks_label(signal, raw)).then_some(raw)
 }
@@ -139,26 +139,57 @@ fn set_bit(bytes: &mut [u8], n: u32, on: bool) {
     }
 }
 
-fn get(signal: &Signal, bytes: &[u8]) -> i64 {
+/// The bits of the payload that a signal has, its lowest first.
+pub type Places = fn(&Page, &Signal) -> Vec<u32>;
+
+pub fn places(page: &Page, signal: &Signal) -> Vec<u32> {
+    match page.order {
+        Order::Little => (signal.start..signal.start + signal.width).collect(),
+        Order::Big => {
+            let mut walked = walk(signal);
+            walked.reverse();
+            walked
+        }
+    }
+}
+
+/// 02: "There the start names the highest bit, and the signal runs down to bit 0 of that byte and on at bit 7 of the
+/// next".
+fn walk(signal: &Signal) -> Vec<u32> {
+    let (mut byte, mut bit) = (signal.start / 8, signal.start % 8);
+    let mut walked = Vec::new();
+    while walked.len() < signal.width as usize {
+        walked.push(byte * 8 + bit);
+        (byte, bit) = if bit == 0 { (byte + 1, 7) } else { (byte, bit - 1) };
+    }
+    walked
+}
+
+fn get(signal: &Signal, places: Vec<u32>, bytes: &[u8]) -> i64 {
     let mut raw = 0;
-    for i in 0..signal.width {
-        if bit(bytes, signal.start + i) {
+    for (i, place) in places.into_iter().enumerate() {
+        if bit(bytes, place) {
             // The highest bit of a two's complement number counts negative.
-            let negative = signal.signed && i == signal.width - 1;
+            let negative = signal.signed && i as u32 == signal.width - 1;
             raw += if negative { -(1 << i) } else { 1 << i };
         }
     }
     raw
 }
 
-fn put(signal: &Signal, raw: i64, bytes: &mut [u8]) {
-    for i in 0..signal.width {
-        set_bit(bytes, signal.start + i, raw >> i & 1 == 1);
+fn put(places: Vec<u32>, raw: i64, bytes: &mut [u8]) {
+    for (i, place) in places.into_iter().enumerate() {
+        set_bit(bytes, place, raw >> i & 1 == 1);
     }
 }
 
 fn covered(page: &Page, n: u32) -> bool {
-    page.signals.iter().any(|signal| signal.start <= n && n < signal.start + signal.width)
+    page.signals.iter().any(|signal| places(page, signal).contains(&n))
+}
+
+/// The bits that are 1 and that no signal covers.
+pub fn uncovered(page: &Page, bytes: &[u8]) -> Vec<u32> {
+    (0..page.len as u32 * 8).filter(|&n| bit(bytes, n) && !covered(page, n)).collect()
 }
 
 /// 02: "4 when too short, 15 when too long".
@@ -172,7 +203,7 @@ fn judge_length(page: &Page, bytes: &[u8]) -> Result<(), Refusal> {
 
 /// The start bits of all signals with a number that is no label of theirs.
 pub fn offenders(page: &Page, bytes: &[u8]) -> Vec<u32> {
-    let offending = page.signals.iter().filter(|signal| lacks_label(signal, get(signal, bytes)));
+    let offending = page.signals.iter().filter(|signal| lacks_label(signal, get(signal, places(page, signal), bytes)));
     offending.map(|signal| signal.start).collect()
 }
 
@@ -189,11 +220,16 @@ pub fn read(id: u32, extended: bool, bytes: &[u8]) -> Result<Message, Refusal> {
     let page = pages::find(id, extended).ok_or(Refusal::Number(3))?;
     judge_length(page, bytes)?;
     judge_labels(page, bytes)?;
-    if (0..page.len as u32 * 8).any(|n| bit(bytes, n) && !covered(page, n)) {
+    if !uncovered(page, bytes).is_empty() {
         return Err(Refusal::Number(6));
     }
-    let raws: Vec<i64> = page.signals.iter().map(|signal| get(signal, bytes)).collect();
-    Ok(Message::new(page.kind, &raws))
+    Ok(taken(places, page, bytes))
+}
+
+/// The message in a payload that nothing is wrong with.
+pub fn taken(places: Places, page: &Page, bytes: &[u8]) -> Message {
+    let raws: Vec<i64> = page.signals.iter().map(|signal| get(signal, places(page, signal), bytes)).collect();
+    Message::new(page.kind, &raws)
 }
 
 /// Gives 7 before 8; a longer buffer keeps its bytes behind the message.
@@ -209,15 +245,14 @@ pub fn write(page: &Page, values: &[i64], buffer: &mut [u8]) -> Result<(), Refus
 
 /// 01: "first the frame's own 3 to 6, then 13, then 7, then 5 for the new label".
 pub fn change(id: u32, extended: bool, bytes: &mut [u8], start: u32, raw: i64) -> Result<(), Refusal> {
-    let message = read(id, extended, bytes)?;
-    let signals = message.kind.page().signals;
-    let signal = signals.iter().find(|signal| signal.start == start).ok_or(Refusal::Number(13))?;
+    let page = read(id, extended, bytes)?.kind.page();
+    let signal = page.signals.iter().find(|signal| signal.start == start).ok_or(Refusal::Number(13))?;
     if !fits(signal, raw) {
         return Err(Refusal::Number(7));
     }
     if lacks_label(signal, raw) {
         return Err(Refusal::NoLabel { start });
     }
-    put(signal, raw, bytes);
+    put(places(page, signal), raw, bytes);
     Ok(())
 }

@@ -207,8 +207,8 @@ mod tests {
                     // A log stands by itself, a frame needs its set-up at most, and little of either.
                     let few = match name.split_once('-') {
                         Some(("log", _)) => lines == 1 && bytes <= 40,
-                        Some(("label", _)) => lines <= 2 && bytes <= 50,
-                        Some(("sensor", _)) => lines <= 4,
+                        Some(("label", _)) => lines <= 2 && bytes <= 60,
+                        Some(("sensor" | "safety", _)) => lines <= 5,
                         _ => lines <= 6,
                     };
                     assert!(few, "{name}: {lines} lines, {bytes} bytes");

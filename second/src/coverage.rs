@@ -4,13 +4,15 @@ use std::collections::{BTreeMap, BTreeSet};
 use std::fmt;
 
 use crate::posts::Table;
+use crate::safety_coverage;
 use crate::sensor_coverage;
 
-const WORDS: [&[u8]; 11] =
-    [b"setup", b"release", b"frame", b"tick", b"record", b"read", b"change", b"write", b"explain", b"logr", b"logw"];
+const WORDS: [&[u8]; 13] = [
+    b"setup", b"release", b"frame", b"tick", b"record", b"read", b"change", b"write", b"explain", b"logr", b"logw",
+    b"probe", b"duty",
+];
 
-/// Refusal 6 cannot occur: every bit of the nine messages is covered (reading M1).
-const REFUSALS: [u32; 14] = [1, 2, 3, 4, 5, 7, 8, 9, 10, 11, 12, 13, 14, 15];
+const REFUSALS: std::ops::RangeInclusive<u32> = 1..=15;
 
 /// Each of these gives refusal 5 by a way of its own.
 const LABELLED: [&str; 3] = ["frame", "read", "change"];
@@ -30,6 +32,7 @@ pub struct Coverage {
     starts: BTreeMap<&'static str, BTreeSet<u32>>,
     logs: BTreeMap<String, u64>,
     sensors: BTreeMap<&'static str, u64>,
+    safety: BTreeMap<String, u64>,
     findings: [u64; 11],
     clean: u64,
     accepted: u64,
@@ -45,6 +48,9 @@ impl Coverage {
         *self.steps.entry(word).or_default() += 1;
         if let Some(shown) = sensor_coverage::shown(table, step, answer) {
             *self.sensors.entry(shown).or_default() += 1;
+        }
+        for shown in safety_coverage::shown(step, answer) {
+            *self.safety.entry(shown).or_default() += 1;
         }
         match answer.split_first() {
             Some((b'?', _)) => self.no_step += 1,
@@ -72,7 +78,7 @@ impl Coverage {
 
     /// What a run has to reach and did not.
     pub fn missing(&self) -> Vec<String> {
-        let refusals = REFUSALS.iter().filter(|number| !self.refusals.contains_key(number));
+        let refusals = REFUSALS.filter(|number| !self.refusals.contains_key(number));
         let findings = (1..).zip(self.findings).filter(|(_, count)| *count == 0);
         let mut missing: Vec<String> = refusals.map(|number| format!("R{number}")).collect();
         missing.extend(findings.map(|(number, _)| format!("F{number}")));
@@ -85,6 +91,7 @@ impl Coverage {
         );
         let sensors = sensor_coverage::WANTED.iter().filter(|shown| !self.sensors.contains_key(*shown));
         missing.extend(sensors.map(|shown| shown.to_string()));
+        missing.extend(safety_coverage::wanted().into_iter().filter(|shown| !self.safety.contains_key(shown)));
         missing.extend((self.no_step == 0).then(|| "?".to_string()));
         missing.extend((self.no_message == 0).then(|| "X".to_string()));
         missing
@@ -116,6 +123,10 @@ impl fmt::Display for Coverage {
         write!(out, "\nsensors: ")?;
         for (shown, count) in &self.sensors {
             write!(out, " {shown} {count},")?;
+        }
+        write!(out, "\nsafety:  ")?;
+        for shown in safety_coverage::wanted() {
+            write!(out, " {shown} {},", self.safety.get(&shown).unwrap_or(&0))?;
         }
         write!(out, "\nother:    accepted {} ? {} X {}", self.accepted, self.no_step, self.no_message)
     }

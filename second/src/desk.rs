@@ -2,15 +2,17 @@
 
 use std::io::{self, BufRead, Write};
 
-use crate::codec::{self, Changer, Reader, Refusal};
+use crate::codec::{self, range, Changer, Reader, Refusal};
 use crate::explain;
 use crate::fields::{bytes, extended, hex, identifier, natural, number, values};
 use crate::log;
 use crate::log_line;
 use crate::pages;
-use crate::posts::{Arrival, Frame, Table};
+use crate::posts::{Arrival, Frame, Post, Table};
 use crate::record;
 use crate::rules::{Limits, MEASURING};
+use crate::safety_pages::{CHARGE_CONTROL_1, PT1000_STATE};
+use crate::service::{self, Limiter, Probe, Prober};
 
 /// A longer line is no step.
 pub const LONGEST: usize = 65_535;
@@ -22,6 +24,9 @@ pub struct Desk {
     pub changer: Changer,
     pub log_writer: log::Writer,
     pub log_reader: log::Reader,
+    pub recorder: fn(&Post) -> String,
+    pub prober: Prober,
+    pub limiter: Limiter,
 }
 
 impl Desk {
@@ -32,6 +37,9 @@ impl Desk {
             changer: codec::change,
             log_writer: log::write,
             log_reader: log::read,
+            recorder: record::line,
+            prober: service::probe,
+            limiter: service::limited_duty,
         }
     }
 }
@@ -71,6 +79,8 @@ fn step(desk: &mut Desk, line: &[u8]) -> Option<String> {
         b"logw" => log_write(desk.log_writer, &fields[1..]),
         b"logr" => log_read(desk.log_reader, &fields[1..]),
         b"read" | b"change" | b"write" | b"explain" => message_step(desk, &fields),
+        b"probe" | b"duty" => service_step(desk, &fields),
+        b"record" => record(desk, &fields[1..]),
         _ => table_step(&mut desk.table, &fields),
     }
 }
@@ -90,7 +100,29 @@ fn table_step(table: &mut Table, fields: &[&[u8]]) -> Option<String> {
         [b"tick", channel, time] => {
             feed(table, Arrival { channel: natural(channel)?, time: natural(time)?, frame: None })
         }
-        [b"record", post] => Some(said(table.post(natural(post)?), record::line)),
+        _ => None,
+    }
+}
+
+fn record(desk: &Desk, fields: &[&[u8]]) -> Option<String> {
+    match *fields {
+        [post] => Some(said(desk.table.post(natural(post)?), desk.recorder)),
+        _ => None,
+    }
+}
+
+/// Raw numbers that their signals hold; others are too large for their place.
+fn service_step(desk: &Desk, fields: &[&[u8]]) -> Option<String> {
+    let held = |raw: &[u8], signal| {
+        let (least, most) = range(signal);
+        number(raw).filter(|raw| (least..=most).contains(raw))
+    };
+    match *fields {
+        [b"probe", raw] => Some(match (desk.prober)(held(raw, &PT1000_STATE.signals[0])?) {
+            Probe::NotUsed => "N".to_string(),
+            Probe::Degrees(degrees) => format!("D {:08x}", degrees.to_bits()),
+        }),
+        [b"duty", raw] => Some(format!("A {}", (desk.limiter)(held(raw, &CHARGE_CONTROL_1.signals[0])?))),
         _ => None,
     }
 }

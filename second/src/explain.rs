@@ -20,7 +20,7 @@ const LAST_START: u32 = 255;
 const REFUSALS: [&str; 21] = [
     "channel above 31, or held by no post",
     "time earlier than the post's latest accepted frame or tick",
-    "identifier not in the table, or standard",
+    "identifier not in the table, standard and extended ones told apart",
     "shorter than the table's length",
     "a label signal holds a number without a label",
     "a bit that no signal covers is 1",

@@ -38,6 +38,14 @@ pub fn extended(field: &[u8]) -> Option<bool> {
     }
 }
 
+pub fn form(extended: bool) -> &'static str {
+    if extended {
+        "x"
+    } else {
+        "s"
+    }
+}
+
 /// `HEX`: two lower-case digits a byte, `-` when empty.
 pub fn bytes(field: &[u8]) -> Option<Vec<u8>> {
     if field == b"-" {

@@ -1,5 +1,6 @@
 //! Req 02 from both sides of each edge, and the decided reading of it (R2).
 
+use crate::fields::form;
 use crate::pages::PAGES;
 use crate::readings::holds;
 
@@ -23,15 +24,16 @@ fn one_byte_too_few_and_one_too_many_for_every_message() {
         let long = payload(page.len + 1);
         holds(&format!(
             "setup 0 4 5000 1000 500 500 => A
-             read {id:x} x {short} => R4
-             read {id:x} x {long} => R15
-             read {id:x} x {far} => R15
-             frame 4 0 {id:x} x - => R4
-             frame 4 0 {id:x} x {short} => R4
-             frame 4 0 {id:x} x {long} => R15
-             change {id:x} x {short} 0 1 => R4 {short}
-             change {id:x} x {long} 0 1 => R15 {long}",
+             read {id:x} {form} {short} => R4
+             read {id:x} {form} {long} => R15
+             read {id:x} {form} {far} => R15
+             frame 4 0 {id:x} {form} - => R4
+             frame 4 0 {id:x} {form} {short} => R4
+             frame 4 0 {id:x} {form} {long} => R15
+             change {id:x} {form} {short} 0 1 => R4 {short}
+             change {id:x} {form} {long} 0 1 => R15 {long}",
             id = page.id,
+            form = form(page.extended),
             far = payload(300),
         ));
     }

@@ -1,6 +1,6 @@
 //! A log that was read, as one line.
 
-use crate::fields::hex;
+use crate::fields::{form, hex};
 use crate::log::{Ending, Log};
 use crate::posts::Arrival;
 
@@ -19,8 +19,7 @@ fn record(Arrival { channel, time, frame }: &Arrival) -> String {
     match frame {
         None => format!("t,{time},{channel}"),
         Some(frame) => {
-            let form = if frame.extended { "x" } else { "s" };
-            format!("f,{time},{channel},{:x},{form},{}", frame.id, hex(frame.bytes))
+            format!("f,{time},{channel},{:x},{},{}", frame.id, form(frame.extended), hex(frame.bytes))
         }
     }
 }

@@ -25,11 +25,17 @@ mod readings;
 mod record;
 mod rng;
 mod rules;
+mod safety_coverage;
+mod safety_pages;
+#[cfg(test)]
+mod safety_readings;
+mod safety_slips;
 mod script;
 mod sensor_coverage;
 #[cfg(test)]
 mod sensor_readings;
 mod sensor_slips;
+mod service;
 mod show;
 mod shrink;
 mod slips;

@@ -1,8 +1,10 @@
-//! The nine messages of 01, typed from the maker's charger-side pages (000).
+//! The messages: the nine of 01, typed from the maker's charger-side pages (000), and behind them 004's.
 //!
 //! Start bits, widths, signs and label numbers are those of 000's sections, in the order of those sections.
 
-/// The nine kinds, in ascending order of identifier.
+use crate::safety_pages::{CHARGE_CONTROL_1, CHARGE_STATE_1, PT1000_STATE};
+
+/// The kinds, in the order of the table.
 #[derive(Clone, Copy, Debug, PartialEq, Eq)]
 pub enum Kind {
     PowerModulesStatus,
@@ -14,6 +16,9 @@ pub enum Kind {
     ChargeSessionFinished,
     EmergencyStop,
     EvIdCcsPart2Din,
+    ChargeControl1,
+    ChargeState1,
+    Pt1000State,
 }
 
 impl Kind {
@@ -29,6 +34,17 @@ pub enum Unit {
     Amps,
     Celsius,
     KiloOhms,
+    /// Whole tenths of a percent or of a degree, as 004 has them.
+    Tenths,
+}
+
+/// Which byte of a payload comes first in a number.
+#[derive(Clone, Copy, Debug, PartialEq, Eq)]
+pub enum Order {
+    /// The lowest; a start names a signal's lowest bit.
+    Little,
+    /// The highest; a start names a signal's highest bit.
+    Big,
 }
 
 #[derive(Debug)]
@@ -48,27 +64,32 @@ pub struct Page {
     pub kind: Kind,
     pub id: u32,
     pub len: usize,
+    /// The form of its identifier.
+    pub extended: bool,
+    pub order: Order,
     pub signals: &'static [Signal],
 }
 
-const fn unsigned(name: &'static str, start: u32, width: u32, unit: Unit) -> Signal {
+pub const fn unsigned(name: &'static str, start: u32, width: u32, unit: Unit) -> Signal {
     Signal { name, start, width, signed: false, unit, labels: None }
 }
 
-const fn signed(name: &'static str, start: u32, width: u32, unit: Unit) -> Signal {
+pub const fn signed(name: &'static str, start: u32, width: u32, unit: Unit) -> Signal {
     Signal { name, start, width, signed: true, unit, labels: None }
 }
 
-const fn label(name: &'static str, start: u32, width: u32, labels: &'static [(i64, &'static str)]) -> Signal {
+pub const fn label(name: &'static str, start: u32, width: u32, labels: &'static [(i64, &'static str)]) -> Signal {
     Signal { name, start, width, signed: false, unit: Unit::None, labels: Some(labels) }
 }
 
-pub const PAGES: [Page; 9] = [
+pub const PAGES: [Page; 12] = [
     Page {
         name: "Power_Modules_Status",
         kind: Kind::PowerModulesStatus,
         id: 0x63000,
         len: 8,
+        extended: true,
+        order: Order::Little,
         signals: &[
             unsigned("Present_Voltage", 0, 16, Unit::Volts),
             signed("Present_Current", 16, 16, Unit::Amps),
@@ -83,6 +104,8 @@ pub const PAGES: [Page; 9] = [
         kind: Kind::DcPowerParameters,
         id: 0x63001,
         len: 8,
+        extended: true,
+        order: Order::Little,
         signals: &[
             unsigned("Maximum_Voltage", 0, 16, Unit::Volts),
             unsigned("Maximum_Charge_Current", 16, 16, Unit::Amps),
@@ -95,6 +118,8 @@ pub const PAGES: [Page; 9] = [
         kind: Kind::AdvanticsControllerStatus,
         id: 0x6b000,
         len: 1,
+        extended: true,
+        order: Order::Little,
         signals: &[label(
             "State",
             0,
@@ -122,6 +147,8 @@ pub const PAGES: [Page; 9] = [
         kind: Kind::NewChargeSession,
         id: 0x6b001,
         len: 2,
+        extended: true,
+        order: Order::Little,
         signals: &[
             label(
                 "Communication_Protocol",
@@ -151,6 +178,8 @@ pub const PAGES: [Page; 9] = [
         kind: Kind::ChargeStatusChange,
         id: 0x6b002,
         len: 1,
+        extended: true,
+        order: Order::Little,
         signals: &[label("Vehicle_Ready_for_Charging", 0, 8, &[(0, "Charge_Stopped"), (1, "Charge_Started")])],
     },
     Page {
@@ -158,6 +187,8 @@ pub const PAGES: [Page; 9] = [
         kind: Kind::DcPowerControl,
         id: 0x6b003,
         len: 7,
+        extended: true,
+        order: Order::Little,
         signals: &[
             unsigned("Target_Voltage", 0, 16, Unit::Volts),
             signed("Current_Range_Max", 16, 16, Unit::Amps),
@@ -179,6 +210,8 @@ pub const PAGES: [Page; 9] = [
         kind: Kind::ChargeSessionFinished,
         id: 0x6b004,
         len: 1,
+        extended: true,
+        order: Order::Little,
         signals: &[label("State", 0, 8, &[(0, "Clean_Stop"), (1, "Rushed_Stop")])],
     },
     Page {
@@ -186,6 +219,8 @@ pub const PAGES: [Page; 9] = [
         kind: Kind::EmergencyStop,
         id: 0x6b005,
         len: 1,
+        extended: true,
+        order: Order::Little,
         signals: &[label("Origin", 0, 8, &[(1, "EVSE"), (3, "PEV")])],
     },
     Page {
@@ -193,6 +228,8 @@ pub const PAGES: [Page; 9] = [
         kind: Kind::EvIdCcsPart2Din,
         id: 0x6b105,
         len: 6,
+        extended: true,
+        order: Order::Little,
         signals: &[
             unsigned("Byte0", 0, 8, Unit::None),
             unsigned("Byte1", 8, 8, Unit::None),
@@ -202,16 +239,20 @@ pub const PAGES: [Page; 9] = [
             unsigned("Byte5", 40, 8, Unit::None),
         ],
     },
+    CHARGE_CONTROL_1,
+    CHARGE_STATE_1,
+    PT1000_STATE,
 ];
 
-/// The page of an identifier. All messages of 01 are extended, so a standard frame has none.
+/// The page of an identifier in that form.
 pub fn find(id: u32, extended: bool) -> Option<&'static Page> {
-    PAGES.iter().find(|page| extended && page.id == id)
+    PAGES.iter().find(|page| page.id == id && page.extended == extended)
 }
 
 #[cfg(test)]
 mod tests {
     use super::*;
+    use crate::codec::places;
 
     #[test]
     fn each_kind_finds_its_own_page() {
@@ -220,17 +261,30 @@ mod tests {
         }
     }
 
+    /// How often each bit of a page's payload is covered.
+    fn covered(page: &Page) -> Vec<u32> {
+        let mut covered = vec![0; page.len * 8];
+        for place in page.signals.iter().flat_map(|signal| places(page, signal)) {
+            covered[place as usize] += 1;
+        }
+        covered
+    }
+
     /// Reading M1: every bit of every base message is covered, by one signal only.
     #[test]
-    fn signals_cover_each_bit_once() {
-        for page in &PAGES {
-            let mut covered = vec![0; page.len * 8];
-            for signal in page.signals {
-                for bit in signal.start..signal.start + signal.width {
-                    covered[bit as usize] += 1;
-                }
-            }
-            assert!(covered.iter().all(|&times| times == 1), "{}", page.name);
+    fn signals_of_000_cover_each_bit_once() {
+        for page in PAGES.iter().filter(|page| page.order == Order::Little) {
+            assert!(covered(page).iter().all(|&times| times == 1), "{}", page.name);
+        }
+    }
+
+    /// 004 leaves bits uncovered: 64 less the widths of its signals.
+    #[test]
+    fn signals_of_004_cover_no_bit_twice() {
+        for (page, left) in [(&CHARGE_CONTROL_1, 51), (&CHARGE_STATE_1, 64 - 28), (&PT1000_STATE, 0)] {
+            let covered = covered(page);
+            assert!(covered.iter().all(|&times| times <= 1), "{}", page.name);
+            assert_eq!(covered.iter().filter(|&&times| times == 0).count(), left, "{}", page.name);
         }
     }
 }

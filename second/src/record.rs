@@ -1,11 +1,18 @@
 //! A post's record as one line: 01's "A post's record is", each part looked up in the list of its events.
 
 use crate::codec::Message;
+use crate::fields::form;
 use crate::history::{latest, latest_time, session, Event};
-use crate::pages::{Kind, PAGES};
+use crate::pages::{Kind, Page, PAGES};
 use crate::posts::Post;
 
+/// The latest messages with standard identifiers first, then extended ones, each ascending.
 pub fn line(post: &Post) -> String {
+    line_by(post, |page| (page.extended, page.id))
+}
+
+/// With the latest messages in that order.
+pub fn line_by(post: &Post, order: fn(&Page) -> (bool, u32)) -> String {
     let past = &post.history;
     let session = session(past);
     let in_session = |kind| session.and_then(|session| latest(session, kind)).and_then(stamped);
@@ -23,14 +30,15 @@ pub fn line(post: &Post) -> String {
         format!("first={}", or_none(session.and_then(|session| session[0].message).map(|first| values(&first)))),
         format!("spms={}", or_none(in_session(Kind::PowerModulesStatus))),
         format!("sdpc={}", or_none(in_session(Kind::DcPowerControl))),
-        format!("latest={}", or_none(each_latest(past))),
+        format!("latest={}", or_none(each_latest(past, order))),
     ];
     parts.join(" ")
 }
 
-/// `MSG`: `ID` `x` `:` `VALUES`; every message of 01 is extended.
+/// `MSG`: `ID` `x`|`s` `:` `VALUES`.
 pub fn message(message: &Message) -> String {
-    format!("{:x}x:{}", message.kind.page().id, values(message))
+    let page = message.kind.page();
+    format!("{:x}{}:{}", page.id, form(page.extended), values(message))
 }
 
 fn values(message: &Message) -> String {
@@ -42,9 +50,10 @@ fn stamped(event: &Event) -> Option<String> {
     event.message.map(|known| format!("{}@{}", message(&known), event.time))
 }
 
-/// The pages' table ascends by identifier, as this list has to.
-fn each_latest(past: &[Event]) -> Option<String> {
-    let all: Vec<String> = PAGES.iter().filter_map(|page| latest(past, page.kind)).filter_map(stamped).collect();
+fn each_latest(past: &[Event], order: fn(&Page) -> (bool, u32)) -> Option<String> {
+    let mut pages = PAGES.each_ref();
+    pages.sort_by_key(|page| order(page));
+    let all: Vec<String> = pages.iter().filter_map(|page| latest(past, page.kind)).filter_map(stamped).collect();
     (!all.is_empty()).then(|| all.join(";"))
 }
 

@@ -137,10 +137,14 @@ fn simpler_fields(field: &[u8]) -> Vec<Line> {
     if let Some(number) = decimal(field) {
         simpler.extend(simpler_numbers(number).iter().map(|simpler| simpler.to_string().into_bytes()));
     }
-    // Bytes may happen to have no digit above 9, so that a number is tried as bytes as well.
-    if field.len().is_multiple_of(2) && field.iter().all(u8::is_ascii_hexdigit) {
-        simpler.extend(fewer_bytes(field));
-        simpler.extend(simpler_bytes(field));
+    // Bytes and identifiers may happen to have no digit above 9, so that a number is tried as both as well.
+    if field.iter().all(u8::is_ascii_hexdigit) {
+        let shorter = [1, field.len() / 2, field.len() - 1].into_iter().filter(|&kept| 0 < kept && kept < field.len());
+        simpler.extend(shorter.map(|kept| field[..kept].to_vec()));
+        if field.len().is_multiple_of(2) {
+            simpler.extend(fewer_bytes(field));
+            simpler.extend(simpler_bytes(field));
+        }
     }
     simpler
 }

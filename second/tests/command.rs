@@ -25,7 +25,7 @@ fn agrees_with_itself() {
 
 #[test]
 fn agrees_on_explaining() {
-    let run = second(&["compare", "--explain", "--steps", "3000", "--seed", "3", "--", SECOND, "answer"]);
+    let run = second(&["compare", "--explain", "--steps", "5000", "--seed", "3", "--", SECOND, "answer"]);
     assert_eq!(run.status.code(), Some(0), "{}", text(&run.stdout));
     assert!(text(&run.stdout).contains(" explain "));
 }
@@ -78,6 +78,9 @@ fn too_few_steps_to_reach_everything_fail() {
         "logw R17",
         "yes/no F9 at 0 V",
         "measuring raw 0 at 0 V",
+        "R6",
+        "frame 6s A",
+        "probe N",
     ] {
         assert!(missing.split(", ").any(|known| known == outcome), "{outcome}: {missing}");
     }

@@ -1,4 +1,5 @@
-/* The desk's steps over the C interface alone: reads a script and answers it as the desk does, so that the same scripts hold both. */
+/* The desk's steps over the C interface: reads a script and answers it as the desk does, so that the same scripts hold both. What is no raw number
+ * (degrees, kOhm, a limited duty) is worked out here. */
 #define _DEFAULT_SOURCE
 #include "rokemaipu.h"
 
@@ -99,21 +100,22 @@ static void answer(uint32_t word, bool numbered) {
     else puts("A");
 }
 
-/* ---- messages: identifier and number of fields of each kind; what is no raw number in Power_Modules_Status */
+/* ---- messages: identifier, form and number of fields of each kind; what is no raw number in Power_Modules_Status */
 
-static const struct { uint32_t id; size_t n; } kinds[ROKEMAIPU_KINDS] = {{0x63000, 6}, {0x63001, 4}, {0x6b000, 1}, {0x6b001, 2}, {0x6b002, 1}, {0x6b003, 8}, {0x6b004, 1}, {0x6b005, 1}, {0x6b105, 6}};
+static const struct { uint32_t id; bool extended; size_t n; } kinds[ROKEMAIPU_KINDS] = {{0x63000, true, 6}, {0x63001, true, 4}, {0x6b000, true, 1}, {0x6b001, true, 2}, {0x6b002, true, 1},
+    {0x6b003, true, 8}, {0x6b004, true, 1}, {0x6b005, true, 1}, {0x6b105, true, 6}, {6, false, 4}, {7, false, 15}, {8, false, 12}};
 
 static bool is_celsius(uint32_t kind, size_t i) { return kind == ROKEMAIPU_POWER_MODULES_STATUS && (i == 2 || i == 3); }
 static bool is_kilohms(uint32_t kind, size_t i) { return kind == ROKEMAIPU_POWER_MODULES_STATUS && i == 5; }
 
 static void put_message(uint32_t kind, const int64_t *raws) {
-    printf("%" PRIx32 "x:", kinds[kind].id);
+    printf("%" PRIx32 "%c:", kinds[kind].id, kinds[kind].extended ? 'x' : 's');
     for (size_t i = 0; i < kinds[kind].n; i++) printf("%s%" PRId64, i ? "," : "", is_celsius(kind, i) ? raws[i] - 40 : is_kilohms(kind, i) ? raws[i] * 2 : raws[i]);
 }
 
 static void put_dated(uint32_t kind, const uint8_t *payload, size_t n, uint32_t time) {
     int64_t raws[ROKEMAIPU_SIGNALS];
-    if (rokemaipu_read(kinds[kind].id, true, payload, n, raws, ROKEMAIPU_SIGNALS) != kind) exit(fprintf(stderr, "desk.c: a kept frame is no frame\n"));
+    if (rokemaipu_read(kinds[kind].id, kinds[kind].extended, payload, n, raws, ROKEMAIPU_SIGNALS) != kind) exit(fprintf(stderr, "desk.c: a kept frame is no frame\n"));
     put_message(kind, raws);
     printf("@%" PRIu32, time);
 }
@@ -149,7 +151,8 @@ static void record(uint32_t post) {
     } else
         printf(" open=0 since=- first=- spms=- sdpc=-");
     printf(" latest=");
-    for (uint32_t kind = 0; kind < ROKEMAIPU_KINDS; kind++) {
+    for (uint32_t i = 0; i < ROKEMAIPU_KINDS; i++) { /* the standard ones stand behind the others, and come first */
+        uint32_t kind = (i + ROKEMAIPU_CHARGE_CONTROL_1) % ROKEMAIPU_KINDS;
         uint32_t length = rokemaipu_latest(&table, post, kind, time, 1, payload, sizeof payload);
         if (!length) continue;
         if (some) putchar(';');
@@ -169,7 +172,7 @@ static bool write_step(void) {
     bool extended, fits = true;
     size_t n = 0;
     if (!frame_id(1, &id, &extended) || !hex(words[4])) return false;
-    while (kind < ROKEMAIPU_KINDS && kinds[kind].id != id) kind++;
+    while (kind < ROKEMAIPU_KINDS && (kinds[kind].id != id || kinds[kind].extended != extended)) kind++;
     for (const char *p = words[3].at, *end = p + words[3].n;; p++, n++) {
         const char *from = p;
         while (p < end && *p != ',') p++;
@@ -182,7 +185,7 @@ static bool write_step(void) {
         if (p == end) break;
     }
     n++;
-    if (!extended || kind == ROKEMAIPU_KINDS) return puts("X"), true;
+    if (kind == ROKEMAIPU_KINDS) return puts("X"), true;
     if (n != kinds[kind].n) return false;
     for (size_t i = 0; i < n; i++) {
         if (is_celsius(kind, i)) raws[i] += 40;
@@ -215,6 +218,22 @@ static bool read_step(void) {
     printf("A ");
     put_message(kind, raws);
     return putchar('\n'), true;
+}
+
+static bool probe_step(void) {
+    int64_t raw;
+    float degrees;
+    uint32_t bits;
+    if (!whole(words[1], &raw) || raw < -8192 || raw > 8191) return false;
+    if (raw == 8191) return puts("N"), true;
+    degrees = (float)raw / 10;
+    memcpy(&bits, &degrees, sizeof bits);
+    return printf("D %08" PRIx32 "\n", bits), true;
+}
+
+static bool duty_step(void) {
+    uint32_t raw;
+    return u32(1, &raw) && raw <= 1023 && (printf("A %" PRIu32 "\n", raw < 1000 ? raw : 1000), true);
 }
 
 static bool log_write_step(void) {
@@ -272,6 +291,8 @@ static bool step(void) {
     if (is("read", 3)) return read_step();
     if (is("change", 5)) return change_step();
     if (is("write", 4)) return write_step();
+    if (is("probe", 1)) return probe_step();
+    if (is("duty", 1)) return duty_step();
     if (is("logw", 4) || is("logw", 7)) return log_write_step();
     if (is("logr", 1)) return log_read_step();
     return false;

@@ -27,8 +27,8 @@ static void layout(void) {
     IS(sizeof(rokemaipu_slot), 16);
     IS(sizeof(rokemaipu_limits), 20);
     IS(sizeof(rokemaipu_session), 48);
-    IS(sizeof(rokemaipu_post), 232);
-    IS(sizeof(rokemaipu_table), 1856);
+    IS(sizeof(rokemaipu_post), 280);
+    IS(sizeof(rokemaipu_table), 2240);
     IS(offsetof(rokemaipu_slot, raw), 8);
     IS(offsetof(rokemaipu_limits, sensor), 16);
     IS(offsetof(rokemaipu_session, status), 16);
@@ -38,7 +38,7 @@ static void layout(void) {
     IS(offsetof(rokemaipu_post, heard), 28);
     IS(offsetof(rokemaipu_post, time), 32);
     IS(offsetof(rokemaipu_post, latest), 40);
-    IS(offsetof(rokemaipu_post, session), 184);
+    IS(offsetof(rokemaipu_post, session), 232);
     rokemaipu_table t, zero;
     memset(&t, 0, sizeof t);
     memset(&zero, 0, sizeof zero);
@@ -62,6 +62,8 @@ static void layout(void) {
     IS(t.posts[7].session.first, 0x0102);
     IS(t.posts[7].session.status.raw, 0x0801060504030201u);
     IS(t.posts[7].session.control.known, 0);
+    IS(rokemaipu_frame(&t, 31, 11, 8, false, (const uint8_t[]){1, 2, 3, 4, 5, 6, 7, 8}, 8), 0);
+    IS(t.posts[7].latest[ROKEMAIPU_PT1000_STATE].raw, 0x0102030405060708u); /* byte 0 highest */
     IS(rokemaipu_start(&t), 0);
     IS(same_table(&t, &zero), 1);
     puts("layout: as the header says; zeroed memory is the started table");
@@ -72,30 +74,30 @@ static void layout(void) {
 static const uint8_t e1[8] = {0xa0, 0x0f, 0x83, 0xff, 0x41, 0x00, 0x01, 0x64};
 
 static void frames(void) {
-    int64_t raws[8];
-    IS(rokemaipu_read(0x63000, true, e1, 8, raws, 8), ROKEMAIPU_POWER_MODULES_STATUS); /* E1 */
-    const int64_t want[8] = {4000, -125, 65, 0, 1, 100, 0, 0};
+    int64_t raws[ROKEMAIPU_SIGNALS];
+    IS(rokemaipu_read(0x63000, true, e1, 8, raws, ROKEMAIPU_SIGNALS), ROKEMAIPU_POWER_MODULES_STATUS); /* E1 */
+    const int64_t want[ROKEMAIPU_SIGNALS] = {4000, -125, 65, 0, 1, 100};
     IS(memcmp(raws, want, sizeof want), 0);
-    IS(rokemaipu_read(0x63003, true, e1, 8, raws, 8), R(3)); /* E4 */
-    IS(rokemaipu_read(0x63000, false, e1, 8, raws, 8), R(3));
-    IS(rokemaipu_read(0x63000, true, e1, 8, raws, 7), R(8));
-    IS(rokemaipu_read(0x6b001, true, (const uint8_t[]){2, 1}, 2, raws, 8), ROKEMAIPU_NEW_CHARGE_SESSION); /* E15 */
+    IS(rokemaipu_read(0x63003, true, e1, 8, raws, ROKEMAIPU_SIGNALS), R(3)); /* E4 */
+    IS(rokemaipu_read(0x63000, false, e1, 8, raws, ROKEMAIPU_SIGNALS), R(3));
+    IS(rokemaipu_read(0x63000, true, e1, 8, raws, ROKEMAIPU_SIGNALS - 1), R(8));
+    IS(rokemaipu_read(0x6b001, true, (const uint8_t[]){2, 1}, 2, raws, ROKEMAIPU_SIGNALS), ROKEMAIPU_NEW_CHARGE_SESSION); /* E15 */
     IS(raws[0], 2);
     IS(raws[1], 1);
     uint8_t buf[10];
     memset(buf, 0x55, sizeof buf);
-    int64_t hot[8] = {4000, -125, 255, 0, 1, 100, 9, 9};
-    IS(rokemaipu_write(0, hot, 8, buf, 10), 8); /* E5: 215 °C is raw 255 */
+    int64_t hot[ROKEMAIPU_SIGNALS] = {4000, -125, 255, 0, 1, 100, 9, 9};
+    IS(rokemaipu_write(0, hot, ROKEMAIPU_SIGNALS, buf, 10), 8); /* E5: 215 °C is raw 255 */
     IS(memcmp(buf, (const uint8_t[]){0xa0, 0x0f, 0x83, 0xff, 0xff, 0x00, 0x01, 0x64, 0x55, 0x55}, 10), 0);
     hot[2] = 256;
-    IS(rokemaipu_write(0, hot, 8, buf, 10), R(7));
-    IS(rokemaipu_write(0, hot, 8, buf, 7), R(7));
+    IS(rokemaipu_write(0, hot, ROKEMAIPU_SIGNALS, buf, 10), R(7));
+    IS(rokemaipu_write(0, hot, ROKEMAIPU_SIGNALS, buf, 7), R(7));
     hot[2] = 65;
-    IS(rokemaipu_write(0, hot, 8, buf, 7), R(8));
-    IS(rokemaipu_write(0, hot, 7, buf, 10), R(7));
-    IS(rokemaipu_write(9, hot, 8, buf, 10), R(7));
+    IS(rokemaipu_write(0, hot, ROKEMAIPU_SIGNALS, buf, 7), R(8));
+    IS(rokemaipu_write(0, hot, ROKEMAIPU_SIGNALS - 1, buf, 10), R(7));
+    IS(rokemaipu_write(ROKEMAIPU_KINDS, hot, ROKEMAIPU_SIGNALS, buf, 10), R(7));
     hot[4] = 2;
-    IS(rokemaipu_write(0, hot, 8, buf, 10), R(7)); /* no label */
+    IS(rokemaipu_write(0, hot, ROKEMAIPU_SIGNALS, buf, 10), R(7)); /* no label */
     uint8_t c[8];
     memcpy(c, e1, 8);
     IS(rokemaipu_change(0x63000, true, c, 8, 16, -1), 0); /* E7 */
@@ -117,17 +119,17 @@ static void refuses(int line, uint32_t word, uint32_t number, uint32_t start) {
 static const uint8_t e3[8] = {0xa0, 0x0f, 0x83, 0xff, 0x41, 0x00, 0x02, 0x64};
 
 static void refused_frames(void) {
-    int64_t raws[8];
-    REFUSES(rokemaipu_read(0x63000, true, e1, 7, raws, 8), 4, 0); /* E2 */
-    REFUSES(rokemaipu_read(0x63000, true, e3, 8, raws, 8), 5, 48); /* E3 */
-    REFUSES(rokemaipu_read(0x6b001, true, NULL, 0, raws, 8), 4, 0); /* E16 */
-    REFUSES(rokemaipu_read(0x63000, true, (const uint8_t[9]){0}, 9, raws, 8), 15, 0);
-    REFUSES(rokemaipu_read(0x6b001, true, (const uint8_t[]){8, 5, 0}, 3, raws, 8), 15, 0); /* before the labels */
-    REFUSES(rokemaipu_read(0x6b001, true, (const uint8_t[]){8}, 1, raws, 8), 4, 0);
+    int64_t raws[ROKEMAIPU_SIGNALS];
+    REFUSES(rokemaipu_read(0x63000, true, e1, 7, raws, ROKEMAIPU_SIGNALS), 4, 0); /* E2 */
+    REFUSES(rokemaipu_read(0x63000, true, e3, 8, raws, ROKEMAIPU_SIGNALS), 5, 48); /* E3 */
+    REFUSES(rokemaipu_read(0x6b001, true, NULL, 0, raws, ROKEMAIPU_SIGNALS), 4, 0); /* E16 */
+    REFUSES(rokemaipu_read(0x63000, true, (const uint8_t[9]){0}, 9, raws, ROKEMAIPU_SIGNALS), 15, 0);
+    REFUSES(rokemaipu_read(0x6b001, true, (const uint8_t[]){8, 5, 0}, 3, raws, ROKEMAIPU_SIGNALS), 15, 0); /* before the labels */
+    REFUSES(rokemaipu_read(0x6b001, true, (const uint8_t[]){8}, 1, raws, ROKEMAIPU_SIGNALS), 4, 0);
     REFUSES(rokemaipu_read(0x6b001, true, (const uint8_t[]){8, 5}, 2, raws, 0), 5, 0); /* two offend; before 8 */
-    REFUSES(rokemaipu_read(0x6b001, true, (const uint8_t[]){7, 5}, 2, raws, 8), 5, 8);
-    REFUSES(rokemaipu_read(0x6b001, true, (const uint8_t[]){8, 4}, 2, raws, 8), 5, 0);
-    IS(rokemaipu_read(0x6b001, true, (const uint8_t[]){7, 4}, 2, raws, 8), ROKEMAIPU_NEW_CHARGE_SESSION);
+    REFUSES(rokemaipu_read(0x6b001, true, (const uint8_t[]){7, 5}, 2, raws, ROKEMAIPU_SIGNALS), 5, 8);
+    REFUSES(rokemaipu_read(0x6b001, true, (const uint8_t[]){8, 4}, 2, raws, ROKEMAIPU_SIGNALS), 5, 0);
+    IS(rokemaipu_read(0x6b001, true, (const uint8_t[]){7, 4}, 2, raws, ROKEMAIPU_SIGNALS), ROKEMAIPU_NEW_CHARGE_SESSION);
     rokemaipu_table t;
     memset(&t, 0, sizeof t);
     IS(rokemaipu_set_up(&t, 0, 4, 5000, 1000, 500, 500, 0), 0);
@@ -160,6 +162,62 @@ static void refused_changes(void) {
     session[1] = 5;
     REFUSES(rokemaipu_change(0x6b001, true, session, 2, 0, 8), 5, 8); /* the frame's before the new one's */
     puts("refused changes: the frame's own, then 13, 7, and 5 with the changed signal's start bit");
+}
+
+/* ---- 02: "Duty 53.3 % with PWM active begins 82 15; -10.0 °C in the first probe is FE 70" */
+
+static void trips(int line, uint32_t id, const uint8_t bytes[8], const int64_t want[ROKEMAIPU_SIGNALS]) {
+    int64_t raws[ROKEMAIPU_SIGNALS];
+    uint8_t back[8];
+    uint32_t kind = rokemaipu_read(id, false, bytes, 8, raws, ROKEMAIPU_SIGNALS);
+    is(line, "the kind", kind, id + 3);
+    is(line, "the raw numbers, other", memcmp(raws, want, sizeof raws) != 0, 0);
+    is(line, "the bytes written", rokemaipu_write(kind, want, ROKEMAIPU_SIGNALS, back, 8), 8);
+    is(line, "the bytes, other", memcmp(back, bytes, 8) != 0, 0);
+}
+#define BYTES(...) (const uint8_t[8]){__VA_ARGS__}
+#define TRIPS(id, bytes, ...) trips(__LINE__, id, bytes, (const int64_t[ROKEMAIPU_SIGNALS]){__VA_ARGS__})
+
+static void safety(void) {
+    TRIPS(6, BYTES(0x82, 0x15), 533, 1);
+    TRIPS(6, BYTES(0x03, 0xe9, 0x02), 1001, 0, 0, 1); /* above 100.0 % it keeps its number */
+    TRIPS(6, BYTES(0x03, 0xff, 0x01), 1023, 0, 1, 0);
+    TRIPS(7, BYTES(0x82, 0x15, 0x0b, 0x05, 0x05, 0x12), 533, 1, 3, 1, 0, 5, 1, 0, 1, 0, 0, 1, 0, 0, 1);
+    TRIPS(7, BYTES(0x00, 0x01, 0x14, 0x02, 0x0a, 0x0d), 1, 0, 4, 0, 1, 2, 0, 1, 0, 1, 1, 0, 1, 1, 0);
+    TRIPS(8, BYTES(0xfe, 0x70), -100);
+    TRIPS(8, BYTES(0x7f, 0xfc, 0xff, 0xfe, 0x80, 0x01, 0x00, 0x04), 8191, 0, 0, -1, 0, 1, -8192, 1, 0, 1, 0, 0);
+    int64_t raws[ROKEMAIPU_SIGNALS] = {1024};
+    uint8_t c[9] = {0x80, 0, 3};
+    IS(rokemaipu_write(ROKEMAIPU_CHARGE_CONTROL_1, raws, ROKEMAIPU_SIGNALS, c, 8), R(7));
+    raws[0] = 8192;
+    IS(rokemaipu_write(ROKEMAIPU_PT1000_STATE, raws, ROKEMAIPU_SIGNALS, c, 8), R(7));
+    IS(rokemaipu_change(6, false, c, 8, 1, 533), 0); /* by its highest bit, which is the page's start */
+    IS(memcmp(c, BYTES(0x82, 0x15, 3), 8), 0);
+    IS(rokemaipu_change(6, false, c, 8, 0, 0), R(13));
+    IS(rokemaipu_change(6, false, c, 8, 1, 1024), R(7));
+    rokemaipu_table t;
+    memset(&t, 0, sizeof t);
+    IS(rokemaipu_set_up(&t, 0, 4, 5000, 1000, 500, 500, 0), 0);
+    IS(rokemaipu_frame(&t, 4, 0, 6, false, c, 8), 0); /* closed contactors, and no F3 */
+    IS(rokemaipu_frame(&t, 4, 0, 6, true, c, 8), R(3));
+    IS(rokemaipu_frame(&t, 4, 0, 9, false, c, 8), R(3));
+    IS(rokemaipu_frame(&t, 4, 0, 0x6b000, false, (const uint8_t[]){7}, 1), R(3));
+    IS(rokemaipu_frame(&t, 4, 0, 6, false, c, 7), R(4));
+    IS(rokemaipu_frame(&t, 4, 0, 6, false, c, 9), R(15));
+    c[7] = 1;
+    IS(rokemaipu_frame(&t, 4, 0, 6, false, c, 8), R(6));
+    IS(rokemaipu_read(6, false, c, 8, raws, 0), R(6));
+    IS(rokemaipu_change(6, false, c, 8, 0, 0), R(6));
+    IS(rokemaipu_frame(&t, 4, 0, 8, false, c, 8), 0); /* every bit of these is covered */
+    uint32_t time[1];
+    uint8_t buf[8];
+    IS(rokemaipu_latest(&t, 0, ROKEMAIPU_PT1000_STATE, time, 1, buf, 8), 8);
+    IS(memcmp(buf, c, 8), 0);
+    IS(rokemaipu_frame(&t, 4, 10, 0x6b000, true, (const uint8_t[]){7}, 1), 0);
+    IS(rokemaipu_frame(&t, 4, 10, 0x6b001, true, (const uint8_t[]){2, 1}, 2), 0);
+    IS(rokemaipu_frame(&t, 4, 510, 8, false, c, 8), ROKEMAIPU_F(2));
+    IS(rokemaipu_frame(&t, 4, 511, 8, false, c, 8), ROKEMAIPU_F(1) | ROKEMAIPU_F(2)); /* it is no Power_Modules_Status */
+    puts("safety controller: 82 15 and FE 70, its refusals, its frames on a post");
 }
 
 static void posts(void) {
@@ -327,10 +385,11 @@ static void random_table(rokemaipu_table *t) {
 }
 
 /* by kind, and behind the kinds such that are none */
-static const uint32_t lengths_of[ROKEMAIPU_KINDS] = {8, 8, 1, 2, 1, 7, 1, 1, 6};
-static const uint32_t ids[] = {0x63000, 0x63001, 0x6b000, 0x6b001, 0x6b002, 0x6b003, 0x6b004, 0x6b005, 0x6b105, 0x63003, 0, 0xffffffff};
+static const uint32_t lengths_of[ROKEMAIPU_KINDS] = {8, 8, 1, 2, 1, 7, 1, 1, 6, 8, 8, 8};
+static const uint32_t ids[] = {0x63000, 0x63001, 0x6b000, 0x6b001, 0x6b002, 0x6b003, 0x6b004, 0x6b005, 0x6b105, 6, 7, 8, 0x63003, 0, 9, 0xffffffff};
 enum { IDS = sizeof ids / sizeof *ids };
-static uint32_t some_id(void) { return ids[below(IDS)]; }
+static bool is_standard(uint32_t kind) { return kind >= ROKEMAIPU_CHARGE_CONTROL_1 && kind <= ROKEMAIPU_PT1000_STATE; }
+static bool some_form(uint32_t which) { return is_standard(which) ? !below(8) : below(8) != 0; }
 
 static void anything(void) {
     rokemaipu_table *t = (rokemaipu_table *)fenced(sizeof *t), before;
@@ -341,9 +400,9 @@ static void anything(void) {
         size_t length = below(12);
         uint8_t *payload = end - length; /* ends at the fence */
         for (size_t i = 0; i < length; i++) payload[i] = below(3) ? (uint8_t)below(6) : (uint8_t)next();
-        uint32_t channel = below(40), time = below(2) ? (uint32_t)next() : t->posts[below(8)].time, r;
+        uint32_t channel = below(40), time = below(2) ? (uint32_t)next() : t->posts[below(8)].time, which = below(IDS), r;
         switch (below(4)) {
-        case 0: r = rokemaipu_frame(t, channel, time, some_id(), below(8) != 0, payload, length); break;
+        case 0: r = rokemaipu_frame(t, channel, time, ids[which], some_form(which), payload, length); break;
         case 1: r = rokemaipu_tick(t, channel, time); break;
         case 2: r = rokemaipu_release(t, below(12)); break;
         default: r = rokemaipu_set_up(t, below(12), channel, below(70000), below(40000), below(40000), below(70000), some_sensor()); break;
@@ -368,14 +427,14 @@ static void any_frame(void) {
     IS(rokemaipu_set_up(&ours, 0, 4, 5000, 1000, 500, 500, 0), 0);
     plain = ours;
     for (int turn = 0; turn < 400000 && !bad; turn++) {
-        int64_t got[8] = {0}, want[8] = {0};
+        int64_t got[ROKEMAIPU_SIGNALS] = {0}, want[ROKEMAIPU_SIGNALS] = {0};
         uint32_t which = below(IDS), most = below(4) ? 10 : 1;
         size_t length = which < ROKEMAIPU_KINDS && below(2) ? lengths_of[which] : below(11);
         uint8_t *payload = end - length;
         for (size_t i = 0; i < length; i++) payload[i] = below(3) ? (uint8_t)below(most) : (uint8_t)next();
-        bool extended = below(8) != 0;
-        uint32_t id = ids[which], word = peer_read(id, extended, payload, length, want, 8);
-        IS(rokemaipu_read(id, extended, payload, length, got, 8), word);
+        bool extended = some_form(which);
+        uint32_t id = ids[which], word = peer_read(id, extended, payload, length, want, ROKEMAIPU_SIGNALS);
+        IS(rokemaipu_read(id, extended, payload, length, got, ROKEMAIPU_SIGNALS), word);
         IS(memcmp(got, want, sizeof want), 0);
         seen[rokemaipu_refusal(word)]++;
         if (rokemaipu_refusal(word) == 5) starts[rokemaipu_start_bit(word)]++;
@@ -386,7 +445,7 @@ static void any_frame(void) {
         if (!same_table(&ours, &plain)) IS(turn, -1);
         if (!rokemaipu_refusal(word) && (word & ROKEMAIPU_F(9))) low[plain.posts[0].limits.sensor == ROKEMAIPU_YES_NO][!payload[0] && !payload[1]]++;
     }
-    IS(seen[0] && seen[3] && seen[4] && seen[15], true);
+    IS(seen[0] && seen[3] && seen[4] && seen[6] && seen[15], true);
     IS(starts[0] && starts[8] && starts[48], true);
     IS(low[0][0] && !low[0][1] && low[1][0] && low[1][1], true);
     puts("any frame, any sensor: read and watched as plain C does it, with the start bits 0, 8 and 48, and F9 at 0 V by a yes/no sensor");
@@ -395,20 +454,20 @@ static void any_frame(void) {
 static void lengths(void) {
     uint8_t *end = fenced(4096) + 4096, *raws_end = fenced(4096) + 4096;
     for (size_t length = 0; length <= 4096; length += length < 40 ? 1 : 997)
-        for (size_t places = 0; places < 12; places++)
+        for (size_t places = 0; places < 20; places++)
             for (int turn = 0; turn < 20; turn++) {
                 uint8_t *bytes = end - length, copy[4096];
-                int64_t *raws = (int64_t *)raws_end - places, raws_copy[12];
+                int64_t *raws = (int64_t *)raws_end - places, raws_copy[20];
                 for (size_t i = 0; i < length; i++) bytes[i] = below(2) ? (uint8_t)below(6) : (uint8_t)next();
                 for (size_t i = 0; i < places; i++) raws[i] = below(2) ? (int64_t)below(300) : (int64_t)next();
                 memcpy(copy, bytes, length), memcpy(raws_copy, raws, places * sizeof *raws);
-                uint32_t id = some_id(), r = rokemaipu_read(id, below(8) != 0, bytes, length, raws, places);
+                uint32_t which = below(IDS), id = ids[which], r = rokemaipu_read(id, some_form(which), bytes, length, raws, places);
                 if (rokemaipu_refusal(r)) IS(memcmp(raws, raws_copy, places * sizeof *raws), 0);
                 IS(memcmp(bytes, copy, length), 0);
-                r = rokemaipu_change(id, true, bytes, length, below(70), below(2) ? (int64_t)below(300) : (int64_t)next());
+                r = rokemaipu_change(id, !is_standard(which), bytes, length, below(70), below(2) ? (int64_t)below(300) : (int64_t)next());
                 if (rokemaipu_refusal(r)) IS(memcmp(bytes, copy, length), 0);
                 memcpy(copy, bytes, length);
-                r = rokemaipu_write(below(12), raws, places, bytes, length);
+                r = rokemaipu_write(below(ROKEMAIPU_KINDS + 2), raws, places, bytes, length);
                 if (rokemaipu_refusal(r)) IS(memcmp(bytes, copy, length), 0);
                 else IS(memcmp(bytes + r, copy + r, length - r), 0);
                 if (bad) return;
@@ -440,14 +499,14 @@ static void any_look(void) {
                 IS(rokemaipu_look_up(t, post, (uint32_t *)numbers.at, places), answer);
                 lent_is(__LINE__, &numbers, want, answer ? 0 : ROKEMAIPU_NUMBERS);
             }
-            for (uint32_t kind = 0; kind < 11; kind++)
+            for (uint32_t kind = 0; kind < ROKEMAIPU_KINDS + 2; kind++)
                 for (size_t places = 0; places < 3; places++)
                     for (size_t room = 0; room <= 10; room++) {
                         const rokemaipu_slot *l = &p->latest[kind % ROKEMAIPU_KINDS];
-                        uint32_t length = lengths_of[kind % ROKEMAIPU_KINDS], answer = refused ? refused : kind > 8 ? R(3) : !l->known ? 0 : !places || room < length ? R(8) : length;
+                        uint32_t length = lengths_of[kind % ROKEMAIPU_KINDS], answer = refused ? refused : kind >= ROKEMAIPU_KINDS ? R(3) : !l->known ? 0 : !places || room < length ? R(8) : length;
                         bool out = answer && !rokemaipu_refusal(answer);
                         uint8_t bytes[8];
-                        for (int i = 0; i < 8; i++) bytes[i] = (uint8_t)(l->raw >> 8 * i);
+                        for (int i = 0; i < 8; i++) bytes[i] = (uint8_t)(l->raw >> 8 * (is_standard(kind) ? 7 - i : i));
                         lend(&time, places), lend(&buf, room);
                         IS(rokemaipu_latest(t, post, kind, (uint32_t *)time.at, places, buf.at, room), answer);
                         lent_is(__LINE__, &time, &l->time, out);
@@ -468,6 +527,7 @@ int main(void) {
     frames();
     refused_frames();
     refused_changes();
+    safety();
     posts();
     sensors();
     looks();

@@ -2,7 +2,7 @@
 
 use super::stateless::buffer;
 use super::Generator;
-use crate::fields::hex;
+use crate::fields::{form, hex};
 use crate::log;
 use crate::posts::{Arrival, Frame};
 use crate::rng::Rng;
@@ -48,8 +48,7 @@ impl Generator {
         let payload = rng.bytes(length as usize);
         let frame = Some(Frame { id, extended, bytes: &payload });
         let buffer = buffer(rng, log::bytes(&Arrival { channel, time, frame }).len());
-        let form = if extended { "x" } else { "s" };
-        format!("logw f {time} {channel} {id:x} {form} {} {}", hex(&payload), hex(&buffer))
+        format!("logw f {time} {channel} {id:x} {} {} {}", form(extended), hex(&payload), hex(&buffer))
     }
 }
 

@@ -4,7 +4,7 @@ use super::Generator;
 use crate::desk::LONGEST;
 use crate::rng::Rng;
 
-const ODD_LINES: [&[u8]; 36] = [
+const ODD_LINES: [&[u8]; 45] = [
     b" ",
     b"  ",
     b"\t",
@@ -31,6 +31,15 @@ const ODD_LINES: [&[u8]; 36] = [
     b"read 63000 x ",
     b"write 6b000 x - 00",
     b"write 6b000 x  00",
+    b"probe",
+    b"probe ",
+    b"probe -0",
+    b"probe 1fff",
+    b"probe 0 0",
+    b"probe 9223372036854775808",
+    b"duty",
+    b"duty 00",
+    b"duty 0 0",
     b"logr",
     b"logr ",
     b"logr - -",
@@ -53,7 +62,7 @@ impl Generator {
             0 => self.long(),
             1..=4 => self.rng.pick(&ODD_LINES).to_vec(),
             _ => {
-                let line = match self.rng.below(8) {
+                let line = match self.rng.below(9) {
                     0 => self.rng.pick(&["setup 9 40 5000 1000 500 500", "setup 9 40 5000 1000 500 500 1"]).to_string(),
                     1 => self.record(),
                     2 => self.read(),
@@ -61,6 +70,7 @@ impl Generator {
                     4 => self.write(),
                     5 => self.log_read(),
                     6 => self.log_write(),
+                    7 => self.service(),
                     _ => self.refused(),
                 };
                 spoilt(&mut self.rng, line.into_bytes())

@@ -1,11 +1,14 @@
 //! Messages with numbers on both sides of the edges that 01's rules have.
 
 use super::sketch::Sketch;
-use crate::codec::{label_name, range, Message};
-use crate::pages::{Kind, Page, Signal, PAGES};
+use crate::codec::{self, label_name, range, Message};
+use crate::pages::{Kind, Order, Page, Signal, Unit, PAGES};
 use crate::rng::Rng;
 
 const FUNCTIONS: [i64; 5] = [0, 1, 2, 4, 8];
+
+/// Both sides of 100.0 %, a probe that is not used, and one that only looks so.
+const TELLING: [i64; 4] = [1000, 1001, 0x1fff, -1];
 
 /// A message of that kind, aimed at what the post may object to.
 pub fn aimed(rng: &mut Rng, kind: Kind, post: &Sketch) -> Message {
@@ -18,6 +21,13 @@ pub fn aimed(rng: &mut Rng, kind: Kind, post: &Sketch) -> Message {
     }
 }
 
+/// Half of them with starts at the highest bit: these have the most signals.
+pub fn some_page(rng: &mut Rng) -> &'static Page {
+    let order = rng.pick(&[Order::Little, Order::Big]);
+    let pages: Vec<&Page> = PAGES.iter().filter(|page| page.order == order).collect();
+    rng.pick(&pages)
+}
+
 /// A message of that page with any numbers.
 pub fn any(rng: &mut Rng, page: &Page) -> Message {
     let raws: Vec<i64> = page.signals.iter().map(|signal| any_raw(rng, signal)).collect();
@@ -28,6 +38,7 @@ fn any_raw(rng: &mut Rng, signal: &Signal) -> i64 {
     let (least, most) = range(signal);
     match signal.labels {
         Some(labels) => rng.pick(labels).0,
+        None if signal.unit == Unit::Tenths && rng.chance(40) => rng.pick(&TELLING).clamp(least, most),
         None if rng.chance(40) => rng.pick(&[least, most, 0, 1, most - 1]),
         None => rng.between(least, most),
     }
@@ -74,6 +85,19 @@ pub fn wrong_length(rng: &mut Rng) -> (&'static Page, Vec<u8>) {
     };
     bytes.truncate(length);
     bytes.extend(rng.bytes(length - bytes.len()));
+    (page, bytes)
+}
+
+/// A payload with a bit set that no signal covers, or with several.
+pub fn uncovered(rng: &mut Rng) -> (&'static Page, Vec<u8>) {
+    let free = |page: &Page| codec::uncovered(page, &vec![0xff; page.len]);
+    let able: Vec<&Page> = PAGES.iter().filter(|page| !free(page).is_empty()).collect();
+    let page = rng.pick(&able);
+    let mut bytes = any(rng, page).bytes();
+    for _ in 0..rng.pick(&[1, 1, 1, 2, 20]) {
+        let bit = rng.pick(&free(page));
+        bytes[bit as usize / 8] |= 1 << (bit % 8);
+    }
     (page, bytes)
 }
 

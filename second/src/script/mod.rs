@@ -61,6 +61,7 @@ enum Sort {
     Read,
     Change,
     Write,
+    Service,
     LogRead,
     LogWrite,
     Malformed,
@@ -71,7 +72,7 @@ enum Sort {
 impl Generator {
     fn new(seed: u64, extras: Extras) -> Generator {
         let mut rng = Rng::new(seed);
-        let restless = rng.pick(&[4, 15, 40]);
+        let restless = rng.pick(&[6, 15, 40]);
         Generator { rng, posts: Default::default(), busy: 0, restless, extras }
     }
 
@@ -86,6 +87,7 @@ impl Generator {
             Sort::Read => self.read().into_bytes(),
             Sort::Change => self.change().into_bytes(),
             Sort::Write => self.write().into_bytes(),
+            Sort::Service => self.service().into_bytes(),
             Sort::LogRead => self.log_read().into_bytes(),
             Sort::LogWrite => self.log_write().into_bytes(),
             Sort::Malformed => self.malformed(),
@@ -108,9 +110,10 @@ impl Generator {
             (restless, Sort::SetUp),
             (35, Sort::RefusedSetUp),
             (restless / 4, Sort::Release),
-            (45, Sort::Read),
+            (70, Sort::Read),
             (65, Sort::Change),
             (75, Sort::Write),
+            (50, Sort::Service),
             (60, Sort::LogRead),
             (35, Sort::LogWrite),
             (35, Sort::Malformed),
@@ -157,7 +160,7 @@ mod tests {
 
     use super::*;
     use crate::codec;
-    use crate::fields::{bytes, identifier};
+    use crate::fields::{bytes, extended, identifier};
     use crate::pages::{self, PAGES};
 
     #[test]
@@ -169,17 +172,17 @@ mod tests {
         assert!(once.iter().all(|line| !line.contains(&b'\n')));
     }
 
-    /// The word, the page and the payload of the steps that bring an extended frame of the table.
+    /// The word, the page and the payload of the steps that bring a frame of the table.
     fn frames(script: &[Vec<u8>]) -> Vec<(&'static str, &'static pages::Page, Vec<u8>)> {
         let frame = |line: &Vec<u8>| {
             let fields: Vec<&[u8]> = line.split(|&byte| byte == b' ').collect();
-            let (word, id, payload) = match fields[..] {
-                [b"frame", _, _, id, b"x", payload] => ("frame", id, payload),
-                [b"read", id, b"x", payload] => ("read", id, payload),
-                [b"change", id, b"x", payload, _, _] => ("change", id, payload),
+            let (word, id, form, payload) = match fields[..] {
+                [b"frame", _, _, id, form, payload] => ("frame", id, form, payload),
+                [b"read", id, form, payload] => ("read", id, form, payload),
+                [b"change", id, form, payload, _, _] => ("change", id, form, payload),
                 _ => return None,
             };
-            Some((word, pages::find(identifier(id)?, true)?, bytes(payload)?))
+            Some((word, pages::find(identifier(id)?, extended(form)?)?, bytes(payload)?))
         };
         script.iter().filter_map(frame).collect()
     }
@@ -187,7 +190,7 @@ mod tests {
     #[test]
     fn every_message_too_short_and_too_long_by_one_byte_and_by_several() {
         let mut met = BTreeSet::new();
-        for seed in 1..6 {
+        for seed in 1..8 {
             for (word, page, payload) in frames(&script(seed, 8000, Extras::default())) {
                 let by = payload.len().abs_diff(page.len).min(2);
                 met.insert((word, page.name, payload.len().cmp(&page.len), by));

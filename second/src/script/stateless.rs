@@ -1,31 +1,33 @@
-//! Steps that need no post: read, change and write.
+//! Steps that need no post: read, change and write, and those of the service screen.
 
-use super::messages::{able_to_offend, any, number_around_labels, number_without_label, unlabelled, wrong_length};
+use super::messages::{
+    able_to_offend, any, number_around_labels, number_without_label, some_page, uncovered, unlabelled, wrong_length,
+};
 use super::Generator;
 use crate::codec::range;
-use crate::fields::hex;
-use crate::pages::{Kind, Page, Signal, Unit, PAGES};
+use crate::fields::{form, hex};
+use crate::pages::{Kind, Page, Signal, Unit};
 use crate::rng::Rng;
 
 impl Generator {
     pub fn read(&mut self) -> String {
-        let (id, form, bytes) = self.lent();
-        format!("read {id:x} {form} {}", hex(&bytes))
+        let (id, extended, bytes) = self.lent();
+        format!("read {id:x} {} {}", form(extended), hex(&bytes))
     }
 
     pub fn change(&mut self) -> String {
-        if self.rng.chance(15) {
-            let (id, form, bytes) = self.lent();
+        if self.rng.chance(25) {
+            let (id, extended, bytes) = self.lent();
             let (start, raw) = (self.rng.below(70), self.rng.between(-2, 300));
-            return format!("change {id:x} {form} {} {start} {raw}", hex(&bytes));
+            return format!("change {id:x} {} {} {start} {raw}", form(extended), hex(&bytes));
         }
         let rng = &mut self.rng;
         if rng.chance(20) {
             let (page, signal) = able_to_offend(rng);
             let (bytes, raw) = (any(rng, page).bytes(), number_without_label(rng, signal));
-            return format!("change {:x} x {} {} {raw}", page.id, hex(&bytes), signal.start);
+            return format!("change {:x} {} {} {} {raw}", page.id, form(page.extended), hex(&bytes), signal.start);
         }
-        let page = rng.pick(&PAGES.each_ref());
+        let page = some_page(rng);
         let bytes = any(rng, page).bytes();
         let signal = &page.signals[rng.below(page.signals.len() as u64) as usize];
         let start = match rng.below(8) {
@@ -33,7 +35,7 @@ impl Generator {
             1 => rng.below(64),
             _ => u64::from(signal.start),
         };
-        format!("change {:x} x {} {start} {}", page.id, hex(&bytes), raw(rng, signal))
+        format!("change {:x} {} {} {start} {}", page.id, form(page.extended), hex(&bytes), raw(rng, signal))
     }
 
     pub fn write(&mut self) -> String {
@@ -49,36 +51,47 @@ impl Generator {
             1 if values.len() > 1 => values.truncate(values.len() - 1),
             _ => {}
         }
-        let (id, form) = match rng.below(20) {
-            0 => (page.id ^ 1 << rng.below(32), "x"),
-            1 => (page.id, "s"),
-            _ => (page.id, "x"),
+        let (id, extended) = match rng.below(20) {
+            0 => (page.id ^ 1 << rng.below(32), page.extended),
+            1 | 2 => (page.id, !page.extended),
+            _ => (page.id, page.extended),
         };
         let values: Vec<String> = values.iter().map(i64::to_string).collect();
-        format!("write {id:x} {form} {} {}", values.join(","), hex(&buffer(rng, page.len)))
+        format!("write {id:x} {} {} {}", form(extended), values.join(","), hex(&buffer(rng, page.len)))
+    }
+
+    /// Raw numbers of a probe and of a duty, those on both sides of what their signals hold among them.
+    pub fn service(&mut self) -> String {
+        let rng = &mut self.rng;
+        let (word, edges, (least, most)) = rng.pick(&[
+            ("probe", [8190, 8191, 8191, 8192, -8192, -8193, -1, -1, 0, 0x3fff], (-8192, 8191)),
+            ("duty", [999, 1000, 1001, 1023, 1024, -1, 0, 65_535, 65_536, i64::MAX], (0, 1023)),
+        ]);
+        let raw = if rng.chance(50) { rng.pick(&edges) } else { rng.between(least, most) };
+        format!("{word} {raw}")
     }
 
     /// A lent frame: mostly one to be read, else one with something wrong.
-    fn lent(&mut self) -> (u32, &'static str, Vec<u8>) {
+    fn lent(&mut self) -> (u32, bool, Vec<u8>) {
         let rng = &mut self.rng;
-        let page = rng.pick(&PAGES.each_ref());
+        let page = some_page(rng);
         let mut bytes = any(rng, page).bytes();
-        match rng.below(16) {
-            0 => return (page.id ^ 1 << rng.below(32), "x", bytes),
-            1 => return (page.id, "s", bytes),
+        match rng.below(18) {
+            0 => return (page.id ^ 1 << rng.below(32), page.extended, bytes),
+            1 => return (page.id, !page.extended, bytes),
             2 => bytes.clear(),
-            3..=5 => {
-                let (page, bytes) = wrong_length(rng);
-                return (page.id, "x", bytes);
-            }
-            6 | 7 => bytes = rng.bytes(page.len),
-            8..=10 => {
-                let (page, bytes) = unlabelled(rng);
-                return (page.id, "x", bytes);
+            3 | 4 => bytes = rng.bytes(page.len),
+            wrong @ 5..=12 => {
+                let (page, bytes) = match wrong {
+                    5..=7 => wrong_length(rng),
+                    8..=10 => unlabelled(rng),
+                    _ => uncovered(rng),
+                };
+                return (page.id, page.extended, bytes);
             }
             _ => {}
         }
-        (page.id, "x", bytes)
+        (page.id, page.extended, bytes)
     }
 }
 
@@ -87,7 +100,7 @@ fn varied_page(rng: &mut Rng) -> &'static Page {
     if rng.chance(35) {
         Kind::PowerModulesStatus.page()
     } else {
-        rng.pick(&PAGES.each_ref())
+        some_page(rng)
     }
 }
 
@@ -107,7 +120,7 @@ fn value(rng: &mut Rng, signal: &Signal) -> i64 {
     match signal.unit {
         Unit::Celsius => rng.pick(&[-41, -40, -39, 0, 214, 215, 216, 32_767, 32_768, -32_768, -32_769, i64::MAX]),
         Unit::KiloOhms => rng.pick(&[-2, -1, 0, 1, 2, 201, 508, 509, 510, 511, 512, 65_535, 65_536, i64::MIN]),
-        Unit::None | Unit::Volts | Unit::Amps => raw(rng, signal),
+        Unit::None | Unit::Volts | Unit::Amps | Unit::Tenths => raw(rng, signal),
     }
 }
 

@@ -1,15 +1,15 @@
 //! Frames and ticks: sessions that run, with times at the edges, and frames that are refused.
 
-use super::messages::{aimed, any, unlabelled, wrong_length};
+use super::messages::{aimed, any, some_page, uncovered, unlabelled, wrong_length};
 use super::sketch::Sketch;
 use super::Generator;
 use crate::codec::Message;
-use crate::fields::hex;
-use crate::pages::{Kind, PAGES};
+use crate::fields::{form, hex};
+use crate::pages::{Kind, Page};
 use crate::rng::Rng;
 
 /// Weights of what arrives while a session is open, and while none is; `None` is a tick.
-const OPEN: [(u64, Option<Kind>); 10] = [
+const OPEN: [(u64, Option<Kind>); 13] = [
     (12, Some(Kind::NewChargeSession)),
     (18, Some(Kind::AdvanticsControllerStatus)),
     (24, Some(Kind::PowerModulesStatus)),
@@ -20,9 +20,12 @@ const OPEN: [(u64, Option<Kind>); 10] = [
     (2, Some(Kind::ChargeStatusChange)),
     (2, Some(Kind::EmergencyStop)),
     (1, Some(Kind::EvIdCcsPart2Din)),
+    (4, Some(Kind::ChargeControl1)),
+    (4, Some(Kind::ChargeState1)),
+    (4, Some(Kind::Pt1000State)),
 ];
 
-const CLOSED: [(u64, Option<Kind>); 10] = [
+const CLOSED: [(u64, Option<Kind>); 13] = [
     (30, Some(Kind::NewChargeSession)),
     (15, Some(Kind::AdvanticsControllerStatus)),
     (12, Some(Kind::PowerModulesStatus)),
@@ -33,10 +36,14 @@ const CLOSED: [(u64, Option<Kind>); 10] = [
     (2, Some(Kind::ChargeStatusChange)),
     (2, Some(Kind::EmergencyStop)),
     (1, Some(Kind::EvIdCcsPart2Din)),
+    (4, Some(Kind::ChargeControl1)),
+    (4, Some(Kind::ChargeState1)),
+    (4, Some(Kind::Pt1000State)),
 ];
 
-/// Identifiers of 000's other messages, and such that only look close.
-const STRANGERS: [u32; 9] = [0, 0x63002, 0x63003, 0x63201, 0x6b006, 0x6b100, 0x6b104, 0x8006_3000, u32::MAX];
+/// Identifiers of 000's other messages, and such that only look close; in neither form in the table.
+const STRANGERS: [u32; 14] =
+    [0, 5, 9, 0x106, 2047, 0x63002, 0x63003, 0x63201, 0x6b006, 0x6b100, 0x6b104, 0x8000_0006, 0x8006_3000, u32::MAX];
 
 impl Generator {
     pub fn traffic(&mut self) -> String {
@@ -54,7 +61,7 @@ impl Generator {
         let message = kind.map(|kind| aimed(rng, kind, post));
         note(post, time, message.as_ref());
         match message {
-            Some(message) => frame(post.channel, time, message.kind.page().id, "x", &message.bytes()),
+            Some(message) => of_page(post.channel, time, message.kind.page(), &message.bytes()),
             None => format!("tick {} {time}", post.channel),
         }
     }
@@ -67,22 +74,22 @@ impl Generator {
         let (channel, now) = (post.channel, post.now);
         let rng = &mut self.rng;
         let time = if rng.chance(10) { now.saturating_sub(1) } else { now };
-        let page = rng.pick(&PAGES.each_ref());
+        let page = some_page(rng);
         let bytes = any(rng, page).bytes();
-        match rng.below(10) {
+        match rng.below(11) {
             0 => self.astray(),
             1 => self.early(channel, now),
-            2 => frame(channel, time, rng.pick(&STRANGERS), "x", &bytes),
-            3 => frame(channel, time, page.id ^ 1 << rng.below(32), "x", &bytes),
-            4 => frame(channel, time, page.id, "s", &bytes),
-            5 => frame(channel, time, page.id, "x", &[]),
-            6 | 7 => {
-                let (page, bytes) = wrong_length(rng);
-                frame(channel, time, page.id, "x", &bytes)
-            }
-            _ => {
-                let (page, bytes) = unlabelled(rng);
-                frame(channel, time, page.id, "x", &bytes)
+            2 => frame(channel, time, (rng.pick(&STRANGERS), rng.chance(60)), &bytes),
+            3 => frame(channel, time, (page.id ^ 1 << rng.below(32), page.extended), &bytes),
+            4 => frame(channel, time, (page.id, !page.extended), &bytes),
+            5 => of_page(channel, time, page, &[]),
+            refused => {
+                let (page, bytes) = match refused {
+                    6 | 7 => wrong_length(rng),
+                    8 => uncovered(rng),
+                    _ => unlabelled(rng),
+                };
+                of_page(channel, time, page, &bytes)
             }
         }
     }
@@ -91,12 +98,12 @@ impl Generator {
     fn early(&mut self, channel: u32, now: u32) -> String {
         let rng = &mut self.rng;
         let time = rng.pick(&[now.saturating_sub(1), now / 2, 0]);
-        let page = rng.pick(&PAGES.each_ref());
+        let page = some_page(rng);
         let bytes = any(rng, page).bytes();
         match rng.below(4) {
             0 | 1 => format!("tick {channel} {time}"),
-            2 => frame(channel, time, page.id, "x", &bytes),
-            _ => frame(channel, time, rng.pick(&STRANGERS), "x", &bytes),
+            2 => of_page(channel, time, page, &bytes),
+            _ => frame(channel, time, (rng.pick(&STRANGERS), rng.chance(60)), &bytes),
         }
     }
 
@@ -108,8 +115,8 @@ impl Generator {
         if self.rng.chance(50) {
             return format!("tick {channel} {time}");
         }
-        let page = self.rng.pick(&PAGES.each_ref());
-        frame(channel as u32, time as u32, page.id, "x", &any(&mut self.rng, page).bytes())
+        let page = some_page(&mut self.rng);
+        of_page(channel as u32, time as u32, page, &any(&mut self.rng, page).bytes())
     }
 }
 
@@ -146,6 +153,10 @@ fn note(post: &mut Sketch, time: u32, message: Option<&Message>) {
     }
 }
 
-fn frame(channel: u32, time: u32, id: u32, form: &str, bytes: &[u8]) -> String {
-    format!("frame {channel} {time} {id:x} {form} {}", hex(bytes))
+fn of_page(channel: u32, time: u32, page: &Page, bytes: &[u8]) -> String {
+    frame(channel, time, (page.id, page.extended), bytes)
+}
+
+fn frame(channel: u32, time: u32, (id, extended): (u32, bool), bytes: &[u8]) -> String {
+    format!("frame {channel} {time} {id:x} {} {}", form(extended), hex(bytes))
 }
