@@ -19,8 +19,8 @@ class CanUtils(unittest.TestCase):
         status, text, _ = log2candump('--start', 1700000000, '-', '-', told=log(lines))
         self.assertEqual(status, 0)
 
-        status, asc, said = called('log2asc', *(f'can{n}' for n in range(32)), told=text)
-        self.assertEqual((status, said), (0, ''))
+        status, asc, _ = called('log2asc', *(f'can{n}' for n in range(32)), told=text)
+        self.assertEqual(status, 0)
         self.assertEqual(asc.count(b' Rx '), len(lines))
 
         status, back, _ = called('asc2log', told=asc)
