@@ -1,4 +1,5 @@
-//! A second program for 01: answers desk scripts, makes them, and compares other programs by them.
+//! A second program for 01: answers desk scripts, makes them, and compares other programs by them. Programs beside it take
+//! its night log from here.
 
 mod arguments;
 mod check;
@@ -12,8 +13,8 @@ mod history;
 #[cfg(test)]
 mod label_readings;
 mod label_slips;
-mod log;
-mod log_line;
+pub mod log;
+pub mod log_line;
 #[cfg(test)]
 mod log_readings;
 mod log_slips;
@@ -53,10 +54,13 @@ use program::Program;
 use rng::Rng;
 use script::Extras;
 
+pub use codec::Refusal;
+pub use posts::{Arrival, Frame, CHANNELS};
+
 const DIFFERS: u8 = 1;
 const CANNOT: u8 = 2;
 
-fn main() -> ExitCode {
+pub fn run() -> ExitCode {
     let call = match arguments::parse(std::env::args_os().skip(1).collect()) {
         Ok(call) => call,
         Err(wrong) => {

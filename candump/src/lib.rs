@@ -1,0 +1,13 @@
+//! Recordings of can-utils' `candump -L` as night logs (02, Req 01), and night logs as such recordings.
+
+mod arguments;
+mod clock;
+mod fields;
+mod files;
+mod frame;
+mod interfaces;
+mod numbers;
+pub mod program;
+mod stamp;
+pub mod to_candump;
+pub mod to_log;

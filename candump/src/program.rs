@@ -1,0 +1,47 @@
+//! What both programs have in common: how they are called, what they say, and how they end.
+
+use std::fmt::Display;
+use std::io::{self, Write};
+use std::process::ExitCode;
+
+use crate::arguments::{self, Call};
+
+pub struct Program {
+    pub name: &'static str,
+    pub usage: &'static str,
+    pub options: [&'static str; 2],
+    /// `Err` says what could not be read or written.
+    pub run: fn(&Call) -> Result<Done, String>,
+}
+
+#[derive(Clone, Copy, Debug, PartialEq, Eq)]
+pub enum Done {
+    All = 0,
+    SomeLeftOut = 1,
+}
+
+const CANNOT: u8 = 2;
+
+impl Program {
+    /// Where standard error itself cannot be written there is nobody left to tell.
+    pub fn say(&self, words: impl Display) {
+        let _ = writeln!(io::stderr(), "{}: {words}", self.name);
+    }
+}
+
+pub fn run(program: &Program) -> ExitCode {
+    let done = match arguments::parse(std::env::args_os().skip(1).collect(), &program.options) {
+        Ok(Some(call)) => (program.run)(&call),
+        Ok(None) => {
+            io::stdout().write_all(program.usage.as_bytes()).map(|()| Done::All).map_err(|error| error.to_string())
+        }
+        Err(wrong) => Err(format!("{wrong}\n{}", program.usage.trim_end())),
+    };
+    match done {
+        Ok(done) => ExitCode::from(done as u8),
+        Err(words) => {
+            program.say(words);
+            ExitCode::from(CANNOT)
+        }
+    }
+}
