@@ -1,8 +1,8 @@
 -- The definitions say what the papers say, in both byte orders: "Bit n of a payload is bit n mod 8 of byte n / 8, bit 0 lowest. A signal with start s and width w has its lowest bit at s" (01);
 -- "There the start names the highest bit, and the signal runs down to bit 0 of that byte and on at bit 7 of the next" (02, Req 04).
 -- Assumes nothing.
-use mathlib.Core.Path.{_≡_, sym, ap, _∙_, subst}
-use mathlib.Core.Bool.{Bool, true, false, cond}
+use mathlib.Core.Path.{_≡_, sym, ap, _∙_}
+use mathlib.Core.Bool.{Bool, true, false}
 use mathlib.Core.Logic.{_⊎_, inl, inr}
 use mathlib.Core.List.{List, [], _∷_}
 use Prim.Native.Nat.{ℕ, zero, suc, _+_, _-_, _*_, _/_, _%_, _^_, _≤_, _<_}
@@ -88,12 +88,8 @@ step : (k n : ℕ) → n < 8 * k → 1 ≤ place true k n → (next n < 8 * k) �
 step k n h l = go (half-of 1 (n % 8))
   where
     go : (n % 8 < 1) ⊎ (1 ≤ n % 8) → (next n < 8 * k) × (place true k (next n) ≡ place true k n - 1)
-    go (inl z) =
-        let e : n + 15 ≡ next n = sym (ap (λ (b : Bool). cond b (n + 15) (n - 1)) (eq-eqb (n % 8) 0 (omega arith))) in
-        subst (λ (m : ℕ). (m < 8 * k) × (place true k m ≡ place true k n - 1)) e (omega arith)
-    go (inr z) =
-        let e : n - 1 ≡ next n = sym (ap (λ (b : Bool). cond b (n + 15) (n - 1)) (ne-eqb (n % 8) 0 (λ q. omega arith))) in
-        subst (λ (m : ℕ). (m < 8 * k) × (place true k m ≡ place true k n - 1)) e (omega arith)
+    go (inl z) = rw (eq-eqb (n % 8) 0 (omega arith)) (omega arith)
+    go (inr z) = rw (ne-eqb (n % 8) 0 (λ q. omega arith)) (omega arith)
 
 one-down : (p q r i : ℕ) → q ≡ p - i → r ≡ q - 1 → r ≡ p - suc i
 one-down p q r i e f = omega arith
