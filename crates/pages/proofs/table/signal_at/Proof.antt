@@ -1,15 +1,16 @@
 -- `pages::table::signal_at` meets its contract. The loop's invariant: the search from row `i` on finds what the search of the whole table does.
 -- The measure is what is left of the table.
-use mathlib.Core.Path.{_≡_, refl, ap, _∙_}
+use mathlib.Core.Path.{_≡_, refl, sym, ap, _∙_}
 use mathlib.Core.Bool.{Bool, true, false, _&&_, and-false}
-use Prim.Native.Nat.{ℕ, _+_, _-_}
+use Prim.Native.Nat.{ℕ, _+_, _-_, _<_}
 use native.Mathlib.Omega.{arith}
-use lib.ListN.{drop}
+use lib.ListN.{getD, drop}
 use borrow.Author.Tests.{eq-eqb, ne-eqb}
 use Rattle.pages.specs.declared.Row.{Row}
 use Rattle.pages.specs.declared.Found.the-variants.{At}
-use Rattle.pages.specs.Table.{rows, rowCount, firstAt, hasKind, isSignal}
-use Rattle.pages.proofs.Walk.{found-here, found-later, found-none}
+use Rattle.pages.specs.Table.{rows, rowCount, noRow, firstAt, hasKind, isSignal}
+use Rattle.pages.proofs.Rules.{rows-length}
+use Rattle.pages.proofs.Searches.{found-here, found-later, found-none}
 use Rattle.pages.proofs.table.signal_at.Statement.{statement}
 use Rattle.pages.proofs.table.signal_at.Tie as tie
 
@@ -27,6 +28,10 @@ no-start k s r h = ap (λ (b : Bool). hasKind k r && b) (ne-eqb (r .start) s h) 
 
 the-signal : (k s : ℕ) (r : Row) → r .kind ≡ k → r .start ≡ s → isSignal k s r ≡ true
 the-signal k s r h e = rw (eq-eqb (r .kind) k h, eq-eqb (r .start) s e)
+
+passed : (k s i : ℕ) (r : Row) → i < rowCount → r ≡ getD rows i noRow → isSignal k s r ≡ false
+    → firstAt (isSignal k s) (i + 1) (drop (i + 1) rows) ≡ firstAt (isSignal k s) i (drop i rows)
+passed k s i r h e n = found-later (isSignal k s) rows i i (rw rows-length h) (ap (isSignal k s) (sym e) ∙ n)
 
 rows-holds : tie.Need-rows-holds Inv-rows μ-rows
 rows-holds c = refl
@@ -46,8 +51,7 @@ rows-again c =
     let a = k .before .before in
     let g = a .before .args in
     let r = k .row-at .result in
-    found-later (isSignal (g .kind) (g .start)) (a .rows .i) r (omega arith) (k .row-at .ensures .0)
-    (no-kind (g .kind) (g .start) r (c .if2 .taken))
+    passed (g .kind) (g .start) (a .rows .i) r (omega arith) (k .row-at .ensures .0) (no-kind (g .kind) (g .start) r (c .if2 .taken))
     ∙ a .rows .inv
 
 sub-t7 : tie.Need-sub-t7 Inv-rows μ-rows
@@ -62,15 +66,14 @@ rows-again-2 c =
     let a = k .before .before in
     let g = a .before .args in
     let r = k .row-at .result in
-    found-later (isSignal (g .kind) (g .start)) (a .rows .i) r (omega arith) (k .row-at .ensures .0)
-    (no-start (g .kind) (g .start) r (c .if3 .left))
+    passed (g .kind) (g .start) (a .rows .i) r (omega arith) (k .row-at .ensures .0) (no-start (g .kind) (g .start) r (c .if3 .left))
     ∙ a .rows .inv
 
 returns : tie.Need-returns Inv-rows μ-rows
 returns c =
     let a = c .before in
     let g = a .before .args in
-    found-none (isSignal (g .kind) (g .start)) (a .rows .i) (c .if1 .taken) ∙ a .rows .inv
+    found-none (isSignal (g .kind) (g .start)) rows (a .rows .i) (a .rows .i) (omega (arith, rows-length, c .if1 .taken)) ∙ a .rows .inv
 
 returns-2 : tie.Need-returns-2 Inv-rows μ-rows
 returns-2 c =
@@ -80,8 +83,8 @@ returns-2 c =
     let r = k .row-at .result in
     let back : a .rows .i + 1 - 1 ≡ a .rows .i = omega arith in
     ap At back
-    ∙ found-here (isSignal (g .kind) (g .start)) (a .rows .i) r (omega arith) (k .row-at .ensures .0)
-    (the-signal (g .kind) (g .start) r (c .before .before .if2 .left) (c .if3 .taken))
+    ∙ found-here (isSignal (g .kind) (g .start)) rows (a .rows .i) (a .rows .i) (omega (arith, rows-length))
+    (ap (isSignal (g .kind) (g .start)) (sym (k .row-at .ensures .0)) ∙ the-signal (g .kind) (g .start) r (c .before .before .if2 .left) (c .if3 .taken))
     ∙ a .rows .inv
 
 pub signal-at-spec : {M : Type 1} → statement M
