@@ -16,7 +16,7 @@ use Rattle.pages.specs.declared.Found.{Found}
 use Rattle.pages.specs.declared.Found.the-variants.{At, Nothing}
 use Rattle.pages.specs.Charger.{chargerCount, chargerRows}
 use Rattle.pages.specs.Safety.{safetyCount, safetyRows}
-use Rattle.pages.specs.Table.{rows, noRow, rowCount, same, hasForm, hasKind, hasId, firstAt}
+use Rattle.pages.specs.Table.{rows, noRow, same, hasForm, hasKind, hasId, firstAt}
 use Rattle.pages.specs.Rules.{every}
 use Rattle.pages.proofs.Rules.{both-true, every-at, every-so}
 

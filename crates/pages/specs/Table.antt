@@ -1,11 +1,10 @@
 -- The table: 01, "The message and signal layouts are one constant table". Charger and Safety hold its rows, and starts, widths, signs and labels
 -- stand there and nowhere else.
-use Prim.Native.Nat.{ℕ, zero, suc, _+_, _/_, _%_, _^_, _≤_, _<_}
+use Prim.Native.Nat.{ℕ, suc, _+_, _/_, _%_, _^_, _≤_, _<_}
 use mathlib.Core.Path.{_≡_}
 use mathlib.Core.Bool.{Bool, true, false, cond, not, _&&_, _||_}
 use mathlib.Core.List.{List, [], _∷_, _++_}
 use lib.Dec.{eqb}
-use lib.ListN.{getD}
 use Rattle.signal.specs.Signal.{getBits, covers}
 use Rattle.signal.specs.Order as order
 use Rattle.pages.specs.declared.Row.{Row}
