@@ -24,7 +24,7 @@ rowCount = chargerCount + safetyCount
 unfoldable pub rows : List Row
 rows = chargerRows ++ safetyRows
 
--- two yes or no that agree
+-- both yes, or both no
 abbrev pub same : Bool → Bool → Bool
 same x y = cond x y (not y)
 
@@ -101,7 +101,7 @@ bitsAt n r = getBits n (lowest r) (r .width)
 abbrev pub Fine : Row → Type 0
 Fine r = (1 ≤ r .width) × (r .width ≤ 63) × (lowest r + r .width ≤ 64) × (r .start < 64)
 
--- some row's signal has bit i
+-- some row's signal has bit i of the payload number
 unfoldable pub covered : List Row → ℕ → Bool
 covered [] i = false
 covered (r ∷ rs) i = covers (lowest r) (r .width) i || covered rs i
