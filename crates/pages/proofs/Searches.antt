@@ -16,9 +16,9 @@ use Rattle.pages.specs.declared.Found.{Found}
 use Rattle.pages.specs.declared.Found.the-variants.{At, Nothing}
 use Rattle.pages.specs.Charger.{chargerCount, chargerRows}
 use Rattle.pages.specs.Safety.{safetyCount, safetyRows}
-use Rattle.pages.specs.Table.{rows, noRow, same, hasForm, hasKind, hasId, block, firstAt}
+use Rattle.pages.specs.Table.{rows, noRow, rowCount, Fine, same, hasForm, hasKind, hasId, block, firstAt}
 use Rattle.pages.specs.Rules.{every, inTurn, allInTurn}
-use Rattle.pages.proofs.Rules.{both-true, table-parts, every-at, every-so, kinds-up}
+use Rattle.pages.proofs.Rules.{both-true, table-parts, every-at, every-so, row-fine, kinds-up}
 
 -- ---- a search from row i of a list on, whose place counts as j
 
@@ -102,15 +102,21 @@ standard-first m =
     ap (λ (j : ℕ). firstAt (hasId m false) j safetyRows) (sym charger-length ∙ sym (zero-add (length chargerRows)))
     ∙ behind (hasId m false) 0 chargerRows safetyRows (every-so (hasForm true) (λ r. not (hasId m false r)) (other-form m false) chargerRows charger-form)
 
-pub charger-at : (i : ℕ) → i < chargerCount → getD chargerRows i noRow ≡ getD rows i noRow
-unfolding rows
-charger-at i h = sym (List·getD-append chargerRows safetyRows noRow i (rw charger-length h))
+-- a row of a part is the table's, and fine
+module _ (i : ℕ) (r : Row) where
+  pub charger-row : i < chargerCount → r ≡ getD chargerRows i noRow → (r ≡ getD rows i noRow) × Fine r
+  unfolding rows
+  charger-row h e =
+      let same : r ≡ getD (chargerRows ++ safetyRows) i noRow = e ∙ sym (List·getD-append chargerRows safetyRows noRow i (rw charger-length h)) in
+      (same, subst Fine (sym same) (row-fine i (omega arith)))
 
-pub safety-at : (i : ℕ) → chargerCount ≤ i → getD safetyRows (i - chargerCount) noRow ≡ getD rows i noRow
-unfolding rows
-safety-at i h =
-    let e : length chargerRows + (i - chargerCount) ≡ i = omega (arith, charger-length) in
-    sym (getD-append-add chargerRows safetyRows (i - chargerCount) noRow) ∙ ap (λ (j : ℕ). getD (chargerRows ++ safetyRows) j noRow) e
+  pub safety-row : i < rowCount → chargerCount ≤ i → r ≡ getD safetyRows (i - chargerCount) noRow → (r ≡ getD rows i noRow) × Fine r
+  unfolding rows
+  safety-row h l e =
+      let back : length chargerRows + (i - chargerCount) ≡ i = omega (arith, charger-length) in
+      let same : r ≡ getD (chargerRows ++ safetyRows) i noRow
+      = e ∙ sym (getD-append-add chargerRows safetyRows (i - chargerCount) noRow) ∙ ap (λ (j : ℕ). getD (chargerRows ++ safetyRows) j noRow) back in
+      (same, subst Fine (sym same) (row-fine i h))
 
 -- ---- kinds
 

@@ -17,6 +17,9 @@ use crate::Row;
 use crate::Sifted;
 use crate::table::ROW_COUNT;
 use crate::table::row_at;
+use crate::table::row_to_pack;
+use crate::table::row_to_sift;
+use crate::table::row_to_unpack;
 use crate::table::signal_at;
 
 // The start as refusal 5 carries it: no signal of 8 bytes starts above bit 63.
@@ -61,7 +64,7 @@ fn sifted(at: usize, kind: usize, n: u64) -> Sifted
                 rest,
             };
         }
-        let r = row_at(i);
+        let r = row_to_sift(i);
         if r.kind != kind {
             break 'rows Sifted {
                 offence: Offence::Nothing,
@@ -114,7 +117,7 @@ pub fn unpack(at: usize, kind: usize, n: u64) -> [i64; 16]
         if 16 <= j {
             break 'rows raws;
         }
-        let r = row_at(i);
+        let r = row_to_unpack(i);
         if r.kind != kind {
             break 'rows raws;
         }
@@ -168,7 +171,7 @@ pub fn pack(at: usize, kind: usize, raws: [i64; 16]) -> Packed
         if ROW_COUNT <= i {
             break 'rows Packed::Number(n);
         }
-        let r = row_at(i);
+        let r = row_to_pack(i);
         if r.kind != kind {
             break 'rows Packed::Number(n);
         }

@@ -20,6 +20,38 @@ pub fn row_at(i: usize) -> Row
     safety::row_at(i - charger::ROW_COUNT)
 }
 
+// `row_at` again, one for each loop over a message's rows: the compiler builds a function with a single call into its caller whatever its size, and of
+// one with many it makes a call for each row, by which reading took 20 ns instead of 16 and writing 38 instead of 28.
+pub fn row_to_sift(i: usize) -> Row
+    requires { ⌜ i < rowCount ⌝ }
+    ensures { λ r. ⌜ (r ≡ getD rows i noRow) × Fine r ⌝ }
+{
+    if i < charger::ROW_COUNT {
+        return charger::row_at(i);
+    }
+    safety::row_at(i - charger::ROW_COUNT)
+}
+
+pub fn row_to_unpack(i: usize) -> Row
+    requires { ⌜ i < rowCount ⌝ }
+    ensures { λ r. ⌜ (r ≡ getD rows i noRow) × Fine r ⌝ }
+{
+    if i < charger::ROW_COUNT {
+        return charger::row_at(i);
+    }
+    safety::row_at(i - charger::ROW_COUNT)
+}
+
+pub fn row_to_pack(i: usize) -> Row
+    requires { ⌜ i < rowCount ⌝ }
+    ensures { λ r. ⌜ (r ≡ getD rows i noRow) × Fine r ⌝ }
+{
+    if i < charger::ROW_COUNT {
+        return charger::row_at(i);
+    }
+    safety::row_at(i - charger::ROW_COUNT)
+}
+
 // All identifiers of a document have one form: the frame's own says which rows to search.
 pub fn first_with_id(id: u32, extended: bool) -> Found
     ensures { λ r. ⌜ r ≡ firstAt (hasId id extended) 0 rows ⌝ }
