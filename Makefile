@@ -1,5 +1,5 @@
 # make run    the March night through the desk, each finding explained; NIGHT=FILE for another, ALL=1 prints every step
-# make test   what .ci/run runs: the tables against the maker's document, the layout of the files, the gate, the C tests, nightlog, the desk against the
+# make test   what .ci/run runs: the tables against the maker's documents, the layout of the files, the gate, the C tests, nightlog, the desk against the
 #             second program, recordings of candump; its last line is 'N passed, 0 failed'
 # make check  the proofs and the programs, without the must-fail edits
 # make lib    target/lib/librokemaipu.a and target/lib/rokemaipu.h, for C and Rust

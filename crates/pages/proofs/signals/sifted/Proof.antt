@@ -8,7 +8,6 @@ use lib.ListN.{drop}
 use lib.Pow.{pow-pos}
 use borrow.Author.Tests.{not-true, not-false}
 use borrow.Author.Needs.{needs}
-use Rattle.signal.specs.Signal.{putOf}
 use Rattle.signal.proofs.Totals.{put-in}
 use Rattle.pages.specs.declared.Row.{Row}
 use Rattle.pages.specs.declared.Offence.{Offence}
@@ -30,20 +29,17 @@ abbrev μ-rows : tie.MeasureT-rows
 rows-holds : tie.Need-rows-holds Inv-rows μ-rows
 rows-holds c = (refl, refl)
 
-row-at-requires : tie.Need-row-at-requires Inv-rows μ-rows
-row-at-requires c κs = omega arith
+row-to-sift-requires : tie.Need-row-to-sift-requires Inv-rows μ-rows
+row-to-sift-requires c κs = omega arith
 
 signal-bits-requires : tie.Need-signal-bits-requires Inv-rows μ-rows
-signal-bits-requires c κs = c .before .before .row-at .ensures .1
+signal-bits-requires c κs = c .before .before .row-to-sift .ensures .1
 
 label-holds-requires : tie.Need-label-holds-requires Inv-rows μ-rows
 label-holds-requires c κs = search needs
 
 start-bit-requires : tie.Need-start-bit-requires Inv-rows μ-rows
-start-bit-requires c κs = c .before .before .before .before .before .row-at .ensures .1
-
-lowest-bit-requires : tie.Need-lowest-bit-requires Inv-rows μ-rows
-lowest-bit-requires c κs = search needs
+start-bit-requires c κs = c .before .before .before .before .before .row-to-sift .ensures .1
 
 put-requires : tie.Need-put-requires Inv-rows μ-rows
 put-requires c κs = search needs
@@ -56,27 +52,26 @@ rows-less c = omega arith
 
 held : (c : tie.After-label-holds Inv-rows μ-rows) → (
     let k = c .before .before .before .before in
-    takes (k .row-at .result .labels) (bitsAt (k .before .before .before .args .n) (k .row-at .result)) ≡ c .label-holds .result)
+    takes (k .row-to-sift .result .labels) (bitsAt (k .before .before .before .args .n) (k .row-to-sift .result)) ≡ c .label-holds .result)
 held c =
-    let r = c .before .before .before .before .row-at .result in
+    let r = c .before .before .before .before .row-to-sift .result in
     sym (c .label-holds .ensures ∙ ap (takes (r .labels)) (c .before .signal-bits .ensures))
 
 rows-again : tie.Need-rows-again Inv-rows μ-rows
 unfolding offenceOf cleared
 rows-again c =
-    let x = c .before .before in
+    let x = c .before in
     let t = x .before in
     let q = t .before .before in
     let k = q .before .before in
     let a = k .before .before in
     let g = a .before .args in
-    let r = k .row-at .result in
-    let f = k .row-at .ensures .1 in
-    let e = block-in (g .kind) (a .rows .i) r (omega arith) (k .row-at .ensures .0) (q .if2 .left) in (
+    let r = k .row-to-sift .result in
+    let f = k .row-to-sift .ensures .1 in
+    let e = block-in (g .kind) (a .rows .i) r (omega arith) (k .row-to-sift .ensures .0) (q .if2 .left) in (
       sym (ap (offenceOf (g .n)) e ∙ rw (held t, not-false (t .label-holds .result) (x .if3 .left))) ∙ a .rows .inv .0,
       ap (cleared (block (g .kind) (drop (a .rows .i + 1) rows)))
           (c .put .ensures
-          ∙ ap (λ (s : ℕ). putOf (a .rows .rest) s (r .width) 0) (c .before .lowest-bit .ensures)
           ∙ put-in (a .rows .rest) (lowest r) (r .width) 0 (f .0) (f .2) (pow-pos (r .width)))
           ∙ sym (ap (λ (l : List Row). cleared l (a .rows .rest)) e)
           ∙ a .rows .inv .1,
@@ -101,7 +96,7 @@ returns-2 c =
     let a = k .before .before in
     let g = a .before .args in
     ended (g .kind) (g .n) (a .rows .rest) (block (g .kind) (drop (a .rows .i) rows)) (block (g .kind) (drop (g .at) rows))
-    (block-out (g .kind) (a .rows .i) (k .row-at .result) (omega arith) (k .row-at .ensures .0) (c .if2 .taken)) (a .rows .inv .0) (a .rows .inv .1)
+    (block-out (g .kind) (a .rows .i) (k .row-to-sift .result) (omega arith) (k .row-to-sift .ensures .0) (c .if2 .taken)) (a .rows .inv .0) (a .rows .inv .1)
 
 returns-3 : tie.Need-returns-3 Inv-rows μ-rows
 unfolding offenceOf
@@ -113,8 +108,8 @@ returns-3 c =
     let a = k .before .before in
     let g = a .before .args in
     let l = block (g .kind) (drop (g .at) rows) in
-    let e = block-in (g .kind) (a .rows .i) (k .row-at .result) (omega arith) (k .row-at .ensures .0) (q .if2 .left) in
-    let first : Start (k .row-at .result .start) ≡ offenceOf (g .n) l =
+    let e = block-in (g .kind) (a .rows .i) (k .row-to-sift .result) (omega arith) (k .row-to-sift .ensures .0) (q .if2 .left) in
+    let first : Start (k .row-to-sift .result .start) ≡ offenceOf (g .n) l =
     sym (ap (offenceOf (g .n)) e ∙ rw (held t, not-true (t .label-holds .result) (b .if3 .taken))) ∙ a .rows .inv .0 in
     ap (λ (s : ℕ). judgedBy (g .kind) (g .n) (Start s) (cleared l (g .n))) (c .start-bit .ensures)
     ∙ ap (λ (o : Offence). judgedBy (g .kind) (g .n) o (cleared l (g .n))) first
@@ -126,11 +121,10 @@ sifted-spec =
     Inv-rows
     μ-rows
     rows-holds
-    row-at-requires
+    row-to-sift-requires
     signal-bits-requires
     label-holds-requires
     start-bit-requires
-    lowest-bit-requires
     put-requires
     add-i
     rows-less
