@@ -24,7 +24,7 @@ use Rattle.post.specs.Sensor.{limitsOf}
 use Rattle.post.specs.Rules.{sessionStatus, sessionControl}
 
 abbrev pub kindCount : ℕ
-kindCount = 9
+kindCount = 12
 
 -- ---- as it is handed out
 
