@@ -1,0 +1,2 @@
+pub mod Quotient
+pub mod Unused

@@ -1,0 +1,3 @@
+pub mod Probes
+pub mod Duty
+pub mod Readings
