@@ -1,12 +1,12 @@
 -- The code's quotient of two floats is the exact quotient rounded once: a whole number of 16 bits is a float exactly, and so is ten. Assumes nothing.
-use mathlib.Core.Path.{_≡_, refl, sym, ap, _∙_}
-use Prim.Native.Nat.{ℕ, suc, _*_, _^_, _≤_, _<_}
+use mathlib.Core.Path.{_≡_, ap, _∙_}
+use Prim.Native.Nat.{ℕ, suc, _*_, _^_, _<_}
 use native.Mathlib.Nat.{mul-pos, mul-assoc, mul-comm, zero-lt-suc}
 use native.Mathlib.Omega.{arith}
 use mathlib.Core.Bool.{Bool, true, false, true≢false, false≢true}
 use lib.IntN.{ℤ, pos, negsuc}
 use lib.Signed.{mag}
-use lib.Ieee.{Float, nan, inf, fin, binary32, prec, up, down, round, div, ofInt, ofBits}
+use lib.Ieee.{Float, nan, inf, fin, binary32, up, down, round, div, ofInt, ofBits}
 use lib.Ieee.Fits.{down-pos}
 use lib.Ieee.Exact.{HasValue}
 use lib.Ieee.Back.{round-whole}

@@ -9,7 +9,8 @@ use Rattle.service.specs.declared.Probe.the-variants.{NotUsed, Degrees}
 use Rattle.service.specs.declared.Screen.{Screen}
 
 -- "The float is the raw whole number divided by ten, rounded once": `round binary32 s n d` is the f32 nearest to the exact fraction n / d
--- with the sign s, a tie going to the even one, as IEEE 754 rounds. The fraction is no float, so nothing is rounded before.
+-- with the sign s, a tie going to the even one, as IEEE 754 rounds; the fraction itself is no float, and nothing is rounded before.
+-- Said without `round`: every other f32 lies farther from a tenth of the raw number (`nearest`, proofs/Rounded.antt), so no tie comes up.
 unfoldable pub degreesOf : ℤ → Float
 degreesOf (pos n) = round binary32 false n 10
 degreesOf (negsuc n) = round binary32 true (suc n) 10

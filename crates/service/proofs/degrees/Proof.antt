@@ -1,7 +1,4 @@
 -- `service::degrees` meets its contract: the quotient of the floats is that of the whole numbers, rounded once. Assumes nothing.
-use mathlib.Core.Path.{_∙_, ap}
-use lib.IntN.{ℤ}
-use lib.Ieee.{binary32, div, ofInt, ofBits}
 use mir.Facts.{toZ-ofZ}
 use borrow.Author.Needs.{needs}
 use Rattle.service.proofs.Quotient.{quotient}

@@ -1,6 +1,6 @@
 -- `service::degrees_bits` meets its contract: only a NaN differs from itself. Assumes nothing.
 use mathlib.Core.Path.{_≡_, sym, ap, _∙_, subst}
-use mathlib.Core.Bool.{true, false, not, true≢false}
+use mathlib.Core.Bool.{false, not, true≢false}
 use lib.Dec.{T}
 use lib.Ieee.{Float, nan, inf, fin, binary32, toBits, isNan, ne}
 use lib.Ieee.Compare.{differs-from-itself, nan-differs}
