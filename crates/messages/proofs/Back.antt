@@ -22,7 +22,7 @@ use Rattle.messages.specs.declared.Message.{Message}
 use Rattle.messages.specs.KindNumbers.{statusKind, parametersKind, controllerKind, sessionKind, changeKind, controlKind, finishedKind, stopKind, idKind, safetyControlKind, safetyStateKind, probesKind, kindCount}
 use Rattle.messages.specs.Read.{at, builtOf}
 use Rattle.messages.specs.Write.{rawsOf, hasRaws, kindOf}
-use Rattle.messages.proofs.FieldLaws.{Field, bytes, words, shorts, degrees, flags, kilohms-back, kilohms-even}
+use Rattle.messages.proofs.FieldLaws.{Field, bytes, words, duties, shorts, degrees, flags, kilohms-back, kilohms-even}
 use Rattle.messages.proofs.Marks.{Label, signalAt, enable-label, state-label, protocol-label, plug-label, status-label, function-label, mode-label, contactors-label, lowering-label, end-label, origin-label, cp-label, pp-label}
 
 -- what is asked of the message that a payload number makes
@@ -140,7 +140,7 @@ safety-control-back : (n : ℕ) → Return n safetyControlKind
 unfolding rows chargerRows safetyRows ofKind wholesOf rawsOf builtOf
 safety-control-back n e = (
   refl,
-  λ i. field-back n safetyControlKind 0 tt (words 10 tt) i
+  λ i. field-back n safetyControlKind 0 tt duties i
       ∷ field-back n safetyControlKind 1 tt flags i
       ∷ field-back n safetyControlKind 2 tt flags i
       ∷ field-back n safetyControlKind 3 tt flags i
@@ -152,7 +152,7 @@ safety-state-back : (n : ℕ) → Return n safetyStateKind
 unfolding rows chargerRows safetyRows ofKind wholesOf rawsOf builtOf
 safety-state-back n e = (
   refl,
-  λ i. field-back n safetyStateKind 0 tt (words 10 tt) i
+  λ i. field-back n safetyStateKind 0 tt duties i
       ∷ field-back n safetyStateKind 1 tt flags i
       ∷ label-back n safetyStateKind e 2 tt cp-label i
       ∷ field-back n safetyStateKind 3 tt flags i

@@ -21,7 +21,7 @@ use Rattle.messages.specs.declared.Message.{Message}
 use Rattle.messages.specs.declared.Message.the-variants.{Status, Parameters, Controller, Session, Change, Control, Finished, Stop, Id, SafetyControl, SafetyState, Probes}
 use Rattle.messages.specs.Read.{at, builtOf, messageOf}
 use Rattle.messages.specs.Write.{rawsOf, kindOf}
-use Rattle.messages.proofs.Marks.{Label, enable-label, state-label, protocol-label, plug-label, status-label, function-label, mode-label, contactors-label, lowering-label, end-label, origin-label, cp-label, pp-label}
+use Rattle.messages.proofs.Marks.{enable-label, state-label, protocol-label, plug-label, status-label, function-label, mode-label, contactors-label, lowering-label, end-label, origin-label, cp-label, pp-label}
 
 -- ---- the table has each kind
 

@@ -13,7 +13,7 @@ use lib.Signed.{mag}
 use borrow.Author.Tests.{lt-ltb, le-ltb, ltb-true, eq-eqb, eqb-true}
 use Rattle.signal.specs.Raw.{fitsIn}
 use Rattle.signal.proofs.Complement.{half-of}
-use Rattle.messages.specs.Fields.{naturalOf, byteOf, wordOf, shortOf, celsiusOf, celsiusRaw, kilohmsOf, hasKilohms, kilohmsRaw, flagOf, flagRaw}
+use Rattle.messages.specs.Fields.{naturalOf, byteOf, wordOf, shortOf, dutyOf, celsiusOf, celsiusRaw, kilohmsOf, hasKilohms, kilohmsRaw, flagOf, flagRaw}
 
 -- a form of field in a signal of w bits, signed or not: values and raw numbers that fit are each other's
 pub record Field {A : Type 0} (raw : A → ℤ) (of : ℤ → A) (sgn : Bool) (w : ℕ) : Type 0 where
@@ -41,6 +41,9 @@ bytes = natural 8 8 (omega arith)
 
 pub words : (w : ℕ) → T (leb w 16) → Field pos wordOf false w
 words w t = natural 16 w (lit≤ t)
+
+pub duties : Field pos dutyOf false 10
+duties = words 10 tt
 
 pub shorts : (w : ℕ) → T (leb w 16) → Field (λ z. z) shortOf true w
 shorts w t = record { there = same; back = same }

@@ -1,6 +1,6 @@
 -- A message whose raw numbers fit their signals is the message that those numbers make (`there`), of every kind. Assumes nothing.
 use mathlib.Core.Path.{_≡_, ap}
-use mathlib.Core.Bool.{Bool, true}
+use mathlib.Core.Bool.{true}
 use mathlib.Core.List.{List, [], _∷_}
 use Prim.Native.Nat.{ℕ, zero, suc, _<_}
 use native.Mathlib.Nat.{le-of-suc-le-suc, not-suc-le-zero}
@@ -27,8 +27,8 @@ use Rattle.messages.specs.declared.Message.the-variants.{Status, Paramet
 use Rattle.messages.specs.KindNumbers.{statusKind, parametersKind, controlKind, idKind, safetyControlKind, safetyStateKind, probesKind}
 use Rattle.messages.specs.Read.{at, statusOf, parametersOf, controlOf, idOf, safetyControlOf, safetyStateOf, probesOf, builtOf}
 use Rattle.messages.specs.Write.{statusRaws, parametersRaws, controlRaws, idRaws, safetyControlRaws, safetyStateRaws, probesRaws, rawsOf, hasRaws, kindOf}
-use Rattle.messages.proofs.FieldLaws.{Field, bytes, words, shorts, degrees, flags, kilohms-there}
-use Rattle.messages.proofs.Marks.{Label, signalAt, enable-label, state-label, protocol-label, plug-label, status-label, function-label, mode-label, contactors-label, lowering-label, end-label, origin-label, cp-label, pp-label}
+use Rattle.messages.proofs.FieldLaws.{bytes, words, duties, shorts, degrees, flags, kilohms-there}
+use Rattle.messages.proofs.Marks.{signalAt, enable-label, state-label, protocol-label, plug-label, status-label, function-label, mode-label, contactors-label, lowering-label, end-label, origin-label, cp-label, pp-label}
 
 -- ---- number j of a message fits signal j of its kind
 
@@ -103,7 +103,7 @@ unfolding rows chargerRows safetyRows ofKind
 safety-control-there s e =
     let f = fits-at safetyControlKind (safetyControlRaws s) e in
     λ i. record {
-      duty = words 10 tt .there (s .duty) (f 0 tt) i;
+      duty = duties .there (s .duty) (f 0 tt) i;
       pwm = flags .there (s .pwm) (f 1 tt) i;
       contactor1 = flags .there (s .contactor1) (f 2 tt) i;
       contactor2 = flags .there (s .contactor2) (f 3 tt) i;
@@ -114,7 +114,7 @@ unfolding rows chargerRows safetyRows ofKind
 safety-state-there s e =
     let f = fits-at safetyStateKind (safetyStateRaws s) e in
     λ i. record {
-      duty = words 10 tt .there (s .duty) (f 0 tt) i;
+      duty = duties .there (s .duty) (f 0 tt) i;
       pwm = flags .there (s .pwm) (f 1 tt) i;
       cp = cp-label .there (s .cp) i;
       short = flags .there (s .short) (f 3 tt) i;

@@ -27,7 +27,7 @@ use Rattle.messages.specs.declared.Reading.{Reading}
 use Rattle.messages.specs.declared.Reading.the-variants.{Accepted, Refused}
 use Rattle.messages.specs.KindNumbers.{statusKind, parametersKind, controllerKind, sessionKind, changeKind, controlKind, finishedKind, stopKind, idKind, safetyControlKind, safetyStateKind}
 use Rattle.messages.specs.Labels as label
-use Rattle.messages.specs.Fields.{naturalOf, byteOf, wordOf, shortOf, celsiusOf, kilohmsOf, flagOf}
+use Rattle.messages.specs.Fields.{naturalOf, byteOf, wordOf, shortOf, dutyOf, celsiusOf, kilohmsOf, flagOf}
 
 -- the raw number at each place of a list, and 0 past its end
 abbrev pub at : List ℤ → ℕ → ℤ
@@ -80,11 +80,10 @@ stopOf f = record { origin = label.originOf (naturalOf (f 0)) }
 abbrev pub idOf : (ℕ → ℤ) → EvId
 idOf f = record { byte0 = byteOf (f 0); byte1 = byteOf (f 1); byte2 = byteOf (f 2); byte3 = byteOf (f 3); byte4 = byteOf (f 4); byte5 = byteOf (f 5) }
 
--- 02, Req 04: "A duty above 100.0 % keeps its raw number"
 abbrev pub safetyControlOf : (ℕ → ℤ) → ChargeControl1
 safetyControlOf f =
     record {
-      duty = wordOf (f 0);
+      duty = dutyOf (f 0);
       pwm = flagOf (f 1);
       contactor1 = flagOf (f 2);
       contactor2 = flagOf (f 3);
@@ -93,7 +92,7 @@ safetyControlOf f =
 abbrev pub safetyStateOf : (ℕ → ℤ) → ChargeState1
 safetyStateOf f =
     record {
-      duty = wordOf (f 0);
+      duty = dutyOf (f 0);
       pwm = flagOf (f 1);
       cp = label.cpOf (naturalOf (f 2));
       short = flagOf (f 3);

@@ -1,6 +1,6 @@
 -- Writing: 01, "Writing a message gives 7 or 8."
 use Prim.Native.Nat.{ℕ}
-use mathlib.Core.Bool.{Bool, true, false, cond}
+use mathlib.Core.Bool.{Bool, true, cond}
 use mathlib.Core.List.{List, [], _∷_}
 use lib.IntN.{ℤ, pos}
 use Rattle.pages.specs.declared.Refusal.the-variants.{NoRawNumber}

@@ -3,6 +3,7 @@ ghost use mathlib.Core.Path.{_≡_};
 ghost use Rattle.messages.specs.Read.{at, statusOf, parametersOf, sessionOf, controlOf, idOf, safetyControlOf, safetyStateOf, probesOf, builtOf};
 use crate::fields::byte;
 use crate::fields::celsius;
+use crate::fields::duty;
 use crate::fields::flag;
 use crate::fields::kilohms;
 use crate::fields::natural;
@@ -76,7 +77,7 @@ fn safety_control(f: [i64; 16]) -> ChargeControl1
     ensures { λ r. ⌜ r ≡ safetyControlOf (at f) ⌝ }
 {
     ChargeControl1 {
-        duty: word(f[0]),
+        duty: duty(f[0]),
         pwm: flag(f[1]),
         contactor1: flag(f[2]),
         contactor2: flag(f[3]),
@@ -87,7 +88,7 @@ fn safety_state(f: [i64; 16]) -> ChargeState1
     ensures { λ r. ⌜ r ≡ safetyStateOf (at f) ⌝ }
 {
     ChargeState1 {
-        duty: word(f[0]),
+        duty: duty(f[0]),
         pwm: flag(f[1]),
         cp: cp_of(natural(f[2])),
         short: flag(f[3]),

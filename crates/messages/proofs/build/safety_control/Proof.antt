@@ -4,11 +4,11 @@ use borrow.Author.Needs.{needs, sfits-of}
 use Rattle.messages.proofs.build.safety_control.Statement.{statement}
 use Rattle.messages.proofs.build.safety_control.Tie as tie
 
-array-copy-out-word : tie.Need-array-copy-out-word
-array-copy-out-word c = search needs
+array-copy-out-duty : tie.Need-array-copy-out-duty
+array-copy-out-duty c = search needs
 
-word-requires : tie.Need-word-requires
-word-requires c κs = search needs
+duty-requires : tie.Need-duty-requires
+duty-requires c κs = search needs
 
 array-copy-out-flag : tie.Need-array-copy-out-flag
 array-copy-out-flag c = search needs
@@ -36,11 +36,11 @@ returns c =
     simp (
       toZ-ofZ,
       sfits-of,
-      x0 .before .word-arg .given,
+      x0 .before .duty-arg .given,
       x1 .before .flag-arg .given,
       x2 .before .flag-arg2 .given,
       c .before .flag-arg3 .given,
-      x0 .word .ensures,
+      x0 .duty .ensures,
       x1 .flag .ensures,
       x2 .flag2 .ensures,
       c .flag3 .ensures,
@@ -50,8 +50,8 @@ pub safety-control-spec : {M : Type 1} → statement M
 safety-control-spec =
     tie.close
     (tie.spec
-    array-copy-out-word
-    word-requires
+    array-copy-out-duty
+    duty-requires
     array-copy-out-flag
     flag-requires
     array-copy-out-flag-2

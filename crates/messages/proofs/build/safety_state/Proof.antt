@@ -4,11 +4,11 @@ use borrow.Author.Needs.{needs, sfits-of}
 use Rattle.messages.proofs.build.safety_state.Statement.{statement}
 use Rattle.messages.proofs.build.safety_state.Tie as tie
 
-array-copy-out-word : tie.Need-array-copy-out-word
-array-copy-out-word c = search needs
+array-copy-out-duty : tie.Need-array-copy-out-duty
+array-copy-out-duty c = search needs
 
-word-requires : tie.Need-word-requires
-word-requires c κs = search needs
+duty-requires : tie.Need-duty-requires
+duty-requires c κs = search needs
 
 array-copy-out-flag : tie.Need-array-copy-out-flag
 array-copy-out-flag c = search needs
@@ -121,7 +121,7 @@ returns c =
     simp (
       toZ-ofZ,
       sfits-of,
-      x0 .before .word-arg .given,
+      x0 .before .duty-arg .given,
       x1 .before .flag-arg .given,
       n2 .before .natural-arg .given,
       x4 .before .flag-arg2 .given,
@@ -136,7 +136,7 @@ returns c =
       x14 .before .flag-arg10 .given,
       x15 .before .flag-arg11 .given,
       c .before .flag-arg12 .given,
-      x0 .word .ensures,
+      x0 .duty .ensures,
       x1 .flag .ensures,
       n2 .natural .ensures,
       x3 .cp-of .ensures,
@@ -159,8 +159,8 @@ pub safety-state-spec : {M : Type 1} → statement M
 safety-state-spec =
     tie.close
     (tie.spec
-    array-copy-out-word
-    word-requires
+    array-copy-out-duty
+    duty-requires
     array-copy-out-flag
     flag-requires
     array-copy-out-natural
