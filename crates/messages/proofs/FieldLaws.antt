@@ -25,7 +25,7 @@ unsigned : (w : ℕ) (P : ℤ → Type 0) → ((x : ℕ) → x < 2 ^ w → P (po
 unsigned w P f (pos x) e = f x (ltb-true x (2 ^ w) e)
 unsigned w P f (negsuc x) e = absurd (let z : _≡_ {A = ℕ} 0 1 = cc in omega arith)
 
--- a number of at most v bits in a signal of w
+-- a field of v bits, over a signal that has no more
 natural : (v w : ℕ) → w ≤ v → Field pos (λ z. naturalOf z % 2 ^ v) false w
 natural v w h =
     record {
