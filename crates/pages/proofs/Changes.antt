@@ -33,7 +33,8 @@ use Rattle.pages.specs.Judge.{unlabelled, strayBelow, judgeOf}
 use Rattle.pages.specs.Raws.{wholeAt, putRaw}
 use Rattle.pages.specs.Change.{changedAt, changedIn, changeOf, bytesAfter}
 use Rattle.pages.specs.Rules.{above}
-use Rattle.pages.proofs.Rules.{both-true, either-false, Ordered, ordered, row-fine, found-in, RowsApart, Among, row-among, among-apart}
+use Rattle.pages.proofs.Rules.{both-true, either-false, Ordered, ordered, row-fine, RowsApart, Among, row-among, among-apart}
+use Rattle.pages.proofs.Firsts.{found-in}
 use Rattle.pages.proofs.PageBits.{not-covered, bit-not-covered, bit-past}
 use Rattle.pages.proofs.Gaps.{stray-none, stray-zero}
 use Rattle.pages.proofs.Trips.{Taken, accepted, accepts, bits-put, whole-put}

@@ -26,7 +26,8 @@ use Rattle.pages.specs.declared.Refusal.the-variants.{UnknownIdentifier,
 use Rattle.pages.specs.Table.{rows, noRow, rowsOf, lengthOf, bigOf, firstAt, hasId, lowest, HasBit, covered}
 use Rattle.pages.specs.Judge.{unlabelled, offender, strayBelow, judgedNumber, wrongLength, judgedAt, judgeOf}
 use Rattle.pages.specs.Steps.{cleared}
-use Rattle.pages.proofs.Rules.{both-true, not-both, Ordered, Among, first-id}
+use Rattle.pages.proofs.Rules.{both-true, not-both, Ordered, Among}
+use Rattle.pages.proofs.Firsts.{first-id}
 use Rattle.pages.proofs.PageBits.{no-signal, no-place, bit-past}
 
 -- ---- clearing the signals

@@ -1,4 +1,5 @@
 pub mod Rules
+pub mod Firsts
 pub mod Searches
 pub mod Keys
 pub mod PageBits

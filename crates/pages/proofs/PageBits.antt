@@ -1,4 +1,5 @@
--- A signal's bits as the page names them: the payload's bit b is one of them (`HasBit`) exactly where the row covers b's place in the payload number.
+-- A signal's bits as the page names them: the payload's bit b is one of them (`HasBit`) exactly where the row covers b's place in the payload number,
+-- and what is read from there are those bits (`page-bit`).
 -- Assumes nothing.
 use mathlib.Core.Path.{_≡_, refl, sym, ap, ap₂, _∙_, subst}
 use mathlib.Core.Bool.{Bool, true, false, _&&_, _||_}
@@ -7,16 +8,16 @@ use mathlib.Core.List.{List, [], _∷_}
 use Prim.Native.Nat.{ℕ, _+_, _-_, _*_, _/_, _%_, _≤_, _<_}
 use native.Mathlib.Omega.{arith}
 use lib.Dec.{leb, ltb}
-use lib.ListN.{length, getD, List·getD-eq-default}
+use lib.ListN.{length, List·getD-eq-default}
 use borrow.Author.Tests.{le-leb, lt-ltb, leb-true, ltb-true}
 use Rattle.signal.specs.Signal.{getBits, covers}
-use Rattle.signal.specs.Payload.{bitAt}
+use Rattle.signal.specs.Payload.{numberOf, bitAt, Bytes}
 use Rattle.signal.specs.Order.{place, bitOf}
 use Rattle.signal.specs.Order as order
 use Rattle.signal.proofs.Laws.{get-zero}
-use Rattle.signal.proofs.Words.{place-place, bit-place}
+use Rattle.signal.proofs.Words.{place-place, bit-place, signal-bit}
 use Rattle.pages.specs.declared.Row.{Row}
-use Rattle.pages.specs.Table.{rowsOf, lengthOf, bigOf, lowest, HasBit, covered}
+use Rattle.pages.specs.Table.{rowsOf, lengthOf, bigOf, lowest, HasBit, bitsAt, covered}
 use Rattle.pages.proofs.Rules.{both-true, either-false, not-both, Kept, Among, among-kept, row-message}
 
 pub covers-in : (s w i : ℕ) → covers s w i ≡ true → (s ≤ i) × (i < s + w)
@@ -93,6 +94,19 @@ module _ (k b : ℕ) where
   pub no-place : b < 8 * lengthOf k → ((r : Row) → Among r (rowsOf k) → HasBit r b → ⊥) → covered (rowsOf k) (place (bigOf k) (lengthOf k) b) ≡ false
   no-place l n =
       none-covers (rowsOf k) (place (bigOf k) (lengthOf k) b) (λ r m. bit-not-covered r m l (n r m))
+
+-- ---- what is read
+
+-- bit j of a signal, read from the number of a frame of its kind's length, is the payload's bit that the page names
+pub page-bit : (k : ℕ) (bs : List ℕ) (r : Row) (j : ℕ) → Among r (rowsOf k) → Bytes bs → length bs ≡ lengthOf k → j < r .width
+    → getBits (bitsAt (numberOf (bigOf k) bs) r) j 1 ≡ bitAt bs (bitOf (r .big) (r .start) (r .width) j)
+page-bit k bs r j m hb l h =
+    let s = row-message k r m in
+    let kept = among-kept k r m in
+    let size : r .bytes ≡ length bs = s .2 ∙ sym l in
+    ap₂ (λ (x : Bool) (y : ℕ). getBits (getBits (numberOf x bs) y (r .width)) j 1) (sym (s .3))
+    (kept .lowestBit ∙ ap (λ (x : ℕ). order.lowest (r .big) x (r .start) (r .width)) size)
+    ∙ signal-bit (r .big) bs (r .start) (r .width) j hb (subst (λ (x : ℕ). order.Inside (r .big) x (r .start) (r .width)) size (kept .within)) h
 
 -- ---- past the payload's end
 

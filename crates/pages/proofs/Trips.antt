@@ -24,7 +24,8 @@ use Rattle.pages.specs.declared.Judged.the-variants.{Frame}
 use Rattle.pages.specs.Table.{rows, noRow, rowsOf, headRow, identifierOf, extendedOf, lengthOf, bigOf, lowest, bitsAt, Fine, covered, takes}
 use Rattle.pages.specs.Judge.{unlabelled, strayBelow, judgedNumber, judgeOf}
 use Rattle.pages.specs.Raws.{signalCount, wholeAt, wholesOf, pad, rawsOf, rowTakes, allTake, putRaw, packedOn, canWrite}
-use Rattle.pages.proofs.Rules.{both-true, either-false, Ordered, ordered, Among, apart-sym, few, id-kind, first-kind, first-id, known}
+use Rattle.pages.proofs.Rules.{both-true, either-false, Ordered, ordered, Among, apart-sym, few}
+use Rattle.pages.proofs.Firsts.{id-kind, first-kind, first-id, known}
 use Rattle.pages.proofs.PageBits.{covers-in}
 use Rattle.pages.proofs.Gaps.{reached-frame, taken, stray-none, stray-zero}
 

@@ -1,10 +1,10 @@
 -- What reading a frame answers: 01, "Reading gives 3 to 6", the lowest that applies.
 use Prim.Native.Nat.{ℕ, zero, suc, _*_, min}
-use mathlib.Core.Bool.{Bool, true, false, cond, not, _&&_, _||_}
+use mathlib.Core.Bool.{Bool, false, cond, not, _&&_, _||_}
 use mathlib.Core.List.{List, [], _∷_}
 use lib.Dec.{eqb, ltb}
 use lib.ListN.{length, getD}
-use Rattle.signal.specs.Signal.{getBits, putBits}
+use Rattle.signal.specs.Signal.{getBits}
 use Rattle.signal.specs.Payload.{numberOf}
 use Rattle.pages.specs.declared.Row.{Row}
 use Rattle.pages.specs.declared.Found.{Found}
@@ -13,7 +13,7 @@ use Rattle.pages.specs.declared.Judged.{Judged}
 use Rattle.pages.specs.declared.Judged.the-variants.{Frame, Refused}
 use Rattle.pages.specs.declared.Refusal.{Refusal}
 use Rattle.pages.specs.declared.Refusal.the-variants.{UnknownIdentifier, TooShort, TooLong, NoLabel, UncoveredBit}
-use Rattle.pages.specs.Table.{rows, noRow, rowsOf, firstAt, hasId, lowest, bitsAt, covered, takes}
+use Rattle.pages.specs.Table.{rows, noRow, rowsOf, firstAt, hasId, bitsAt, covered, takes}
 
 -- 5: "a label signal holds a number without a label"
 unfoldable pub unlabelled : ℕ → List Row → Bool

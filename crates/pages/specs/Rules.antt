@@ -1,5 +1,5 @@
 -- The rules that the table keeps to, as one test that antt computes over all of it (`tableFine`).
-use Prim.Native.Nat.{ℕ, _+_, _*_, _^_, min}
+use Prim.Native.Nat.{ℕ, _+_, _^_, min}
 use mathlib.Core.Bool.{Bool, true, cond, not, _&&_, _||_}
 use mathlib.Core.List.{List, [], _∷_}
 use lib.Dec.{eqb, leb, ltb}

@@ -1,11 +1,10 @@
 -- The table: 01, "The message and signal layouts are one constant table". Charger and Safety hold its rows, and starts, widths, signs and labels
 -- stand there and nowhere else.
-use Prim.Native.Nat.{ℕ, zero, suc, _+_, _/_, _%_, _^_, _≤_, _<_}
+use Prim.Native.Nat.{ℕ, suc, _+_, _/_, _%_, _^_, _≤_, _<_}
 use mathlib.Core.Path.{_≡_}
 use mathlib.Core.Bool.{Bool, true, false, cond, not, _&&_, _||_}
 use mathlib.Core.List.{List, [], _∷_, _++_}
 use lib.Dec.{eqb}
-use lib.ListN.{getD}
 use Rattle.signal.specs.Signal.{getBits, covers}
 use Rattle.signal.specs.Order as order
 use Rattle.pages.specs.declared.Row.{Row}
@@ -25,7 +24,7 @@ rowCount = chargerCount + safetyCount
 unfoldable pub rows : List Row
 rows = chargerRows ++ safetyRows
 
--- two yes or no that agree
+-- both yes, or both no
 abbrev pub same : Bool → Bool → Bool
 same x y = cond x y (not y)
 
@@ -102,7 +101,7 @@ bitsAt n r = getBits n (lowest r) (r .width)
 abbrev pub Fine : Row → Type 0
 Fine r = (1 ≤ r .width) × (r .width ≤ 63) × (lowest r + r .width ≤ 64) × (r .start < 64)
 
--- some row's signal has bit i
+-- some row's signal has bit i of the payload number
 unfoldable pub covered : List Row → ℕ → Bool
 covered [] i = false
 covered (r ∷ rs) i = covers (lowest r) (r .width) i || covered rs i

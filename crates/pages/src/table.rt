@@ -30,7 +30,7 @@ pub fn first_with_id(id: u32, extended: bool) -> Found
     safety::first_with_id(id)
 }
 
-// No search: a caller that knows the kind has its rows known, too (`raw_of`).
+// A `match` and no search, so that nothing is left of it where the caller knows the kind (`raw_of`).
 pub fn first_of_kind(kind: usize) -> Found
     ensures { λ r. ⌜ r ≡ firstAt (hasKind kind) 0 rows ⌝ }
 {
@@ -51,22 +51,25 @@ pub fn first_of_kind(kind: usize) -> Found
     }
 }
 
-// The row of the signal of a kind that starts at a bit: only an exact start counts.
+// The row of the signal of a kind that starts at a bit: only an exact start counts. The kind's rows stand together.
 pub fn signal_at(kind: usize, start: u32) -> Found
     ensures { λ r. ⌜ r ≡ firstAt (isSignal kind start) 0 rows ⌝ }
 {
-    let mut i: usize = 0;
+    let Found::At(at) = first_of_kind(kind) else {
+        return Found::Nothing;
+    };
+    let mut i = at;
     'rows: loop {
         if ROW_COUNT <= i {
             break 'rows Found::Nothing;
         }
         let r = row_at(i);
-        i += 1;
         if r.kind != kind {
-            continue 'rows;
+            break 'rows Found::Nothing;
         }
         if r.start == start {
-            break 'rows Found::At(i - 1);
+            break 'rows Found::At(i);
         }
+        i += 1;
     }
 }

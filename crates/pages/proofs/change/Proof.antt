@@ -1,13 +1,13 @@
 -- `pages::change` meets its contract: the reader's refusal is handed on, then the row's, and the changed number's bytes are stored.
 use borrow.Author.Needs.{needs}
-use mathlib.Core.Path.{_≡_, refl, sym, ap, ap₂, _∙_}
+use mathlib.Core.Path.{_≡_, sym, ap, _∙_}
 use mathlib.Core.Bool.{Bool}
 use mathlib.Core.List.{List}
 use Prim.Native.Nat.{ℕ}
 use lib.IntN.{ℤ}
 use lib.ListN.{length}
 use mir.Facts.{toZ-ofZ}
-use Rattle.signal.specs.Payload.{bytesOf, storedIn}
+use Rattle.signal.specs.Payload.{bytesOf}
 use Rattle.signal.proofs.Totals.{stored-all}
 use Rattle.pages.specs.declared.Judged.{Judged}
 use Rattle.pages.specs.declared.Judged.the-variants.{Frame, Refused}

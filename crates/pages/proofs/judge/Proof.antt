@@ -17,7 +17,8 @@ use Rattle.pages.specs.declared.Judged.the-variants.{Refused}
 use Rattle.pages.specs.Table.{rows, noRow, rowsOf, block, headRow, lengthOf, firstAt, hasId}
 use Rattle.pages.specs.Judge.{judgedNumber, wrongLength, judgedRow, judgedAt, judgeOf}
 use Rattle.pages.specs.Steps.{offenceOf, cleared, judgedBy}
-use Rattle.pages.proofs.Rules.{first-id, short-length}
+use Rattle.pages.proofs.Rules.{short-length}
+use Rattle.pages.proofs.Firsts.{first-id}
 use Rattle.pages.proofs.Offenders.{judged-by, row-short, row-long}
 use Rattle.pages.proofs.judge.Statement.{statement}
 use Rattle.pages.proofs.judge.Tie as tie

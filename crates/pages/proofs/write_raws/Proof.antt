@@ -8,7 +8,7 @@ use mathlib.Core.List.{List}
 use Prim.Native.Nat.{ℕ, _≤_, _<_}
 use lib.Dec.{leb}
 use lib.IntN.{ℤ}
-use lib.ListN.{length, drop}
+use lib.ListN.{length}
 use Rattle.signal.specs.Payload.{storedIn}
 use Rattle.signal.proofs.Totals.{stored-not}
 use Rattle.pages.specs.declared.Row.{Row}
@@ -20,7 +20,7 @@ use Rattle.pages.specs.declared.Packed.the-variants as packed
 use Rattle.pages.specs.Table.{rowsOf, identifierOf, lengthOf, bigOf}
 use Rattle.pages.specs.Raws.{allTake, packedOn, canWrite, writeRawsOf, bufferAfter}
 use Rattle.pages.specs.Steps.{packOf}
-use Rattle.pages.proofs.Rules.{first-kind, none-kind}
+use Rattle.pages.proofs.Firsts.{first-kind, none-kind}
 use Rattle.pages.proofs.write_raws.Statement.{statement}
 use Rattle.pages.proofs.write_raws.Tie as tie
 

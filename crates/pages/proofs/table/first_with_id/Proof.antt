@@ -1,5 +1,5 @@
 -- `pages::table::first_with_id` meets its contract: an identifier of a form is found among the rows that have it, or nowhere.
-use mathlib.Core.Path.{_≡_, sym, ap, _∙_}
+use mathlib.Core.Path.{sym, ap, _∙_}
 use mathlib.Core.Bool.{Bool}
 use borrow.Author.Needs.{needs}
 use Rattle.pages.specs.Table.{rows, firstAt, hasId}
