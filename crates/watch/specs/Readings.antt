@@ -26,7 +26,6 @@ use Rattle.post.specs.declared.Sensor.{Sensor}
 use Rattle.post.specs.declared.Sensor.the-variants.{Measuring, YesNo}
 use Rattle.post.specs.declared.Dated.{Dated}
 use Rattle.post.specs.declared.Dated.the-variants as dated
-use Rattle.post.specs.declared.Latest.{Latest}
 use Rattle.post.specs.History.{sinceFinished, opening, inSession, earlierIn}
 use Rattle.post.specs.Judgements.{lowersBadly, outside, leaking, badInsulation, differs}
 use Rattle.post.specs.Rules.{sessionStatus, sessionControl, limitOf, f1, f2, f3, f4, f5, f6, f7, f8, f9, f10, f11, findings01}
