@@ -11,6 +11,7 @@ use crate::refusal_word;
 use messages::labels::plug_number;
 use messages::labels::protocol_number;
 use pages::Refusal;
+use post::KINDS;
 use post::Post;
 use post::Slot;
 use post::kept::sensor_number;
@@ -104,7 +105,7 @@ fn hand_out(l: Slot, kind: usize, time: &mut [u32], buf: &mut [u8]) -> u32
         return refusal_word(Refusal::ShortBuffer);
     }
     time[0] = l.time;
-    signal::store(buf, l.raw, len);
+    signal::store(pages::is_big(kind), buf, l.raw, len);
     len as u32
 }
 
@@ -121,10 +122,10 @@ pub fn latest_of(t: Table, post: u32, kind: u32, time: &mut [u32], buf: &mut [u8
     if !p.used {
         return refusal_word(Refusal::NotSetUp);
     }
-    if 8 < kind {
+    let k = kind as usize;
+    if KINDS <= k {
         return refusal_word(Refusal::UnknownIdentifier);
     }
-    let k = kind as usize;
     let l = p.latest[k];
     hand_out(l, k, time, buf)
 }

@@ -1,7 +1,7 @@
 -- The findings that the code reads off an aged post are 01's over the history that the post stands for.
 use Prim.Native.Nat.{ℕ, _+_}
 use native.Mathlib.Omega.{arith}
-use mathlib.Core.Path.{_≡_, refl}
+use mathlib.Core.Path.{_≡_, refl, sym, _∙_}
 use mathlib.Core.Bool.{true, _&&_}
 use mathlib.Core.Option.{Option, none, some}
 use lib.Dec.{ltb}
@@ -15,6 +15,7 @@ use Rattle.post.specs.Rules.{ask, isOpen, laterTime, limitBy, limitOf, u
 use Rattle.post.specs.Record.{slotOf, sessionOf, latests, session01, postAt}
 use Rattle.post.specs.Step.{laterOf, silentIn, lateAfter, anyFindings, limitIn, unreadyIn, carryingIn, controlFindings, statusFindings, openingFindings, finishedFindings, messageFindings}
 use Rattle.post.proofs.ByKind.{by-kind}
+use Rattle.post.proofs.Unasked.{unasked-frame, messageBits, no-bits, only-f1-f2}
 
 -- ---- what is read of a slot
 
@@ -61,12 +62,6 @@ differs-look (some o) s d n = refl
 
 -- ---- the sum
 
--- of the rules that ask for a message
-abbrev messageBits : PlainLimits → History → Event → ℕ
-messageBits lim h e =
-    bit (f3 h e) 4 + bit (f4 h e) 8 + bit (f5 h e) 16 + bit (f6 e) 32 + bit (f7 lim h e) 64
-    + bit (f8 lim h e) 128 + bit (f9 lim h e) 256 + bit (f10 h e) 512 + bit (f11 h e) 1024
-
 module _ (c : ℕ) (lim : PlainLimits) (h : History) where
   any-look : (e : Event) → anyFindings (postAt c lim true (timeOf e) h) ≡ bit (f1 lim h e) 1 + bit (f2 h e) 2
   unfolding anyFindings postAt latests session01 f1 f2
@@ -91,18 +86,17 @@ module _ (c : ℕ) (lim : PlainLimits) (h : History) where
     finished-look = simp open-look (omega arith)
 
     message-look : (k : ℕ) → messageFindings (postAt c lim true now h) k raw ≡ messageBits lim h (frame t k raw)
-    unfolding messageFindings postAt f3 f4 f5 f6 f7 f8 f9 f10 f11
+    unfolding messageFindings postAt
     message-look =
         by-kind (λ k. messageFindings (postAt c lim true now h) k raw ≡ messageBits lim h (frame t k raw))
         status-look
         session-look
         control-look
         finished-look
-        (λ k s n d f. rw (s, n, d, f) (omega arith))
+        (λ k s n d f. rw (s, n, d, f) (sym (no-bits lim h (frame t k raw) (unasked-frame t k raw s n d f))))
 
   pub findings-tick : (t : ℕ) → anyFindings (postAt c lim true t h) ≡ findings01 lim h (tick t)
-  unfolding findings01 f3 f4 f5 f6 f7 f8 f9 f10 f11
-  findings-tick t = rw (any-look (tick t)) (omega arith)
+  findings-tick t = any-look (tick t) ∙ sym (only-f1-f2 lim h (tick t) (refl, refl, refl, refl))
 
   pub findings-frame : (t k raw : ℕ) → anyFindings (postAt c lim true t h) + messageFindings (postAt c lim true t h) k raw ≡ findings01 lim h (frame t k raw)
   unfolding findings01

@@ -1,5 +1,6 @@
 pub mod Counted
 pub mod ByKind
+pub mod Unasked
 pub mod SessionLook
 pub mod FindingsLook
 pub mod Look

@@ -55,7 +55,7 @@ module _ (c : ℕ) (lim : PlainLimits) where
 
   post-tick : (h : History) (t : ℕ) → postAt c lim true t h ≡ postOf c lim (tick t ∷ h)
   unfolding postAt
-  post-tick h t = rw (session-stays h (tick t) refl refl refl refl, latest-tick h t)
+  post-tick h t = rw (session-stays h (tick t) (refl, refl, refl, refl), latest-tick h t)
 
   -- ---- the record's parts
 

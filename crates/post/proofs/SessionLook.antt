@@ -12,6 +12,7 @@ use Rattle.post.specs.Rules.{sessionStatus, sessionControl}
 use Rattle.post.specs.Record.{slotAt, sessionOf, session01}
 use Rattle.post.specs.Step.{sessionAfter}
 use Rattle.post.proofs.ByKind.{by-kind}
+use Rattle.post.proofs.Unasked.{Unasked, unasked-frame}
 
 -- ---- over the opening before the event and the session's events so far
 
@@ -40,10 +41,9 @@ module _ (a : History) (t raw : ℕ) where
   goes-control none = refl
   goes-control (some o) = refl
 
-stays : (o : Option (ℕ × ℕ)) (a : History) (e : Event) → ofKind statusKind e ≡ none → ofKind sessionKind e ≡ none → ofKind controlKind e ≡ none
-    → sessionBefore o a ≡ sessionWith o a e
-stays none a e s n d = rw n
-stays (some o) a e s n d = rw (s, d)
+stays : (o : Option (ℕ × ℕ)) (a : History) (e : Event) → Unasked e → sessionBefore o a ≡ sessionWith o a e
+stays none a e un = rw (un .1)
+stays (some o) a e un = rw (un .0, un .2)
 
 -- ---- over the history
 
@@ -55,10 +55,9 @@ module _ (h : History) where
   events = afterOldest (ofKind sessionKind) (sinceFinished h)
 
   -- an event of none of the four kinds leaves the session as it was
-  pub session-stays : (e : Event) → ofKind statusKind e ≡ none → ofKind sessionKind e ≡ none → ofKind controlKind e ≡ none → ofKind finishedKind e ≡ none
-      → session01 h ≡ session01 (e ∷ h)
+  pub session-stays : (e : Event) → Unasked e → session01 h ≡ session01 (e ∷ h)
   unfolding session01 sessionStatus sessionControl opening inSession sinceFinished
-  session-stays e s n d f = rw f (stays before events e s n d)
+  session-stays e un = rw (un .3) (stays before events e un)
 
   pub session-frame : (t k raw : ℕ) → sessionAfter (session01 h) k (slotAt t raw) ≡ session01 (frame t k raw ∷ h)
   unfolding session01 sessionStatus sessionControl opening inSession sinceFinished sessionAfter
@@ -68,7 +67,7 @@ module _ (h : History) where
       (goes-session events t raw before)
       (goes-control events t raw before)
       refl
-      (λ j s n d f. same j s n d f ∙ session-stays (frame t j raw) (rw s) (rw n) (rw d) (rw f))
+      (λ j s n d f. same j s n d f ∙ session-stays (frame t j raw) (unasked-frame t j raw s n d f))
       k
     where
       same : (j : ℕ) → eqb j statusKind ≡ false → eqb j sessionKind ≡ false → eqb j controlKind ≡ false → eqb j finishedKind ≡ false

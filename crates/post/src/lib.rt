@@ -15,7 +15,7 @@ use messages::Message;
 use messages::Plug;
 use messages::Protocol;
 
-pub const KINDS: usize = 9;
+pub const KINDS: usize = 12;
 
 // The latest frame of a kind, as it came.
 #[repr(C)]
@@ -67,7 +67,7 @@ pub struct Post {
     pub limits: PlainLimits,
     pub heard: bool,
     pub time: u32,
-    pub latest: [Slot; 9],
+    pub latest: [Slot; KINDS],
     pub session: Session,
 }
 
@@ -109,7 +109,7 @@ pub struct Record {
     pub channel: u32,
     pub limits: Limits,
     pub last: LastTime,
-    pub latest: [Latest; 9],
+    pub latest: [Latest; KINDS],
     pub session: SessionPart,
 }
 
@@ -136,7 +136,7 @@ pub fn free_post() -> Post
             known: false,
             time: 0,
             raw: 0,
-        }; 9],
+        }; KINDS],
         session: s,
     }
 }
@@ -156,7 +156,7 @@ pub fn fresh_post(channel: u32, limits: PlainLimits) -> Post
             known: false,
             time: 0,
             raw: 0,
-        }; 9],
+        }; KINDS],
         session: s,
     }
 }

@@ -62,7 +62,7 @@ pub fn shown(p: Post) -> Record
 {
     let mut latest = [Latest {
         message: Dated::Nothing,
-    }; 9];
+    }; KINDS];
     let mut k: usize = 0;
     while k < KINDS {
         let l = p.latest[k];

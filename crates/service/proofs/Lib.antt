@@ -1,0 +1,7 @@
+pub mod Quotient
+pub mod Unused
+pub mod Closest
+pub mod Grid
+pub mod Apart
+pub mod Rounded
+pub mod Patterns

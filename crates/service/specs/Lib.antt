@@ -1,0 +1,4 @@
+pub mod Probes
+pub mod Nearness
+pub mod Duty
+pub mod Readings
