@@ -212,6 +212,17 @@ uint32_t rokemaipu_write(uint32_t kind, const int64_t *raws, size_t places, uint
  * with 13, 7, and 5 for the new label, with the start bit of the changed signal. */
 uint32_t rokemaipu_change(uint32_t id, bool extended, uint8_t *payload, size_t length, uint32_t start, int64_t raw);
 
+/* ---- for the service screen: what is no part of a message */
+
+/* Whether a probe is used, by its raw number: only 8,191 says that it is not. */
+bool rokemaipu_probe_used(int16_t raw);
+
+/* Its degrees Celsius: the raw number divided by ten, rounded once to the nearest float; 0 of a probe that is not used. */
+float rokemaipu_probe_degrees(int16_t raw);
+
+/* A duty's raw number, held to 1,000, which is 100.0 %. The message keeps what was sent. */
+uint16_t rokemaipu_limited_duty(uint16_t raw);
+
 /* ---- the night log ----
  *
  * A log is the bytes of its records, one after the other. Log first, then watch: whatever the log can hold is logged, refused by the

@@ -1,5 +1,5 @@
 /* The desk's steps over the C interface: reads a script and answers it as the desk does, so that the same scripts hold both. What is no raw number
- * (degrees, kOhm, a limited duty) is worked out here. */
+ * (a temperature of document 000, kOhm) is worked out here. */
 #define _DEFAULT_SOURCE
 #include "rokemaipu.h"
 
@@ -225,15 +225,15 @@ static bool probe_step(void) {
     float degrees;
     uint32_t bits;
     if (!whole(words[1], &raw) || raw < -8192 || raw > 8191) return false;
-    if (raw == 8191) return puts("N"), true;
-    degrees = (float)raw / 10;
+    if (!rokemaipu_probe_used((int16_t)raw)) return puts("N"), true;
+    degrees = rokemaipu_probe_degrees((int16_t)raw);
     memcpy(&bits, &degrees, sizeof bits);
     return printf("D %08" PRIx32 "\n", bits), true;
 }
 
 static bool duty_step(void) {
     uint32_t raw;
-    return u32(1, &raw) && raw <= 1023 && (printf("A %" PRIu32 "\n", raw < 1000 ? raw : 1000), true);
+    return u32(1, &raw) && raw <= 1023 && (printf("A %" PRIu16 "\n", rokemaipu_limited_duty((uint16_t)raw)), true);
 }
 
 static bool log_write_step(void) {

@@ -220,6 +220,18 @@ static void safety(void) {
     puts("safety controller: 82 15 and FE 70, its refusals, its frames on a post");
 }
 
+/* Every number: C's own division is correctly rounded too, so that the floats are the same bit by bit. */
+static void screen(void) {
+    for (int32_t raw = INT16_MIN; raw <= INT16_MAX; raw++) {
+        float degrees = rokemaipu_probe_degrees((int16_t)raw), own = raw == 8191 ? 0 : (float)raw / 10.0f;
+        IS(rokemaipu_probe_used((int16_t)raw), raw != 8191);
+        IS(memcmp(&degrees, &own, sizeof own), 0);
+        if (bad) return;
+    }
+    for (uint32_t raw = 0; raw <= UINT16_MAX; raw++) IS(rokemaipu_limited_duty((uint16_t)raw), raw < 1000 ? raw : 1000);
+    puts("service screen: every probe's degrees or that it is not used, every duty's limit");
+}
+
 static void posts(void) {
     rokemaipu_table t;
     memset(&t, 0, sizeof t);
@@ -528,6 +540,7 @@ int main(void) {
     refused_frames();
     refused_changes();
     safety();
+    screen();
     posts();
     sensors();
     looks();
