@@ -1,11 +1,13 @@
 // E8 to E14 through the watch, and the other side of each.
 use crate::show::text;
 use crate::steps::frame;
+use crate::steps::latest;
 use crate::steps::limits;
 use crate::steps::limits_with;
 use crate::steps::record;
 use crate::steps::release;
 use crate::steps::set_up;
+use crate::steps::standard;
 use crate::steps::tick;
 use post::Sensor;
 use watch::Table;
@@ -168,10 +170,37 @@ fn clocks(table: Table) {
     record(t, 1);
 }
 
+// 02, Req 04: "These frames on a post's channel are accepted and recorded as three more kinds, and raise only F1 and F2."
+fn safety() {
+    text(
+        b"Req 04 closed contactors and no session; a late controller; a silent session; refusals 3 and 6\n",
+    );
+    let mut t = set_up(watch::empty(), 0, 4, limits());
+    t = standard(t, 4, 0, 6, &[0x82u8, 0x15, 0x03, 0, 0, 0, 0, 0]);
+    t = standard(t, 4, 10, 7, &[0x82u8, 0x15, 0x03, 0x03, 0x03, 0, 0, 0]);
+    t = frame(t, 4, 20, CONTROLLER, &[7u8]);
+    t = standard(t, 4, 220, 7, &[0x82u8, 0x15, 0x03, 0x03, 0x03, 0, 0, 0]);
+    t = standard(t, 4, 221, 7, &[0x82u8, 0x15, 0x03, 0x03, 0x03, 0, 0, 0]);
+    t = frame(t, 4, 300, SESSION, &[2u8, 1]);
+    t = frame(t, 4, 700, CONTROLLER, &[7u8]);
+    t = standard(t, 4, 800, 8, &[0xfeu8, 0x70, 0, 0, 0, 0, 0, 0]);
+    t = standard(t, 4, 801, 8, &[0xfeu8, 0x70, 0, 0, 0, 0, 0, 0]);
+    t = standard(t, 4, 901, 6, &[0x82u8, 0x15, 0x03, 0, 0, 0, 0, 0]);
+    t = standard(t, 4, 902, 9, &[0x82u8, 0x15, 0, 0, 0, 0, 0, 0]);
+    t = frame(t, 4, 902, 7, &[0x82u8, 0x15, 0x03, 0x03, 0x03, 0, 0, 0]);
+    t = standard(t, 4, 902, 7, &[0x82u8, 0x15, 0x03, 0x03, 0x03, 0, 0, 1]);
+    latest(t, 0, 8);
+    latest(t, 0, 9);
+    latest(t, 0, 10);
+    latest(t, 0, 11);
+    record(t, 0);
+}
+
 pub fn all() {
     insulation();
     sensors();
     silences();
     orders();
     channels();
+    safety();
 }

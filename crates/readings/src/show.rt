@@ -1,14 +1,20 @@
 // Numbers, bytes and answers as text on standard output.
 use libc::STDOUT_FILENO;
+use messages::ChargeControl1;
 use messages::Message;
 use messages::NewChargeSession;
 use messages::Plug;
 use messages::PowerModulesStatus;
 use messages::Protocol;
+use messages::Pt1000State;
 use messages::SystemEnable;
 use pages::Judged;
 use pages::Refusal;
 use pages::Written;
+use service::Probe;
+
+// The places that a message's raw numbers have, as in `pages::raws_of`.
+const SIGNALS: usize = 16;
 
 pub fn text(s: &[u8]) {
     io::write_all(STDOUT_FILENO, s);
@@ -26,6 +32,10 @@ fn number(z: i64) {
     } else {
         natural(bits);
     }
+}
+
+fn short(z: i16) {
+    number(z as i64);
 }
 
 pub fn bytes(s: &[u8]) {
@@ -51,9 +61,9 @@ fn spaced(z: i64) {
     number(z);
 }
 
-fn raws(zs: [i64; 8]) {
+fn raws(zs: [i64; SIGNALS]) {
     let mut j = 0;
-    while j < 8 {
+    while j < SIGNALS {
         spaced(zs[j]);
         j += 1;
     }
@@ -134,4 +144,61 @@ pub fn write_status(shown: &[u8], modules: i16, insulation: u16, buf: &mut [u8])
 pub fn write_session(protocol: Protocol, plug: Plug, buf: &mut [u8]) {
     text(b"  write a New_Charge_Session");
     written(Message::Session(NewChargeSession { protocol, plug }), buf);
+}
+
+// A ChargeControl1 with PWM active and both contactors open.
+pub fn write_duty(duty: u16, buf: &mut [u8]) {
+    text(b"  write duty ");
+    natural(duty as u64);
+    let m = Message::SafetyControl(ChargeControl1 {
+        duty,
+        pwm: true,
+        contactor1: false,
+        contactor2: false,
+    });
+    written(m, buf);
+}
+
+// A PT1000State with 0.0 C in the other three probes.
+pub fn write_probe(temperature1: i16, buf: &mut [u8]) {
+    text(b"  write probe ");
+    short(temperature1);
+    let m = Message::Probes(Pt1000State {
+        temperature1,
+        stopped1: false,
+        failed1: false,
+        temperature2: 0,
+        stopped2: false,
+        failed2: false,
+        temperature3: 0,
+        stopped3: false,
+        failed3: false,
+        temperature4: 0,
+        stopped4: false,
+        failed4: false,
+    });
+    written(m, buf);
+}
+
+// Degrees by the 32 bits of their float.
+pub fn probe(raw: i16) {
+    text(b"  probe ");
+    short(raw);
+    let p = service::probe_of(raw);
+    match p {
+        Probe::NotUsed => text(b" -> not used\n"),
+        Probe::Degrees(x) => {
+            text(b" -> ");
+            io::print_hex(STDOUT_FILENO, service::degrees_bits(x) as u64, 8);
+            text(b"\n");
+        }
+    }
+}
+
+pub fn limited(duty: u16) {
+    text(b"  duty ");
+    natural(duty as u64);
+    text(b" -> ");
+    natural(service::limited_duty(duty) as u64);
+    text(b"\n");
 }

@@ -4,7 +4,10 @@ use crate::show::natural;
 use crate::show::refusal;
 use crate::show::text;
 use libc::STDOUT_FILENO;
+use messages::kind_of;
 use pages::Refusal;
+use post::Dated;
+use post::KINDS;
 use post::LastTime;
 use post::Limits;
 use post::Sensor;
@@ -78,17 +81,26 @@ pub fn release(t: Table, post: u32) -> Table {
     r.table
 }
 
-pub fn frame(t: Table, channel: u32, time: u32, id: u32, payload: &[u8]) -> Table {
-    text(b"  frame on ");
+fn framed(t: Table, channel: u32, time: u32, id: u32, extended: bool, payload: &[u8]) -> Table {
     at(channel, time);
     text(b" ");
     io::print_hex(STDOUT_FILENO, id as u64, 1);
     text(b" ");
     bytes(payload);
-    let r = watch::frame(t, channel, time, id, true, payload);
+    let r = watch::frame(t, channel, time, id, extended, payload);
     let a = r.answer;
     answer(a);
     r.table
+}
+
+pub fn frame(t: Table, channel: u32, time: u32, id: u32, payload: &[u8]) -> Table {
+    text(b"  frame on ");
+    framed(t, channel, time, id, true, payload)
+}
+
+pub fn standard(t: Table, channel: u32, time: u32, id: u32, payload: &[u8]) -> Table {
+    text(b"  standard frame on ");
+    framed(t, channel, time, id, false, payload)
 }
 
 pub fn tick(t: Table, channel: u32, time: u32) -> Table {
@@ -150,4 +162,31 @@ pub fn record(t: Table, post: u32) {
             session(s);
         }
     }
+}
+
+fn dated(d: Dated) {
+    match d {
+        Dated::Nothing => text(b"nothing\n"),
+        Dated::At(time, m) => {
+            text(b"kind ");
+            natural(kind_of(m) as u64);
+            text(b" at ");
+            natural(time as u64);
+            text(b"\n");
+        }
+    }
+}
+
+pub fn latest(t: Table, post: u32, kind: usize) {
+    if KINDS <= kind {
+        return;
+    }
+    text(b"  latest of kind ");
+    natural(kind as u64);
+    text(b" -> ");
+    let r = watch::look_up(t, post);
+    let shown = r.shown;
+    let l = shown.latest[kind];
+    let d = l.message;
+    dated(d);
 }

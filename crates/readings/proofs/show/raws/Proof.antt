@@ -1,14 +1,15 @@
--- `readings::show::raws` is safe and ends: j is at most 8, and what is left of the eight falls.
+-- `readings::show::raws` is safe and ends: j is at most the number of places, and what is left of them falls.
 use Prim.Native.Nat.{_≤_, _-_}
 use borrow.Author.Needs.{needs}
+use Rattle.pages.specs.Raws.{signalCount}
 use Rattle.readings.proofs.show.raws.Statement.{statement}
 use Rattle.readings.proofs.show.raws.Tie as tie
 
 abbrev Inv-loop : tie.InvT-loop
-Inv-loop zs j₀ j = j ≤ 8
+Inv-loop zs j₀ j = j ≤ signalCount
 
 abbrev μ-loop : tie.MeasureT-loop
-μ-loop zs j₀ j = 8 - j
+μ-loop zs j₀ j = signalCount - j
 
 loop-holds : tie.Need-loop-holds Inv-loop μ-loop
 loop-holds c = search needs
