@@ -13,13 +13,32 @@ pub fn set_up(
     charge: u32,
     discharge: u32,
     silence: u32,
+    sensor: u32,
 ) -> Lent
-    ensures { λ r. ⌜ r ≡ setUpWord t post channel voltage charge discharge silence ⌝ }
+    ensures { λ r. ⌜ r ≡ setUpWord t post channel voltage charge discharge silence sensor ⌝ }
 {
     if lent {
-        return gateway::lend_set_up(t, post, channel, voltage, charge, discharge, silence);
+        return gateway::lend_set_up(
+            t,
+            post,
+            channel,
+            voltage,
+            charge,
+            discharge,
+            silence,
+            sensor,
+        );
     }
-    gateway::settled(t, post, channel, voltage, charge, discharge, silence)
+    gateway::settled(
+        t,
+        post,
+        channel,
+        voltage,
+        charge,
+        discharge,
+        silence,
+        sensor,
+    )
 }
 
 pub fn release(lent: bool, t: Table, post: u32) -> Lent

@@ -11,6 +11,7 @@ use post::Limits;
 use post::OpenSession;
 use post::Record;
 use post::SessionPart;
+use post::kept::sensor_number;
 use text::Pen;
 
 // `MSG@T`, or `-`
@@ -31,8 +32,10 @@ fn put_defaults(out: &mut [u8], pen: Pen, l: Limits) -> Pen {
 }
 
 fn put_limits(out: &mut [u8], pen: Pen, l: Limits) -> Pen {
+    let sensor = l.sensor;
     let p = put_defaults(out, pen, l);
-    named(out, p, b" w=", l.silence)
+    let q = named(out, p, b" w=", l.silence);
+    named(out, q, b" sensor=", sensor_number(sensor))
 }
 
 fn put_last(out: &mut [u8], pen: Pen, l: LastTime) -> Pen {

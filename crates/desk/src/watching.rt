@@ -47,10 +47,19 @@ enum Asked {
         charge: u32,
         discharge: u32,
         silence: u32,
+        sensor: u32,
     },
 }
 
-// `POST CHANNEL VOLT CHG DIS W`
+// desk.md: "missing: 0"
+fn take_sensor(s: &[u8], at: usize) -> Last {
+    if at > s.len() {
+        return Last::Is(0);
+    }
+    fields::take_last(s, at)
+}
+
+// `POST CHANNEL VOLT CHG DIS W [SENSOR]`
 fn setup_line(s: &[u8], at: usize) -> Asked {
     let Field::Is(post, a) = text::take_u32(s, at) else {
         return Asked::Bad;
@@ -67,7 +76,10 @@ fn setup_line(s: &[u8], at: usize) -> Asked {
     let Field::Is(discharge, e) = text::take_u32(s, d) else {
         return Asked::Bad;
     };
-    let Last::Is(silence) = fields::take_last(s, e) else {
+    let Field::Is(silence, f) = text::take_u32(s, e) else {
+        return Asked::Bad;
+    };
+    let Last::Is(sensor) = take_sensor(s, f) else {
         return Asked::Bad;
     };
     Asked::Setup {
@@ -77,10 +89,11 @@ fn setup_line(s: &[u8], at: usize) -> Asked {
         charge,
         discharge,
         silence,
+        sensor,
     }
 }
 
-// `setup POST CHANNEL VOLT CHG DIS W`
+// `setup POST CHANNEL VOLT CHG DIS W [SENSOR]`
 pub fn setup(lent: bool, table: Table, s: &[u8], at: usize, out: &mut [u8], pen: Pen) -> Line {
     let Asked::Setup {
         post,
@@ -89,6 +102,7 @@ pub fn setup(lent: bool, table: Table, s: &[u8], at: usize, out: &mut [u8], pen:
         charge,
         discharge,
         silence,
+        sensor,
     } = setup_line(s, at)
     else {
         return unknown(table, out, pen);
@@ -102,6 +116,7 @@ pub fn setup(lent: bool, table: Table, s: &[u8], at: usize, out: &mut [u8], pen:
         charge,
         discharge,
         silence,
+        sensor,
     );
     set(r, out, pen)
 }
