@@ -1,5 +1,6 @@
 // The readings of paper 01, those of 02's requests, and frames on both sides of each edge, run through the library. What is printed is held to the file stdout beside src/.
 mod posts; // posts.rt: the watch
+mod safety; // safety.rt: the safety controller's frames
 mod show; // show.rt: numbers, bytes and answers as text
 mod steps; // steps.rt: steps on a table, with their answers
 
@@ -145,4 +146,5 @@ fn main() {
     writings();
     changes();
     posts::all();
+    safety::all();
 }

@@ -51,9 +51,9 @@ fn spaced(z: i64) {
     number(z);
 }
 
-fn raws(zs: [i64; 8]) {
+fn raws(zs: [i64; 16]) {
     let mut j = 0;
-    while j < 8 {
+    while j < 16 {
         spaced(zs[j]);
         j += 1;
     }
@@ -72,9 +72,19 @@ fn judged(j: Judged) {
     }
 }
 
+// With its form: standard and extended identifiers are told apart.
+pub fn identifier(id: u32, extended: bool) {
+    io::print_hex(STDOUT_FILENO, id as u64, 1);
+    if extended {
+        text(b"x");
+    } else {
+        text(b"s");
+    }
+}
+
 pub fn read(id: u32, extended: bool, payload: &[u8]) {
     text(b"  read ");
-    io::print_hex(STDOUT_FILENO, id as u64, 1);
+    identifier(id, extended);
     text(b" ");
     bytes(payload);
     text(b" -> ");
@@ -84,6 +94,8 @@ pub fn read(id: u32, extended: bool, payload: &[u8]) {
 
 pub fn change(id: u32, extended: bool, payload: &mut [u8], start: u32, raw: i64) {
     text(b"  change ");
+    identifier(id, extended);
+    text(b" ");
     bytes(payload);
     text(b" at ");
     natural(start as u64);
@@ -97,7 +109,7 @@ pub fn change(id: u32, extended: bool, payload: &mut [u8], start: u32, raw: i64)
     text(b"\n");
 }
 
-fn written(m: Message, buf: &mut [u8]) {
+pub fn written(m: Message, buf: &mut [u8]) {
     let w = messages::write(m, buf);
     text(b" -> ");
     bytes(buf);

@@ -1,10 +1,12 @@
 // Steps on a table by value, each printed with its answer.
 use crate::show::bytes;
+use crate::show::identifier;
 use crate::show::natural;
 use crate::show::refusal;
 use crate::show::text;
-use libc::STDOUT_FILENO;
 use pages::Refusal;
+use post::Dated;
+use post::KINDS;
 use post::LastTime;
 use post::Limits;
 use post::Sensor;
@@ -78,17 +80,25 @@ pub fn release(t: Table, post: u32) -> Table {
     r.table
 }
 
-pub fn frame(t: Table, channel: u32, time: u32, id: u32, payload: &[u8]) -> Table {
+fn heard(t: Table, channel: u32, time: u32, id: u32, extended: bool, payload: &[u8]) -> Table {
     text(b"  frame on ");
     at(channel, time);
     text(b" ");
-    io::print_hex(STDOUT_FILENO, id as u64, 1);
+    identifier(id, extended);
     text(b" ");
     bytes(payload);
-    let r = watch::frame(t, channel, time, id, true, payload);
+    let r = watch::frame(t, channel, time, id, extended, payload);
     let a = r.answer;
     answer(a);
     r.table
+}
+
+pub fn frame(t: Table, channel: u32, time: u32, id: u32, payload: &[u8]) -> Table {
+    heard(t, channel, time, id, true, payload)
+}
+
+pub fn standard_frame(t: Table, channel: u32, time: u32, id: u32, payload: &[u8]) -> Table {
+    heard(t, channel, time, id, false, payload)
 }
 
 pub fn tick(t: Table, channel: u32, time: u32) -> Table {
@@ -150,4 +160,35 @@ pub fn record(t: Table, post: u32) {
             session(s);
         }
     }
+}
+
+fn is_known(d: Dated) -> bool {
+    match d {
+        Dated::Nothing => false,
+        Dated::At(_, _) => true,
+    }
+}
+
+fn kind(k: usize, d: Dated) {
+    if is_known(d) {
+        text(b" ");
+        natural(k as u64);
+    }
+}
+
+// The kinds whose latest message the record has; none of a post that is not set up.
+pub fn kinds(t: Table, post: u32) {
+    text(b"  kinds of post ");
+    natural(post as u64);
+    text(b" ->");
+    let r = watch::look_up(t, post);
+    let shown = r.shown;
+    let mut k = 0;
+    while k < KINDS {
+        let l = shown.latest[k];
+        let d = l.message;
+        kind(k, d);
+        k += 1;
+    }
+    text(b"\n");
 }
