@@ -4,13 +4,16 @@ use mathlib.Core.Path.{_≡_, refl, ap, _∙_}
 use mathlib.Core.Bool.{Bool, true, false, cond}
 use mathlib.Core.Logic.{_⊎_, inl, inr}
 use Prim.Native.Nat.{ℕ, zero, suc, _+_, _-_, _*_, _/_, _%_, _^_, _≤_, _<_}
-use native.Mathlib.Nat.{mod-eq-of-lt}
+use native.Mathlib.Nat.{mod-eq-of-lt, lt-of-lt-of-le}
 use native.Mathlib.Omega.{arith}
+use lib.Dec.{T, leb, lit≤}
 use lib.IntN.{ℤ, pos, negsuc, subℕ}
+use lib.Pow.{pow-mono}
+use lib.Signed.{mag}
 use borrow.Author.Tests.{lt-ltb, le-ltb, ltb-true, eq-eqb, eqb-true}
 use Rattle.signal.specs.Raw.{fitsIn}
 use Rattle.signal.proofs.Complement.{half-of}
-use Rattle.messages.specs.Fields.{naturalOf, byteOf, wordOf, shortOf, celsiusOf, celsiusRaw, kilohmsOf, hasKilohms, kilohmsRaw, flagOf, flagRaw}
+use Rattle.messages.specs.Fields.{naturalOf, byteOf, wordOf, shortOf, dutyOf, celsiusOf, celsiusRaw, kilohmsOf, hasKilohms, kilohmsRaw, flagOf, flagRaw}
 
 -- a form of field in a signal of w bits, signed or not: values and raw numbers that fit are each other's
 pub record Field {A : Type 0} (raw : A → ℤ) (of : ℤ → A) (sgn : Bool) (w : ℕ) : Type 0 where
@@ -22,24 +25,34 @@ unsigned : (w : ℕ) (P : ℤ → Type 0) → ((x : ℕ) → x < 2 ^ w → P (po
 unsigned w P f (pos x) e = f x (ltb-true x (2 ^ w) e)
 unsigned w P f (negsuc x) e = absurd (let z : _≡_ {A = ℕ} 0 1 = cc in omega arith)
 
-natural : (w : ℕ) → Field pos (λ z. naturalOf z % 2 ^ w) false w
-natural w =
+-- a field of v bits, over a signal that has no more
+natural : (v w : ℕ) → w ≤ v → Field pos (λ z. naturalOf z % 2 ^ v) false w
+natural v w h =
     record {
-      there = λ v e. mod-eq-of-lt (ltb-true v (2 ^ w) e);
-      back = unsigned w (λ (z : ℤ). pos (naturalOf z % 2 ^ w) ≡ z) (λ x h. ap pos (mod-eq-of-lt h));
+      there = λ x e. low x (ltb-true x (2 ^ w) e);
+      back = unsigned w (λ (z : ℤ). pos (naturalOf z % 2 ^ v) ≡ z) (λ x l. ap pos (low x l));
     }
+  where
+    low : (x : ℕ) → x < 2 ^ w → x % 2 ^ v ≡ x
+    low x l = mod-eq-of-lt (lt-of-lt-of-le l (pow-mono {j = v} h))
 
 pub bytes : Field pos byteOf false 8
-bytes = natural 8
+bytes = natural 8 8 (omega arith)
 
-pub words : Field pos wordOf false 16
-words = natural 16
+pub words : (w : ℕ) → T (leb w 16) → Field pos wordOf false w
+words w t = natural 16 w (lit≤ t)
 
-pub shorts : Field (λ z. z) shortOf true 16
-shorts = record { there = same; back = same }
+pub duties : Field pos dutyOf false 10
+duties = words 10 tt
+
+pub shorts : (w : ℕ) → T (leb w 16) → Field (λ z. z) shortOf true w
+shorts w t = record { there = same; back = same }
   where
-    same : (z : ℤ) → fitsIn true 16 z ≡ true → shortOf z ≡ z
-    same z e = ap (λ (b : Bool). cond b z (pos 0)) e
+    same : (z : ℤ) → fitsIn true w z ≡ true → shortOf z ≡ z
+    same z e =
+        let l : w ≤ 16 = lit≤ t in
+        let h : mag z < 2 ^ 15 = lt-of-lt-of-le (ltb-true (mag z) (2 ^ (w - 1)) e) (pow-mono {j = 15} (omega arith)) in
+        ap (λ (b : Bool). cond b z (pos 0)) (lt-ltb (mag z) (2 ^ 15) h)
 
 -- ---- degrees
 

@@ -1,6 +1,6 @@
 -- 01: "Every allowed frame is read to its one message; writing it gives the same bytes, and what is written reads back as itself"
--- (`read-write`, `write-read`, `one-message`), of every kind at once. A changed frame is read to the message of its number (`change-message`),
--- and a refused message leaves the buffer whole (`write-refused`). Assumes nothing.
+-- (`read-write`, `write-read`, `one-message`), of every kind at once, each in its form and byte order. A changed frame is read to the message of its
+-- number (`change-message`), and a refused message leaves the buffer whole (`write-refused`). Assumes nothing.
 use mathlib.Core.Path.{_≡_, refl, sym, ap, ap₂, _∙_, subst}
 use mathlib.Core.Bool.{Bool, true, false, cond, _&&_}
 use mathlib.Core.List.{List, _++_}
@@ -12,7 +12,7 @@ use lib.IntN.{ℤ}
 use lib.Seq.{take-all, take-at, drop-at}
 use borrow.Author.Tests.{le-leb, leb-true, leb-false}
 use Rattle.signal.specs.Payload.{bytesOf, storedIn, Bytes}
-use Rattle.signal.proofs.Bytes.{length-bytes, bytes-are}
+use Rattle.signal.proofs.Orders.{length-of, are-of}
 use Rattle.signal.proofs.Totals.{stored-in, stored-not}
 use Rattle.pages.specs.declared.Judged.{Judged}
 use Rattle.pages.specs.declared.Judged.the-variants as judged
@@ -20,7 +20,7 @@ use Rattle.pages.specs.declared.Refusal.{Refusal}
 use Rattle.pages.specs.declared.Refusal.the-variants.{NoRawNumber, ShortBuffer}
 use Rattle.pages.specs.declared.Written.{Written}
 use Rattle.pages.specs.declared.Written.the-variants as written
-use Rattle.pages.specs.Table.{rowsOf, identifierOf, lengthOf}
+use Rattle.pages.specs.Table.{rowsOf, identifierOf, extendedOf, lengthOf, bigOf}
 use Rattle.pages.specs.Judge.{judgeOf}
 use Rattle.pages.specs.Raws.{signalCount, wholesOf, pad, allTake, packedOn, canWrite}
 use Rattle.pages.specs.Raws as pages
@@ -32,7 +32,9 @@ use Rattle.messages.specs.declared.Message.{Message}
 use Rattle.messages.specs.declared.Reading.the-variants.{Accepted}
 use Rattle.messages.specs.Read.{at, builtOf, messageOf, readingOf, readOf}
 use Rattle.messages.specs.Write.{rawsOf, hasRaws, kindOf, padded, writeOf, bufferAfter}
-use Rattle.messages.proofs.Each.{counted, known-kind, allFit, labels-hold, there, Back, back, message-is}
+use Rattle.messages.proofs.Each.{counted, known-kind, one-form, allFit, labels-hold, message-is}
+use Rattle.messages.proofs.There.{there}
+use Rattle.messages.proofs.Back.{Back, back}
 
 -- ---- reading
 
@@ -59,6 +61,14 @@ writable x = hasRaws x && allFit (rowsOf (kindOf x)) (rawsOf x)
 -- the payload number of a message
 abbrev pub payloadOf : Message → ℕ
 payloadOf x = packedOn 0 (rowsOf (kindOf x)) (rawsOf x)
+
+-- the message's bytes, in its byte order
+abbrev pub bytesFor : Message → List ℕ
+bytesFor x = bytesOf (bigOf (kindOf x)) (lengthOf (kindOf x)) (payloadOf x)
+
+-- the form of its identifier
+abbrev pub formOf : Message → Bool
+formOf x = extendedOf (kindOf x)
 
 -- a number for each signal, and room for them
 enough : (x : Message) → length (rowsOf (kindOf x)) ≤ length (rawsOf x)
@@ -89,13 +99,13 @@ write-answer x buf = go (hasRaws x)
     go true = ap (λ (b : Bool). answerOf x b (hasRoom x buf)) (can-is x)
     go false = refl
 
-pub buffer-answer : (x : Message) (buf : List ℕ) → bufferAfter x buf ≡ cond (writable x) (storedIn (lengthOf (kindOf x)) (payloadOf x) buf) buf
+pub buffer-answer : (x : Message) (buf : List ℕ) → bufferAfter x buf ≡ cond (writable x) (storedIn (bigOf (kindOf x)) (lengthOf (kindOf x)) (payloadOf x) buf) buf
 unfolding bufferAfter pages.bufferAfter
 buffer-answer x buf = go (hasRaws x)
   where
-    go : (a : Bool) → cond a (cond (canWrite (kindOf x) (padded x)) (storedIn (lengthOf (kindOf x)) (packedOn 0 (rowsOf (kindOf x)) (padded x)) buf) buf) buf
-        ≡ cond (a && allFit (rowsOf (kindOf x)) (rawsOf x)) (storedIn (lengthOf (kindOf x)) (payloadOf x) buf) buf
-    go true = ap₂ (λ (b : Bool) (n : ℕ). cond b (storedIn (lengthOf (kindOf x)) n buf) buf) (can-is x) (payload-is x)
+    go : (a : Bool) → cond a (cond (canWrite (kindOf x) (padded x)) (storedIn (bigOf (kindOf x)) (lengthOf (kindOf x)) (packedOn 0 (rowsOf (kindOf x)) (padded x)) buf) buf) buf
+        ≡ cond (a && allFit (rowsOf (kindOf x)) (rawsOf x)) (storedIn (bigOf (kindOf x)) (lengthOf (kindOf x)) (payloadOf x) buf) buf
+    go true = ap₂ (λ (b : Bool) (n : ℕ). cond b (storedIn (bigOf (kindOf x)) (lengthOf (kindOf x)) n buf) buf) (can-is x) (payload-is x)
     go false = refl
 
 -- a message that is written, into room enough
@@ -103,8 +113,8 @@ module _ (x : Message) (buf : List ℕ) (w : writable x ≡ true) (room : length
   pub writes : writeOf x buf ≡ written.Wrote (identifierOf (kindOf x)) (lengthOf (kindOf x))
   writes = write-answer x buf ∙ rw (w, le-leb (lengthOf (kindOf x)) (length buf) room)
 
-  pub stores : bufferAfter x buf ≡ bytesOf (lengthOf (kindOf x)) (payloadOf x) ++ drop (lengthOf (kindOf x)) buf
-  stores = buffer-answer x buf ∙ rw w (stored-in (lengthOf (kindOf x)) (payloadOf x) buf room)
+  pub stores : bufferAfter x buf ≡ bytesFor x ++ drop (lengthOf (kindOf x)) buf
+  stores = buffer-answer x buf ∙ rw w (stored-in (bigOf (kindOf x)) (lengthOf (kindOf x)) (payloadOf x) buf room)
 
 -- what is known of a message that was written
 pub record Writes (x : Message) (buf : List ℕ) (m k : ℕ) : Type 0 where
@@ -125,25 +135,26 @@ wrote x buf m k e = go (writable x) (hasRoom x buf) refl refl (sym (write-answer
 pub write-refused : (x : Message) (buf : List ℕ) (w : Refusal) → writeOf x buf ≡ written.Refused w → bufferAfter x buf ≡ buf
 write-refused x buf w e = buffer-answer x buf ∙ go (writable x) (hasRoom x buf) refl (sym (write-answer x buf) ∙ e)
   where
-    go : (a b : Bool) → hasRoom x buf ≡ b → answerOf x a b ≡ written.Refused w → cond a (storedIn (lengthOf (kindOf x)) (payloadOf x) buf) buf ≡ buf
+    go : (a b : Bool) → hasRoom x buf ≡ b → answerOf x a b ≡ written.Refused w → cond a (storedIn (bigOf (kindOf x)) (lengthOf (kindOf x)) (payloadOf x) buf) buf ≡ buf
     go true true q e = absurd (let z : _≡_ {A = ℕ} 0 1 = cc in omega arith)
-    go true false q e = stored-not (lengthOf (kindOf x)) (payloadOf x) buf (leb-false (lengthOf (kindOf x)) (length buf) q)
+    go true false q e = stored-not (bigOf (kindOf x)) (lengthOf (kindOf x)) (payloadOf x) buf (leb-false (lengthOf (kindOf x)) (length buf) q)
     go false b q e = refl
 
 -- ---- an accepted frame, as its message writes it
 
--- the message of a frame has its identifier, length and bytes
-record Same (m : ℕ) (bs : List ℕ) (x : Message) : Type 0 where
+-- the message of a frame has its identifier, form, length and bytes
+record Same (m : ℕ) (extended : Bool) (bs : List ℕ) (x : Message) : Type 0 where
   fits : writable x ≡ true
   identifier : identifierOf (kindOf x) ≡ m
+  form : formOf x ≡ extended
   sized : lengthOf (kindOf x) ≡ length bs
-  bytes : bytesOf (lengthOf (kindOf x)) (payloadOf x) ≡ bs
+  bytes : bytesFor x ≡ bs
 
-same : (m : ℕ) (extended : Bool) (bs : List ℕ) (x : Message) → readOf m extended bs ≡ Accepted x → Bytes bs → Same m bs x
+same : (m : ℕ) (extended : Bool) (bs : List ℕ) (x : Message) → readOf m extended bs ≡ Accepted x → Bytes bs → Same m extended bs x
 unfolding pages.rawsOf
 same m extended bs x e hb = let f = frame-read m extended bs x e in go (f .0) (f .1) (f .2) (f .3)
   where
-    go : (k n : ℕ) → judgeOf m extended bs ≡ judged.Frame k n → messageOf k n ≡ x → Same m bs x
+    go : (k n : ℕ) → judgeOf m extended bs ≡ judged.Frame k n → messageOf k n ≡ x → Same m extended bs x
     go k n j q =
         let t = accepted m extended bs k n j in
         let r = raws-back m extended bs k n j hb in
@@ -157,13 +168,18 @@ same m extended bs x e hb = let f = frame-read m extended bs x e in go (f .0) (f
         record {
           fits = ap₂ (λ (c d : Bool). c && d) (b .2) (sym (labels-hold x) ∙ ap₂ (λ (i : ℕ) (ys : List ℤ). allTake (rowsOf i) ys) (b .0) (b .1) ∙ taken);
           identifier = ap identifierOf (b .0) ∙ t .identifier;
+          form = ap extendedOf (b .0) ∙ t .form;
           sized = ap lengthOf (b .0) ∙ sym (t .sized);
-          bytes = ap₂ (λ (i : ℕ) (y : ℕ). bytesOf (lengthOf i) y) (b .0) number ∙ r .bytes;
+          bytes = ap₂ (λ (i y : ℕ). bytesOf (bigOf i) (lengthOf i) y) (b .0) number ∙ r .bytes;
         }
 
 -- x is written under the identifier m as the bytes bs, into any buffer with room for them, whose other bytes stay
 abbrev pub WrittenAs : ℕ → List ℕ → Message → Type 0
 WrittenAs m bs x = (buf : List ℕ) → length bs ≤ length buf → (writeOf x buf ≡ written.Wrote m (length bs)) × (bufferAfter x buf ≡ bs ++ drop (length bs) buf)
+
+-- a message is read in its kind's form alone
+pub read-form : (m : ℕ) (extended : Bool) (bs : List ℕ) (x : Message) → readOf m extended bs ≡ Accepted x → Bytes bs → formOf x ≡ extended
+read-form m extended bs x e hb = same m extended bs x e hb .form
 
 -- THEOREM: 01, "Every allowed frame is read to its one message; writing it gives the same bytes"
 pub read-write : (m : ℕ) (extended : Bool) (bs : List ℕ) (x : Message) → readOf m extended bs ≡ Accepted x → Bytes bs → WrittenAs m bs x
@@ -176,7 +192,7 @@ read-write m extended bs x e hb buf room =
 
 -- ---- a message, as its bytes are read
 
-reads : (x : Message) → writable x ≡ true → readOf (identifierOf (kindOf x)) true (bytesOf (lengthOf (kindOf x)) (payloadOf x)) ≡ Accepted x
+reads : (x : Message) → writable x ≡ true → readOf (identifierOf (kindOf x)) (formOf x) (bytesFor x) ≡ Accepted x
 reads x w =
     let k = kindOf x in
     let rs = rowsOf k in
@@ -185,18 +201,18 @@ reads x w =
     let taken : allTake rs (rawsOf x) ≡ true = labels-hold x ∙ p .1 in
     let r = raws-there k (rawsOf x) (ap₂ (λ (a b : Bool). a && b) (le-leb 1 (length rs) (known-kind x)) taken) in
     let again : wholesOf n rs ≡ rawsOf x = r .raws ∙ take-all (length rs) (rawsOf x) (omega (arith, counted x)) in
-    read-frame (identifierOf k) true (bytesOf (lengthOf k) n) k n (r .reads)
+    read-frame (identifierOf k) (formOf x) (bytesFor x) k n (r .reads)
     ∙ ap Accepted (message-is k n ∙ ap (λ (zs : List ℤ). builtOf k (at zs)) again ∙ there x (p .0) taken)
 
 -- THEOREM: 01, "what is written reads back as itself", and the buffer changes nowhere else
 pub write-read : (x : Message) (buf : List ℕ) (m k : ℕ) → writeOf x buf ≡ written.Wrote m k
-    → (readOf m true (take k (bufferAfter x buf)) ≡ Accepted x) × (drop k (bufferAfter x buf) ≡ drop k buf)
+    → (readOf m (formOf x) (take k (bufferAfter x buf)) ≡ Accepted x) × (drop k (bufferAfter x buf) ≡ drop k buf)
 write-read x buf m k e =
     let w = wrote x buf m k e in
-    let bs = bytesOf (lengthOf (kindOf x)) (payloadOf x) in
-    let l : length bs ≡ k = length-bytes (lengthOf (kindOf x)) (payloadOf x) ∙ w .sized in
+    let bs = bytesFor x in
+    let l : length (bytesFor x) ≡ k = length-of (bigOf (kindOf x)) (lengthOf (kindOf x)) (payloadOf x) ∙ w .sized in
     let b : bufferAfter x buf ≡ bs ++ drop k buf = stores x buf (w .fits) (w .room) ∙ ap (λ (i : ℕ). bs ++ drop i buf) (w .sized) in (
-      ap₂ (λ (i : ℕ) (cs : List ℕ). readOf i true cs) (sym (w .identifier)) (ap (take k) b ∙ take-at bs (drop k buf) k l) ∙ reads x (w .fits),
+      ap₂ (λ (i : ℕ) (cs : List ℕ). readOf i (formOf x) cs) (sym (w .identifier)) (ap (take k) b ∙ take-at bs (drop k buf) k l) ∙ reads x (w .fits),
       ap (drop k) b ∙ drop-at bs (drop k buf) k l,
     )
 
@@ -204,9 +220,10 @@ write-read x buf m k e =
 pub one-message : (x y : Message) (buf buf′ : List ℕ) (m k k′ : ℕ) → writeOf x buf ≡ written.Wrote m k → writeOf y buf′ ≡ written.Wrote m k′
     → take k (bufferAfter x buf) ≡ take k′ (bufferAfter y buf′) → x ≡ y
 one-message x y buf buf′ m k k′ e f s =
-    let p : readOf m true (take k (bufferAfter x buf)) ≡ Accepted x = write-read x buf m k e .0 in
-    let q : readOf m true (take k′ (bufferAfter y buf′)) ≡ Accepted y = write-read y buf′ m k′ f .0 in
-    let r : Accepted x ≡ Accepted y = sym p ∙ ap (readOf m true) s ∙ q in
+    let p : readOf m (formOf x) (take k (bufferAfter x buf)) ≡ Accepted x = write-read x buf m k e .0 in
+    let q : readOf m (formOf y) (take k′ (bufferAfter y buf′)) ≡ Accepted y = write-read y buf′ m k′ f .0 in
+    let i : formOf x ≡ formOf y = one-form x y (wrote x buf m k e .identifier ∙ sym (wrote y buf′ m k′ f .identifier)) in
+    let r : Accepted x ≡ Accepted y = sym p ∙ ap₂ (readOf m) i s ∙ q in
     cc
 
 -- THEOREM: a changed frame is read to the message of its number, which is written as the changed bytes
@@ -216,5 +233,5 @@ pub change-message : (m : ℕ) (extended : Bool) (bs : List ℕ) (s : ℕ) (z : 
 change-message m extended bs s z k n e hb =
     let cs = bytesAfter bs (changeOf m extended bs s z) in
     let r : readOf m extended cs ≡ Accepted (messageOf k n) = read-frame m extended cs k n (change-read m extended bs s z k n e hb .0) in
-    let b : Bytes cs = subst Bytes (sym (ap (bytesAfter bs) e)) (bytes-are (length bs) n) in
+    let b : Bytes cs = subst Bytes (sym (ap (bytesAfter bs) e)) (are-of (bigOf k) (length bs) n) in
     (r, read-write m extended cs (messageOf k n) r b)

@@ -19,6 +19,10 @@ wordOf z = naturalOf z % 65536
 abbrev pub shortOf : ℤ → ℤ
 shortOf z = cond (fitsIn true 16 z) z (pos 0)
 
+-- 02, Req 04: "A duty above 100.0 % keeps its raw number, so that writing returns the bytes; the limited number is worked out apart."
+abbrev pub dutyOf : ℤ → ℕ
+dutyOf z = wordOf z
+
 -- 01: "A temperature is the raw number minus 40, so -40 to 215 °C."
 abbrev pub celsiusOf : ℤ → ℤ
 celsiusOf z = pos (byteOf z) -ℤ pos 40

@@ -1,4 +1,4 @@
--- The label tables of document 000: each label with its number. A raw number without a label is refused (`unlabelled` of pages) before its label is asked; the last one stands there.
+-- The label tables of documents 000 and 004: each label with its number. A raw number without a label is refused (`unlabelled` of pages) before its label is asked; the last one stands there.
 use Prim.Native.Nat.{ℕ}
 use mathlib.Core.Bool.{cond}
 use lib.Dec.{eqb}
@@ -24,6 +24,10 @@ use Rattle.messages.specs.declared.SessionEnd.{SessionEnd}
 use Rattle.messages.specs.declared.SessionEnd.the-variants as end
 use Rattle.messages.specs.declared.StopOrigin.{StopOrigin}
 use Rattle.messages.specs.declared.StopOrigin.the-variants as origin
+use Rattle.messages.specs.declared.CpState.{CpState}
+use Rattle.messages.specs.declared.CpState.the-variants as cp
+use Rattle.messages.specs.declared.PpState.{PpState}
+use Rattle.messages.specs.declared.PpState.the-variants as pp
 
 abbrev pub enableNumber : SystemEnable → ℕ
 enableNumber enable.NotAllowed = 0
@@ -153,3 +157,43 @@ originNumber origin.Pev = 3
 
 abbrev pub originOf : ℕ → StopOrigin
 originOf x = cond (eqb x 1) origin.Evse origin.Pev
+
+abbrev pub cpNumber : CpState → ℕ
+cpNumber cp.Unknown = 0
+cpNumber cp.A = 1
+cpNumber cp.B = 2
+cpNumber cp.C = 3
+cpNumber cp.D = 4
+cpNumber cp.E = 5
+cpNumber cp.F = 6
+cpNumber cp.Invalid = 7
+
+abbrev pub cpOf : ℕ → CpState
+cpOf x =
+    cond (eqb x 0) cp.Unknown
+    (cond (eqb x 1) cp.A
+    (cond (eqb x 2) cp.B
+    (cond (eqb x 3) cp.C
+    (cond (eqb x 4) cp.D
+    (cond (eqb x 5) cp.E
+    (cond (eqb x 6) cp.F cp.Invalid))))))
+
+abbrev pub ppNumber : PpState → ℕ
+ppNumber pp.NoCable = 0
+ppNumber pp.Amps13 = 1
+ppNumber pp.Amps20 = 2
+ppNumber pp.Amps32 = 3
+ppNumber pp.Amps63 = 4
+ppNumber pp.Type1 = 5
+ppNumber pp.Type1Pressed = 6
+ppNumber pp.Error = 7
+
+abbrev pub ppOf : ℕ → PpState
+ppOf x =
+    cond (eqb x 0) pp.NoCable
+    (cond (eqb x 1) pp.Amps13
+    (cond (eqb x 2) pp.Amps20
+    (cond (eqb x 3) pp.Amps32
+    (cond (eqb x 4) pp.Amps63
+    (cond (eqb x 5) pp.Type1
+    (cond (eqb x 6) pp.Type1Pressed pp.Error))))))

@@ -1,3 +1,4 @@
+pub mod KindNumbers
 pub mod Labels
 pub mod Fields
 pub mod Read

@@ -5,25 +5,8 @@ use Rattle.messages.specs.declared.PowerModulesStatus.{PowerModulesStatu
 use Rattle.messages.specs.declared.DcPowerParameters.{DcPowerParameters}
 use Rattle.messages.specs.declared.NewChargeSession.{NewChargeSession}
 use Rattle.messages.specs.declared.DcPowerControl.{DcPowerControl}
+pub use Rattle.messages.specs.KindNumbers.{statusKind, parametersKind, controllerKind, sessionKind, controlKind, finishedKind}
 use Rattle.messages.specs.Read.{at, statusOf, parametersOf, sessionOf, controlOf}
-
-abbrev pub statusKind : ℕ
-statusKind = 0
-
-abbrev pub parametersKind : ℕ
-parametersKind = 1
-
-abbrev pub controllerKind : ℕ
-controllerKind = 2
-
-abbrev pub sessionKind : ℕ
-sessionKind = 3
-
-abbrev pub controlKind : ℕ
-controlKind = 5
-
-abbrev pub finishedKind : ℕ
-finishedKind = 6
 
 unfoldable pub statusIn : ℕ → PowerModulesStatus
 statusIn n = statusOf (at (rawsOf statusKind n))

@@ -1,4 +1,4 @@
--- Reading: 01, "A message is read into one of nine kinds, each with its own fields".
+-- Reading: 01, "A message is read into one of nine kinds, each with its own fields"; of twelve with 02, Req 04.
 use Prim.Native.Nat.{ℕ}
 use mathlib.Core.Bool.{Bool, cond}
 use mathlib.Core.List.{List}
@@ -18,12 +18,16 @@ use Rattle.messages.specs.declared.DcPowerControl.{DcPowerControl}
 use Rattle.messages.specs.declared.ChargeSessionFinished.{ChargeSessionFinished}
 use Rattle.messages.specs.declared.EmergencyStop.{EmergencyStop}
 use Rattle.messages.specs.declared.EvId.{EvId}
+use Rattle.messages.specs.declared.ChargeControl1.{ChargeControl1}
+use Rattle.messages.specs.declared.ChargeState1.{ChargeState1}
+use Rattle.messages.specs.declared.Pt1000State.{Pt1000State}
 use Rattle.messages.specs.declared.Message.{Message}
-use Rattle.messages.specs.declared.Message.the-variants.{Status, Parameters, Controller, Session, Change, Control, Finished, Stop, Id}
+use Rattle.messages.specs.declared.Message.the-variants.{Status, Parameters, Controller, Session, Change, Control, Finished, Stop, Id, SafetyControl, SafetyState, Probes}
 use Rattle.messages.specs.declared.Reading.{Reading}
 use Rattle.messages.specs.declared.Reading.the-variants.{Accepted, Refused}
+use Rattle.messages.specs.KindNumbers.{statusKind, parametersKind, controllerKind, sessionKind, changeKind, controlKind, finishedKind, stopKind, idKind, safetyControlKind, safetyStateKind}
 use Rattle.messages.specs.Labels as label
-use Rattle.messages.specs.Fields.{naturalOf, byteOf, wordOf, shortOf, celsiusOf, kilohmsOf, flagOf}
+use Rattle.messages.specs.Fields.{naturalOf, byteOf, wordOf, shortOf, dutyOf, celsiusOf, kilohmsOf, flagOf}
 
 -- the raw number at each place of a list, and 0 past its end
 abbrev pub at : List ℤ → ℕ → ℤ
@@ -76,18 +80,67 @@ stopOf f = record { origin = label.originOf (naturalOf (f 0)) }
 abbrev pub idOf : (ℕ → ℤ) → EvId
 idOf f = record { byte0 = byteOf (f 0); byte1 = byteOf (f 1); byte2 = byteOf (f 2); byte3 = byteOf (f 3); byte4 = byteOf (f 4); byte5 = byteOf (f 5) }
 
+abbrev pub safetyControlOf : (ℕ → ℤ) → ChargeControl1
+safetyControlOf f =
+    record {
+      duty = dutyOf (f 0);
+      pwm = flagOf (f 1);
+      contactor1 = flagOf (f 2);
+      contactor2 = flagOf (f 3);
+    }
+
+abbrev pub safetyStateOf : (ℕ → ℤ) → ChargeState1
+safetyStateOf f =
+    record {
+      duty = dutyOf (f 0);
+      pwm = flagOf (f 1);
+      cp = label.cpOf (naturalOf (f 2));
+      short = flagOf (f 3);
+      diode = flagOf (f 4);
+      pp = label.ppOf (naturalOf (f 5));
+      contactor1 = flagOf (f 6);
+      contactor2 = flagOf (f 7);
+      error1 = flagOf (f 8);
+      error2 = flagOf (f 9);
+      estop1 = flagOf (f 10);
+      estop2 = flagOf (f 11);
+      estop3 = flagOf (f 12);
+      imdabort = flagOf (f 13);
+      imdfailure = flagOf (f 14);
+    }
+
+abbrev pub probesOf : (ℕ → ℤ) → Pt1000State
+probesOf f =
+    record {
+      temperature1 = shortOf (f 0);
+      stopped1 = flagOf (f 1);
+      failed1 = flagOf (f 2);
+      temperature2 = shortOf (f 3);
+      stopped2 = flagOf (f 4);
+      failed2 = flagOf (f 5);
+      temperature3 = shortOf (f 6);
+      stopped3 = flagOf (f 7);
+      failed3 = flagOf (f 8);
+      temperature4 = shortOf (f 9);
+      stopped4 = flagOf (f 10);
+      failed4 = flagOf (f 11);
+    }
+
 -- the message of a kind; for a number that is no kind, the last one
 unfoldable pub builtOf : ℕ → (ℕ → ℤ) → Message
 builtOf k f =
-    cond (eqb k 0) (Status (statusOf f))
-    (cond (eqb k 1) (Parameters (parametersOf f))
-    (cond (eqb k 2) (Controller (controllerOf f))
-    (cond (eqb k 3) (Session (sessionOf f))
-    (cond (eqb k 4) (Change (changeOf f))
-    (cond (eqb k 5) (Control (controlOf f))
-    (cond (eqb k 6) (Finished (finishedOf f))
-    (cond (eqb k 7) (Stop (stopOf f))
-    (Id (idOf f)))))))))
+    cond (eqb k statusKind) (Status (statusOf f))
+    (cond (eqb k parametersKind) (Parameters (parametersOf f))
+    (cond (eqb k controllerKind) (Controller (controllerOf f))
+    (cond (eqb k sessionKind) (Session (sessionOf f))
+    (cond (eqb k changeKind) (Change (changeOf f))
+    (cond (eqb k controlKind) (Control (controlOf f))
+    (cond (eqb k finishedKind) (Finished (finishedOf f))
+    (cond (eqb k stopKind) (Stop (stopOf f))
+    (cond (eqb k idKind) (Id (idOf f))
+    (cond (eqb k safetyControlKind) (SafetyControl (safetyControlOf f))
+    (cond (eqb k safetyStateKind) (SafetyState (safetyStateOf f))
+    (Probes (probesOf f))))))))))))
 
 -- ---- the message of a payload number, and of a frame
 

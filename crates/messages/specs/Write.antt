@@ -1,6 +1,6 @@
 -- Writing: 01, "Writing a message gives 7 or 8."
 use Prim.Native.Nat.{ℕ}
-use mathlib.Core.Bool.{Bool, true, false, cond}
+use mathlib.Core.Bool.{Bool, true, cond}
 use mathlib.Core.List.{List, [], _∷_}
 use lib.IntN.{ℤ, pos}
 use Rattle.pages.specs.declared.Refusal.the-variants.{NoRawNumber}
@@ -16,9 +16,13 @@ use Rattle.messages.specs.declared.DcPowerControl.{DcPowerControl}
 use Rattle.messages.specs.declared.ChargeSessionFinished.{ChargeSessionFinished}
 use Rattle.messages.specs.declared.EmergencyStop.{EmergencyStop}
 use Rattle.messages.specs.declared.EvId.{EvId}
+use Rattle.messages.specs.declared.ChargeControl1.{ChargeControl1}
+use Rattle.messages.specs.declared.ChargeState1.{ChargeState1}
+use Rattle.messages.specs.declared.Pt1000State.{Pt1000State}
 use Rattle.messages.specs.declared.Message.{Message}
-use Rattle.messages.specs.declared.Message.the-variants.{Status, Parameters, Controller, Session, Change, Control, Finished, Stop, Id}
-use Rattle.messages.specs.Labels.{enableNumber, stateNumber, protocolNumber, plugNumber, statusNumber, functionNumber, modeNumber, contactorsNumber, loweringNumber, endNumber, originNumber}
+use Rattle.messages.specs.declared.Message.the-variants.{Status, Parameters, Controller, Session, Change, Control, Finished, Stop, Id, SafetyControl, SafetyState, Probes}
+use Rattle.messages.specs.KindNumbers.{statusKind, parametersKind, controllerKind, sessionKind, changeKind, controlKind, finishedKind, stopKind, idKind, safetyControlKind, safetyStateKind, probesKind}
+use Rattle.messages.specs.Labels.{enableNumber, stateNumber, protocolNumber, plugNumber, statusNumber, functionNumber, modeNumber, contactorsNumber, loweringNumber, endNumber, originNumber, cpNumber, ppNumber}
 use Rattle.messages.specs.Fields.{celsiusRaw, hasKilohms, kilohmsRaw, flagRaw}
 
 -- ---- the raw number of each signal, in the table's order
@@ -55,6 +59,22 @@ stopRaws m = oneRaw (pos (originNumber (m .origin)))
 abbrev pub idRaws : EvId → List ℤ
 idRaws m = pos (m .byte0) ∷ pos (m .byte1) ∷ pos (m .byte2) ∷ pos (m .byte3) ∷ pos (m .byte4) ∷ pos (m .byte5) ∷ []
 
+abbrev pub safetyControlRaws : ChargeControl1 → List ℤ
+safetyControlRaws m = pos (m .duty) ∷ flagRaw (m .pwm) ∷ flagRaw (m .contactor1) ∷ flagRaw (m .contactor2) ∷ []
+
+abbrev pub safetyStateRaws : ChargeState1 → List ℤ
+safetyStateRaws m =
+    pos (m .duty) ∷ flagRaw (m .pwm) ∷ pos (cpNumber (m .cp)) ∷ flagRaw (m .short) ∷ flagRaw (m .diode)
+    ∷ pos (ppNumber (m .pp)) ∷ flagRaw (m .contactor1) ∷ flagRaw (m .contactor2) ∷ flagRaw (m .error1) ∷ flagRaw (m .error2)
+    ∷ flagRaw (m .estop1) ∷ flagRaw (m .estop2) ∷ flagRaw (m .estop3) ∷ flagRaw (m .imdabort) ∷ flagRaw (m .imdfailure) ∷ []
+
+abbrev pub probesRaws : Pt1000State → List ℤ
+probesRaws m =
+    m .temperature1 ∷ flagRaw (m .stopped1) ∷ flagRaw (m .failed1)
+    ∷ m .temperature2 ∷ flagRaw (m .stopped2) ∷ flagRaw (m .failed2)
+    ∷ m .temperature3 ∷ flagRaw (m .stopped3) ∷ flagRaw (m .failed3)
+    ∷ m .temperature4 ∷ flagRaw (m .stopped4) ∷ flagRaw (m .failed4) ∷ []
+
 unfoldable pub rawsOf : Message → List ℤ
 rawsOf (Status m) = statusRaws m
 rawsOf (Parameters m) = parametersRaws m
@@ -65,6 +85,9 @@ rawsOf (Control m) = controlRaws m
 rawsOf (Finished m) = finishedRaws m
 rawsOf (Stop m) = stopRaws m
 rawsOf (Id m) = idRaws m
+rawsOf (SafetyControl m) = safetyControlRaws m
+rawsOf (SafetyState m) = safetyStateRaws m
+rawsOf (Probes m) = probesRaws m
 
 -- each value has a raw number
 abbrev pub hasRaws : Message → Bool
@@ -77,18 +100,23 @@ hasRaws (Control m) = true
 hasRaws (Finished m) = true
 hasRaws (Stop m) = true
 hasRaws (Id m) = true
+hasRaws (SafetyControl m) = true
+hasRaws (SafetyState m) = true
+hasRaws (Probes m) = true
 
--- the kinds, numbered in the table's order
 abbrev pub kindOf : Message → ℕ
-kindOf (Status m) = 0
-kindOf (Parameters m) = 1
-kindOf (Controller m) = 2
-kindOf (Session m) = 3
-kindOf (Change m) = 4
-kindOf (Control m) = 5
-kindOf (Finished m) = 6
-kindOf (Stop m) = 7
-kindOf (Id m) = 8
+kindOf (Status m) = statusKind
+kindOf (Parameters m) = parametersKind
+kindOf (Controller m) = controllerKind
+kindOf (Session m) = sessionKind
+kindOf (Change m) = changeKind
+kindOf (Control m) = controlKind
+kindOf (Finished m) = finishedKind
+kindOf (Stop m) = stopKind
+kindOf (Id m) = idKind
+kindOf (SafetyControl m) = safetyControlKind
+kindOf (SafetyState m) = safetyStateKind
+kindOf (Probes m) = probesKind
 
 -- ---- the answer, and the buffer afterwards
 

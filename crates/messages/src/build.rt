@@ -1,8 +1,9 @@
 // Each message of its signals' raw numbers, in the table's order.
 ghost use mathlib.Core.Path.{_≡_};
-ghost use Rattle.messages.specs.Read.{at, statusOf, parametersOf, sessionOf, controlOf, idOf, builtOf};
+ghost use Rattle.messages.specs.Read.{at, statusOf, parametersOf, sessionOf, controlOf, idOf, safetyControlOf, safetyStateOf, probesOf, builtOf};
 use crate::fields::byte;
 use crate::fields::celsius;
+use crate::fields::duty;
 use crate::fields::flag;
 use crate::fields::kilohms;
 use crate::fields::natural;
@@ -11,7 +12,7 @@ use crate::fields::word;
 use crate::labels::*;
 use crate::*;
 
-pub fn status(f: [i64; 8]) -> PowerModulesStatus
+pub fn status(f: [i64; 16]) -> PowerModulesStatus
     ensures { λ r. ⌜ r ≡ statusOf (at f) ⌝ }
 {
     PowerModulesStatus {
@@ -24,7 +25,7 @@ pub fn status(f: [i64; 8]) -> PowerModulesStatus
     }
 }
 
-pub fn parameters(f: [i64; 8]) -> DcPowerParameters
+pub fn parameters(f: [i64; 16]) -> DcPowerParameters
     ensures { λ r. ⌜ r ≡ parametersOf (at f) ⌝ }
 {
     DcPowerParameters {
@@ -35,7 +36,7 @@ pub fn parameters(f: [i64; 8]) -> DcPowerParameters
     }
 }
 
-pub fn session(f: [i64; 8]) -> NewChargeSession
+pub fn session(f: [i64; 16]) -> NewChargeSession
     ensures { λ r. ⌜ r ≡ sessionOf (at f) ⌝ }
 {
     NewChargeSession {
@@ -44,7 +45,7 @@ pub fn session(f: [i64; 8]) -> NewChargeSession
     }
 }
 
-pub fn control(f: [i64; 8]) -> DcPowerControl
+pub fn control(f: [i64; 16]) -> DcPowerControl
     ensures { λ r. ⌜ r ≡ controlOf (at f) ⌝ }
 {
     DcPowerControl {
@@ -59,7 +60,7 @@ pub fn control(f: [i64; 8]) -> DcPowerControl
     }
 }
 
-fn ev_id(f: [i64; 8]) -> EvId
+fn ev_id(f: [i64; 16]) -> EvId
     ensures { λ r. ⌜ r ≡ idOf (at f) ⌝ }
 {
     EvId {
@@ -72,27 +73,82 @@ fn ev_id(f: [i64; 8]) -> EvId
     }
 }
 
+fn safety_control(f: [i64; 16]) -> ChargeControl1
+    ensures { λ r. ⌜ r ≡ safetyControlOf (at f) ⌝ }
+{
+    ChargeControl1 {
+        duty: duty(f[0]),
+        pwm: flag(f[1]),
+        contactor1: flag(f[2]),
+        contactor2: flag(f[3]),
+    }
+}
+
+fn safety_state(f: [i64; 16]) -> ChargeState1
+    ensures { λ r. ⌜ r ≡ safetyStateOf (at f) ⌝ }
+{
+    ChargeState1 {
+        duty: duty(f[0]),
+        pwm: flag(f[1]),
+        cp: cp_of(natural(f[2])),
+        short: flag(f[3]),
+        diode: flag(f[4]),
+        pp: pp_of(natural(f[5])),
+        contactor1: flag(f[6]),
+        contactor2: flag(f[7]),
+        error1: flag(f[8]),
+        error2: flag(f[9]),
+        estop1: flag(f[10]),
+        estop2: flag(f[11]),
+        estop3: flag(f[12]),
+        imdabort: flag(f[13]),
+        imdfailure: flag(f[14]),
+    }
+}
+
+fn probes(f: [i64; 16]) -> Pt1000State
+    ensures { λ r. ⌜ r ≡ probesOf (at f) ⌝ }
+{
+    Pt1000State {
+        temperature1: short(f[0]),
+        stopped1: flag(f[1]),
+        failed1: flag(f[2]),
+        temperature2: short(f[3]),
+        stopped2: flag(f[4]),
+        failed2: flag(f[5]),
+        temperature3: short(f[6]),
+        stopped3: flag(f[7]),
+        failed3: flag(f[8]),
+        temperature4: short(f[9]),
+        stopped4: flag(f[10]),
+        failed4: flag(f[11]),
+    }
+}
+
 // The message of a kind; for a number that is no kind, the last one.
-pub fn built(kind: usize, f: [i64; 8]) -> Message
+pub fn built(kind: usize, f: [i64; 16]) -> Message
     ensures { λ r. ⌜ r ≡ builtOf kind (at f) ⌝ }
 {
     match kind {
-        0 => Message::Status(status(f)),
-        1 => Message::Parameters(parameters(f)),
-        2 => Message::Controller(ControllerStatus {
+        STATUS => Message::Status(status(f)),
+        PARAMETERS => Message::Parameters(parameters(f)),
+        CONTROLLER => Message::Controller(ControllerStatus {
             state: state_of(natural(f[0])),
         }),
-        3 => Message::Session(session(f)),
-        4 => Message::Change(ChargeStatusChange {
+        SESSION => Message::Session(session(f)),
+        CHANGE => Message::Change(ChargeStatusChange {
             status: status_of(natural(f[0])),
         }),
-        5 => Message::Control(control(f)),
-        6 => Message::Finished(ChargeSessionFinished {
+        CONTROL => Message::Control(control(f)),
+        FINISHED => Message::Finished(ChargeSessionFinished {
             state: end_of(natural(f[0])),
         }),
-        7 => Message::Stop(EmergencyStop {
+        STOP => Message::Stop(EmergencyStop {
             origin: origin_of(natural(f[0])),
         }),
-        _ => Message::Id(ev_id(f)),
+        ID => Message::Id(ev_id(f)),
+        SAFETY_CONTROL => Message::SafetyControl(safety_control(f)),
+        SAFETY_STATE => Message::SafetyState(safety_state(f)),
+        _ => Message::Probes(probes(f)),
     }
 }

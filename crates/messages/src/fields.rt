@@ -1,7 +1,7 @@
 // A field's value of a raw number, and back. Every raw number of the pages fits its field; for any other the field takes the low bits, or 0.
 ghost use mathlib.Core.Path.{_≡_};
-ghost use lib.IntN.{pos, _+ℤ_};
-ghost use Rattle.messages.specs.Fields.{naturalOf, byteOf, wordOf, shortOf, celsiusOf, kilohmsOf, flagOf, celsiusRaw, kilohmsRaw, flagRaw};
+ghost use lib.IntN.{pos};
+ghost use Rattle.messages.specs.Fields.{naturalOf, byteOf, wordOf, shortOf, dutyOf, celsiusOf, kilohmsOf, flagOf, celsiusRaw, kilohmsRaw, flagRaw};
 
 // The number itself, and 0 for a negative one.
 pub fn natural(z: i64) -> u64
@@ -30,6 +30,13 @@ pub fn short(z: i64) -> i16
     } else {
         0
     }
+}
+
+// 02, Req 04: "A duty above 100.0 % keeps its raw number".
+pub fn duty(z: i64) -> u16
+    ensures { λ r. ⌜ r ≡ dutyOf z ⌝ }
+{
+    word(z)
 }
 
 // 01: "A temperature is the raw number minus 40".

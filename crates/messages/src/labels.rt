@@ -1,14 +1,16 @@
-// The label of a raw number and the number of a label, as the pages of 000 list them. A raw number without a label is refused before any of
+// The label of a raw number and the number of a label, as the pages of 000 and 004 list them. A raw number without a label is refused before any of
 // these is asked; the last label stands there.
 ghost use mathlib.Core.Path.{_≡_};
-ghost use Rattle.messages.specs.Labels.{enableOf, stateOf, protocolOf, plugOf, statusOf, functionOf, modeOf, contactorsOf, loweringOf, endOf, originOf};
-ghost use Rattle.messages.specs.Labels.{enableNumber, stateNumber, protocolNumber, plugNumber, statusNumber, functionNumber, modeNumber, contactorsNumber, loweringNumber, endNumber, originNumber};
+ghost use Rattle.messages.specs.Labels.{enableOf, stateOf, protocolOf, plugOf, statusOf, functionOf, modeOf, contactorsOf, loweringOf, endOf, originOf, cpOf, ppOf};
+ghost use Rattle.messages.specs.Labels.{enableNumber, stateNumber, protocolNumber, plugNumber, statusNumber, functionNumber, modeNumber, contactorsNumber, loweringNumber, endNumber, originNumber, cpNumber, ppNumber};
 use crate::ChargeStatus;
 use crate::ControllerState;
+use crate::CpState;
 use crate::LowerOutput;
 use crate::OutputContactors;
 use crate::Plug;
 use crate::PowerFunction;
+use crate::PpState;
 use crate::Protocol;
 use crate::SessionEnd;
 use crate::SetpointsMode;
@@ -258,5 +260,65 @@ pub fn origin_number(l: StopOrigin) -> u8
     match l {
         StopOrigin::Evse => 1,
         StopOrigin::Pev => 3,
+    }
+}
+
+pub fn cp_of(x: u64) -> CpState
+    ensures { λ r. ⌜ r ≡ cpOf x ⌝ }
+{
+    match x {
+        0 => CpState::Unknown,
+        1 => CpState::A,
+        2 => CpState::B,
+        3 => CpState::C,
+        4 => CpState::D,
+        5 => CpState::E,
+        6 => CpState::F,
+        _ => CpState::Invalid,
+    }
+}
+
+pub fn cp_number(l: CpState) -> u8
+    ensures { λ r. ⌜ r ≡ cpNumber l ⌝ }
+{
+    match l {
+        CpState::Unknown => 0,
+        CpState::A => 1,
+        CpState::B => 2,
+        CpState::C => 3,
+        CpState::D => 4,
+        CpState::E => 5,
+        CpState::F => 6,
+        CpState::Invalid => 7,
+    }
+}
+
+pub fn pp_of(x: u64) -> PpState
+    ensures { λ r. ⌜ r ≡ ppOf x ⌝ }
+{
+    match x {
+        0 => PpState::NoCable,
+        1 => PpState::Amps13,
+        2 => PpState::Amps20,
+        3 => PpState::Amps32,
+        4 => PpState::Amps63,
+        5 => PpState::Type1,
+        6 => PpState::Type1Pressed,
+        _ => PpState::Error,
+    }
+}
+
+pub fn pp_number(l: PpState) -> u8
+    ensures { λ r. ⌜ r ≡ ppNumber l ⌝ }
+{
+    match l {
+        PpState::NoCable => 0,
+        PpState::Amps13 => 1,
+        PpState::Amps20 => 2,
+        PpState::Amps32 => 3,
+        PpState::Amps63 => 4,
+        PpState::Type1 => 5,
+        PpState::Type1Pressed => 6,
+        PpState::Error => 7,
     }
 }

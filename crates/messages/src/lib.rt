@@ -1,4 +1,4 @@
-// The nine messages of the charger pages as types: reading a frame into its one message, and writing a message.
+// The messages as types, nine of the charger pages and three of the safety controller's: reading a frame into its one message, and writing a message.
 ghost use mathlib.Core.Path.{_≡_};
 ghost use Rattle.messages.specs.Read.{messageOf, readOf};
 ghost use Rattle.messages.specs.Write.{kindOf, writeOf, bufferAfter};
@@ -94,7 +94,31 @@ pub enum StopOrigin {
     Pev,
 }
 
-// ---- messages: volts and amperes in whole tenths, temperatures in °C, insulation in kOhm
+// The state of the control pilot and that of the proximity pin, as the safety controller tells them.
+
+pub enum CpState {
+    Unknown,
+    A,
+    B,
+    C,
+    D,
+    E,
+    F,
+    Invalid,
+}
+
+pub enum PpState {
+    NoCable,
+    Amps13,
+    Amps20,
+    Amps32,
+    Amps63,
+    Type1,
+    Type1Pressed,
+    Error,
+}
+
+// ---- messages of the charger: volts and amperes in whole tenths, temperatures in °C, insulation in kOhm
 
 pub struct PowerModulesStatus {
     pub voltage: u16,
@@ -153,7 +177,74 @@ pub struct EvId {
     pub byte5: u8,
 }
 
-// The kinds, numbered 0 to 8 in this order.
+// ---- messages of the safety controller and its host: a duty is the raw number of tenths of a percent, above 1,000 too, and a temperature that of tenths of a degree
+
+pub struct ChargeControl1 {
+    pub duty: u16,
+    pub pwm: bool,
+    pub contactor1: bool,
+    pub contactor2: bool,
+}
+
+pub struct ChargeState1 {
+    pub duty: u16,
+    pub pwm: bool,
+    pub cp: CpState,
+    pub short: bool,
+    pub diode: bool,
+    pub pp: PpState,
+    pub contactor1: bool,
+    pub contactor2: bool,
+    pub error1: bool,
+    pub error2: bool,
+    pub estop1: bool,
+    pub estop2: bool,
+    pub estop3: bool,
+    pub imdabort: bool,
+    pub imdfailure: bool,
+}
+
+pub struct Pt1000State {
+    pub temperature1: i16,
+    pub stopped1: bool,
+    pub failed1: bool,
+    pub temperature2: i16,
+    pub stopped2: bool,
+    pub failed2: bool,
+    pub temperature3: i16,
+    pub stopped3: bool,
+    pub failed3: bool,
+    pub temperature4: i16,
+    pub stopped4: bool,
+    pub failed4: bool,
+}
+
+// ---- the kinds, numbered in the table's order
+
+pub const STATUS: usize = 0;
+
+pub const PARAMETERS: usize = 1;
+
+pub const CONTROLLER: usize = 2;
+
+pub const SESSION: usize = 3;
+
+pub const CHANGE: usize = 4;
+
+pub const CONTROL: usize = 5;
+
+pub const FINISHED: usize = 6;
+
+pub const STOP: usize = 7;
+
+pub const ID: usize = 8;
+
+pub const SAFETY_CONTROL: usize = 9;
+
+pub const SAFETY_STATE: usize = 10;
+
+pub const PROBES: usize = 11;
+
 pub enum Message {
     Status(PowerModulesStatus),
     Parameters(DcPowerParameters),
@@ -164,6 +255,9 @@ pub enum Message {
     Finished(ChargeSessionFinished),
     Stop(EmergencyStop),
     Id(EvId),
+    SafetyControl(ChargeControl1),
+    SafetyState(ChargeState1),
+    Probes(Pt1000State),
 }
 
 // A frame's one message, or its refusal.
@@ -179,80 +273,59 @@ pub fn message_of(kind: usize, number: u64) -> Message
     build::built(kind, pages::raws_of(kind, number))
 }
 
-// The fields of a payload number of the kinds that the session watch's rules name.
-pub const STATUS: usize = 0;
-
-pub const PARAMETERS: usize = 1;
-
-pub const CONTROLLER: usize = 2;
-
-pub const SESSION: usize = 3;
-
-pub const CONTROL: usize = 5;
-
-pub const FINISHED: usize = 6;
+// ---- the fields of a payload number of the kinds that the session watch's rules name
 
 pub fn status_in(number: u64) -> PowerModulesStatus
     ensures { λ r. ⌜ r ≡ statusIn number ⌝ }
 {
-    build::status([
-        pages::raw_of(STATUS, 0, number),
-        pages::raw_of(STATUS, 1, number),
-        pages::raw_of(STATUS, 2, number),
-        pages::raw_of(STATUS, 3, number),
-        pages::raw_of(STATUS, 4, number),
-        pages::raw_of(STATUS, 5, number),
-        0,
-        0,
-    ])
+    let mut f = [0i64; 16];
+    f[0] = pages::raw_of(STATUS, 0, number);
+    f[1] = pages::raw_of(STATUS, 1, number);
+    f[2] = pages::raw_of(STATUS, 2, number);
+    f[3] = pages::raw_of(STATUS, 3, number);
+    f[4] = pages::raw_of(STATUS, 4, number);
+    f[5] = pages::raw_of(STATUS, 5, number);
+    build::status(f)
 }
 
 pub fn parameters_in(number: u64) -> DcPowerParameters
     ensures { λ r. ⌜ r ≡ parametersIn number ⌝ }
 {
-    build::parameters([
-        pages::raw_of(PARAMETERS, 0, number),
-        pages::raw_of(PARAMETERS, 1, number),
-        pages::raw_of(PARAMETERS, 2, number),
-        pages::raw_of(PARAMETERS, 3, number),
-        0,
-        0,
-        0,
-        0,
-    ])
+    let mut f = [0i64; 16];
+    f[0] = pages::raw_of(PARAMETERS, 0, number);
+    f[1] = pages::raw_of(PARAMETERS, 1, number);
+    f[2] = pages::raw_of(PARAMETERS, 2, number);
+    f[3] = pages::raw_of(PARAMETERS, 3, number);
+    build::parameters(f)
 }
 
 pub fn session_in(number: u64) -> NewChargeSession
     ensures { λ r. ⌜ r ≡ sessionIn number ⌝ }
 {
-    build::session([
-        pages::raw_of(SESSION, 0, number),
-        pages::raw_of(SESSION, 1, number),
-        0,
-        0,
-        0,
-        0,
-        0,
-        0,
-    ])
+    let mut f = [0i64; 16];
+    f[0] = pages::raw_of(SESSION, 0, number);
+    f[1] = pages::raw_of(SESSION, 1, number);
+    build::session(f)
 }
 
 pub fn control_in(number: u64) -> DcPowerControl
     ensures { λ r. ⌜ r ≡ controlIn number ⌝ }
 {
-    build::control([
-        pages::raw_of(CONTROL, 0, number),
-        pages::raw_of(CONTROL, 1, number),
-        pages::raw_of(CONTROL, 2, number),
-        pages::raw_of(CONTROL, 3, number),
-        pages::raw_of(CONTROL, 4, number),
-        pages::raw_of(CONTROL, 5, number),
-        pages::raw_of(CONTROL, 6, number),
-        pages::raw_of(CONTROL, 7, number),
-    ])
+    let mut f = [0i64; 16];
+    f[0] = pages::raw_of(CONTROL, 0, number);
+    f[1] = pages::raw_of(CONTROL, 1, number);
+    f[2] = pages::raw_of(CONTROL, 2, number);
+    f[3] = pages::raw_of(CONTROL, 3, number);
+    f[4] = pages::raw_of(CONTROL, 4, number);
+    f[5] = pages::raw_of(CONTROL, 5, number);
+    f[6] = pages::raw_of(CONTROL, 6, number);
+    f[7] = pages::raw_of(CONTROL, 7, number);
+    build::control(f)
 }
 
-// 01: "A message is read into one of nine kinds, each with its own fields".
+// ---- reading and writing
+
+// 01: "A message is read into one of nine kinds, each with its own fields"; of twelve with 02, Req 04.
 pub fn read(id: u32, extended: bool, bytes: &[u8]) -> Reading
     ensures { λ r. ⌜ r ≡ readOf id extended (now (bytes .entry)) ⌝ }
 {
@@ -266,15 +339,18 @@ pub fn kind_of(m: Message) -> usize
     ensures { λ r. ⌜ r ≡ kindOf m ⌝ }
 {
     match m {
-        Message::Status(_) => 0,
-        Message::Parameters(_) => 1,
-        Message::Controller(_) => 2,
-        Message::Session(_) => 3,
-        Message::Change(_) => 4,
-        Message::Control(_) => 5,
-        Message::Finished(_) => 6,
-        Message::Stop(_) => 7,
-        Message::Id(_) => 8,
+        Message::Status(_) => STATUS,
+        Message::Parameters(_) => PARAMETERS,
+        Message::Controller(_) => CONTROLLER,
+        Message::Session(_) => SESSION,
+        Message::Change(_) => CHANGE,
+        Message::Control(_) => CONTROL,
+        Message::Finished(_) => FINISHED,
+        Message::Stop(_) => STOP,
+        Message::Id(_) => ID,
+        Message::SafetyControl(_) => SAFETY_CONTROL,
+        Message::SafetyState(_) => SAFETY_STATE,
+        Message::Probes(_) => PROBES,
     }
 }
 

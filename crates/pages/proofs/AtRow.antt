@@ -21,8 +21,8 @@ pub takes-fits : (r : Row) (z : ℤ) → rowTakes r z ≡ true → fitsIn (r .si
 takes-fits r z e = both-true (fitsIn (r .signed) (r .width) z) (takes (r .labels) (bitsIn (r .signed) (r .width) z)) e .0
 
 module _ (r : Row) (fine : Fine r) where
-  pub put-row : (n s v : ℕ) → s ≡ lowest r → v < 2 ^ r .width → putOf n s (r .width) v ≡ putBits n (lowest r) (r .width) v
-  put-row n s v e h = ap (λ (x : ℕ). putOf n x (r .width) v) e ∙ put-in n (lowest r) (r .width) v (fine .0) (fine .2) h
+  pub put-row : (n v : ℕ) → v < 2 ^ r .width → putOf n (lowest r) (r .width) v ≡ putBits n (lowest r) (r .width) v
+  put-row n v h = put-in n (lowest r) (r .width) v (fine .0) (fine .2) h
 
   module _ (z : ℤ) (held : SFits w64 z) where
     pub fits-row : fitsOf (r .signed) (r .width) (toZ w64 (ofZ w64 z)) ≡ fitsIn (r .signed) (r .width) z
@@ -32,9 +32,9 @@ module _ (r : Row) (fine : Fine r) where
         → bitsOf (r .signed) (r .width) (toZ w64 (ofZ w64 z)) ≡ bitsIn (r .signed) (r .width) z
     bits-row t = ap (bitsOf (r .signed) (r .width)) (toZ-ofZ held) ∙ bits-in (r .signed) (r .width) z (fine .0) (omega arith) t
 
-    pub put-raw-row : (n s v : ℕ) → s ≡ lowest r → v ≡ bitsOf (r .signed) (r .width) (toZ w64 (ofZ w64 z)) → rowTakes r z ≡ true
-        → putOf n s (r .width) v ≡ putRaw r n z
-    put-raw-row n s v e q t =
+    pub put-raw-row : (n v : ℕ) → v ≡ bitsOf (r .signed) (r .width) (toZ w64 (ofZ w64 z)) → rowTakes r z ≡ true
+        → putOf n (lowest r) (r .width) v ≡ putRaw r n z
+    put-raw-row n v q t =
         let f = takes-fits r z t in
-        ap (putOf n s (r .width)) (q ∙ bits-row f)
-        ∙ put-row n s (bitsIn (r .signed) (r .width) z) e (bits-lt (r .signed) (r .width) (fine .0) z f)
+        ap (putOf n (lowest r) (r .width)) (q ∙ bits-row f)
+        ∙ put-row n (bitsIn (r .signed) (r .width) z) (bits-lt (r .signed) (r .width) (fine .0) z f)

@@ -6,7 +6,7 @@ use mathlib.Core.Path.{_≡_, refl, sym, ap, ap₂, _∙_, subst}
 use mathlib.Core.Bool.{Bool, true, false, cond, not, _||_}
 use mathlib.Core.Logic.{_⊎_, inl, inr}
 use mathlib.Core.List.{List, [], _∷_}
-use Prim.Native.Nat.{ℕ, _*_, _^_, _<_, _≤_}
+use Prim.Native.Nat.{ℕ, suc, _*_, _^_, _<_, _≤_}
 use native.Mathlib.Omega.{arith}
 use lib.Dec.{eqb}
 use lib.IntN.{ℤ}
@@ -15,10 +15,12 @@ use borrow.Author.Tests.{eqb-true, not-false}
 use Rattle.signal.specs.Signal.{getBits, covers}
 use Rattle.signal.specs.Payload.{numberOf, bytesOf, bitAt, Bytes}
 use Rattle.signal.specs.Raw.{fitsIn, bitsIn, valueIn}
-use Rattle.signal.proofs.Laws.{get-put-apart, bit-kept, put-lt, Apart}
+use Rattle.signal.specs.Order.{place}
+use Rattle.signal.proofs.Laws.{get-put-apart, bit-kept, put-lt}
+use Rattle.signal.proofs.Complement.{half-of}
 use Rattle.signal.proofs.RawLaws.{bits-lt}
-use Rattle.signal.proofs.Bytes.{number-lt, length-bytes, bytes-are, number-bytes}
-use Rattle.signal.proofs.Words.{number-bit}
+use Rattle.signal.proofs.Orders.{number-bound, length-of, number-of}
+use Rattle.signal.proofs.Words.{bit-of, bit-in}
 use Rattle.pages.specs.declared.Row.{Row}
 use Rattle.pages.specs.declared.Found.{Found}
 use Rattle.pages.specs.declared.Found.the-variants.{At, Nothing}
@@ -26,14 +28,16 @@ use Rattle.pages.specs.declared.Judged.{Judged}
 use Rattle.pages.specs.declared.Judged.the-variants.{Frame, Refused}
 use Rattle.pages.specs.declared.Refusal.{Refusal}
 use Rattle.pages.specs.declared.Refusal.the-variants.{NoLabel, NoRawNumber}
-use Rattle.pages.specs.Table.{rows, noRow, rowsOf, lengthOf, hasKind, isSignal, firstAt, lowest, bitsAt, Fine, covered, takes}
+use Rattle.pages.specs.Table.{rows, noRow, rowsOf, lengthOf, bigOf, hasKind, isSignal, firstAt, lowest, bitsAt, Fine, HasBit, takes}
 use Rattle.pages.specs.Judge.{unlabelled, strayBelow, judgeOf}
 use Rattle.pages.specs.Raws.{wholeAt, putRaw}
 use Rattle.pages.specs.Change.{changedAt, changedIn, changeOf, bytesAfter}
 use Rattle.pages.specs.Rules.{above}
-use Rattle.pages.proofs.Rules.{both-true, Ordered, ordered, row-fine, found-in, Among, row-among, among-apart}
+use Rattle.pages.proofs.Rules.{both-true, either-false, Ordered, ordered, row-fine, RowsApart, Among, row-among, among-apart}
+use Rattle.pages.proofs.Firsts.{found-in}
+use Rattle.pages.proofs.PageBits.{not-covered, bit-not-covered, bit-past}
 use Rattle.pages.proofs.Gaps.{stray-none, stray-zero}
-use Rattle.pages.proofs.Trips.{Taken, accepted, accepts, either-false, bits-put, whole-put}
+use Rattle.pages.proofs.Trips.{Taken, accepted, accepts, bits-put, whole-put}
 
 -- ---- from the answer back to the tests
 
@@ -43,12 +47,12 @@ rowAt i = getD rows i noRow
 
 -- the lent frame is one of kind k, the signal is the row at `place`, z fits it and has its label, and n′ is the frame's number with z put there
 pub record Changed (m : ℕ) (extended : Bool) (bs : List ℕ) (s : ℕ) (z : ℤ) (k n′ : ℕ) : Type 0 where
-  pub read : Taken m extended bs k (numberOf bs)
+  pub read : Taken m extended bs k (numberOf (bigOf k) bs)
   pub place : ℕ
   pub found : firstAt (isSignal k s) 0 rows ≡ At place
   pub fits : fitsIn (rowAt place .signed) (rowAt place .width) z ≡ true
   pub labelled : takes (rowAt place .labels) (bitsIn (rowAt place .signed) (rowAt place .width) z) ≡ true
-  pub put : n′ ≡ putRaw (rowAt place) (numberOf bs) z
+  pub put : n′ ≡ putRaw (rowAt place) (numberOf (bigOf k) bs) z
 
 pub changed : (m : ℕ) (extended : Bool) (bs : List ℕ) (s : ℕ) (z : ℤ) (k n′ : ℕ) → changeOf m extended bs s z ≡ Frame k n′
     → Changed m extended bs s z k n′
@@ -61,14 +65,14 @@ changed m extended bs s z k n′ e = outer (judgeOf m extended bs) refl e
     inner k₀ n i true true j f p q e =
         let ek : k₀ ≡ k = cc in
         let en : putRaw (rowAt i) n z ≡ n′ = cc in
-        let t = accepted m extended bs k₀ n j in
+        let number : n ≡ numberOf (bigOf k) bs = accepted m extended bs k₀ n j .number ∙ ap (λ (x : ℕ). numberOf (bigOf x) bs) ek in
         record {
-          read = accepted m extended bs k (numberOf bs) (j ∙ ap₂ Frame ek (t .number));
+          read = accepted m extended bs k (numberOf (bigOf k) bs) (j ∙ ap₂ Frame ek number);
           place = i;
           found = subst (λ (x : ℕ). firstAt (isSignal x s) 0 rows ≡ At i) ek f;
           fits = p;
           labelled = q;
-          put = sym en ∙ ap (λ (x : ℕ). putRaw (rowAt i) x z) (t .number);
+          put = sym en ∙ ap (λ (x : ℕ). putRaw (rowAt i) x z) number;
         }
     inner k₀ n i true false j f p q e = absurd (let z : _≡_ {A = ℕ} 0 1 = cc in omega arith)
     inner k₀ n i false b j f p q e = absurd (let z : _≡_ {A = ℕ} 0 1 = cc in omega arith)
@@ -95,15 +99,7 @@ signal-row k s i f =
 inside : (n p : ℕ) (r : Row) (rs : List Row) → Ordered n p rs → Among r rs → above r ≤ n
 inside n p r [] o m = absurd m
 inside n p r (q ∷ rs) o (inl e) = omega (arith, o .1, ap above e)
-inside n p r (q ∷ rs) o (inr m) = inside n (above q) r rs (o .3) m
-
--- a bit that no row covers is not r's
-not-covered : (r : Row) (rs : List Row) (i : ℕ) → Among r rs → covered rs i ≡ false → covers (lowest r) (r .width) i ≡ false
-unfolding covered
-not-covered r [] i m u = absurd m
-not-covered r (q ∷ rs) i (inl e) u =
-    ap (λ (x : Row). covers (lowest x) (x .width) i) e ∙ either-false (covers (lowest q) (q .width) i) (covered rs i) u .0
-not-covered r (q ∷ rs) i (inr m) u = not-covered r rs i m (either-false (covers (lowest q) (q .width) i) (covered rs i) u .1)
+inside n p r (q ∷ rs) o (inr m) = inside n (suc (q .start)) r rs (o .3) m
 
 labelled-each : (n : ℕ) (rs : List Row) → unlabelled n rs ≡ false → (q : Row) → Among q rs → takes (q .labels) (bitsAt n q) ≡ true
 unfolding unlabelled
@@ -134,7 +130,7 @@ module _ (k n : ℕ) (r : Row) (z : ℤ) (small : n < 2 ^ (8 * lengthOf k)) (fin
       bit-kept n (lowest r) (r .width) (bitsIn (r .signed) (r .width) z) j (bits-lt (r .signed) (r .width) (fine .0) z fits) u
 
   -- another signal of the kind
-  put-other : (q : Row) → Apart (lowest r) (r .width) (lowest q) (q .width) → bitsAt (putRaw r n z) q ≡ bitsAt n q
+  put-other : (q : Row) → RowsApart r q → bitsAt (putRaw r n z) q ≡ bitsAt n q
   put-other q a =
       get-put-apart n (lowest r) (r .width) (bitsIn (r .signed) (r .width) z) (lowest q) (q .width) (bits-lt (r .signed) (r .width) (fine .0) z fits) a
 
@@ -142,7 +138,7 @@ module _ (k n : ℕ) (r : Row) (z : ℤ) (small : n < 2 ^ (8 * lengthOf k)) (fin
   put-labelled t u =
       each-labelled (putRaw r n z) (rowsOf k) (λ q m. go q m (among-apart (8 * lengthOf k) 0 r q (rowsOf k) (ordered k) member m))
     where
-      go : (q : Row) → Among q (rowsOf k) → (q ≡ r) ⊎ Apart (lowest r) (r .width) (lowest q) (q .width) → takes (q .labels) (bitsAt (putRaw r n z) q) ≡ true
+      go : (q : Row) → Among q (rowsOf k) → (q ≡ r) ⊎ RowsApart r q → takes (q .labels) (bitsAt (putRaw r n z) q) ≡ true
       go q m (inl e) = ap (λ (x : Row). takes (x .labels) (bitsAt (putRaw r n z) x)) e ∙ ap (takes (r .labels)) (bits-put r n z fine fits) ∙ t
       go q m (inr a) = ap (takes (q .labels)) (put-other q a) ∙ labelled-each n (rowsOf k) u q m
 
@@ -156,23 +152,24 @@ module _ (k n : ℕ) (r : Row) (z : ℤ) (small : n < 2 ^ (8 * lengthOf k)) (fin
 -- a change that was accepted, of lent bytes
 module _ (m : ℕ) (extended : Bool) (bs : List ℕ) (s : ℕ) (z : ℤ) (k n′ : ℕ) (e : changeOf m extended bs s z ≡ Frame k n′) (hb : Bytes bs) where
   -- the frame's number has the kind's bits, before and after
-  small-before : numberOf bs < 2 ^ (8 * lengthOf k)
-  small-before = subst (λ (x : ℕ). numberOf bs < 2 ^ (8 * x)) (changed m extended bs s z k n′ e .read .sized) (number-lt bs hb)
+  small-before : numberOf (bigOf k) bs < 2 ^ (8 * lengthOf k)
+  small-before =
+      subst (λ (x : ℕ). numberOf (bigOf k) bs < 2 ^ (8 * x)) (changed m extended bs s z k n′ e .read .sized) (number-bound (bigOf k) bs hb)
 
   small-after : n′ < 2 ^ (8 * lengthOf k)
   small-after =
       let c = changed m extended bs s z k n′ e in
       let r = signal-row k s (c .place) (c .found) in
       subst (λ (x : ℕ). x < 2 ^ (8 * lengthOf k)) (sym (c .put))
-      (put-small k (numberOf bs) (rowAt (c .place)) z small-before (r .0) (r .1) (c .fits))
+      (put-small k (numberOf (bigOf k) bs) (rowAt (c .place)) z small-before (r .0) (r .1) (c .fits))
 
   -- what is stored
-  stored : bytesAfter bs (changeOf m extended bs s z) ≡ bytesOf (length bs) n′
+  stored : bytesAfter bs (changeOf m extended bs s z) ≡ bytesOf (bigOf k) (length bs) n′
   stored = ap (bytesAfter bs) e
 
-  number-after : numberOf (bytesOf (length bs) n′) ≡ n′
+  number-after : numberOf (bigOf k) (bytesOf (bigOf k) (length bs) n′) ≡ n′
   number-after =
-      number-bytes (length bs) n′ (subst (λ (x : ℕ). n′ < 2 ^ (8 * x)) (sym (changed m extended bs s z k n′ e .read .sized)) small-after)
+      number-of (bigOf k) (length bs) n′ (subst (λ (x : ℕ). n′ < 2 ^ (8 * x)) (sym (changed m extended bs s z k n′ e .read .sized)) small-after)
 
   -- the bytes are read as a frame of the same kind, with the number n′
   pub change-read : (judgeOf m extended (bytesAfter bs (changeOf m extended bs s z)) ≡ Frame k n′)
@@ -181,19 +178,19 @@ module _ (m : ℕ) (extended : Bool) (bs : List ℕ) (s : ℕ) (z : ℤ) (k n′
       let c = changed m extended bs s z k n′ e in
       let t = c .read in
       let r = signal-row k s (c .place) (c .found) in
-      let b = bytesOf (length bs) n′ in
-      let l : length b ≡ length bs = length-bytes (length bs) n′ in
+      let b = bytesOf (bigOf k) (length bs) n′ in
+      let l : length b ≡ length bs = length-of (bigOf k) (length bs) n′ in
       let taken : Taken m extended b k n′
       = record {
-        isExtended = t .isExtended;
         identifier = t .identifier;
+        form = t .form;
         sized = l ∙ t .sized;
         number = sym number-after;
         some = t .some;
         labelled = ap (λ (x : ℕ). unlabelled x (rowsOf k)) (c .put)
-            ∙ put-labelled k (numberOf bs) (rowAt (c .place)) z small-before (r .0) (r .1) (c .fits) (c .labelled) (t .labelled);
+            ∙ put-labelled k (numberOf (bigOf k) bs) (rowAt (c .place)) z small-before (r .0) (r .1) (c .fits) (c .labelled) (t .labelled);
         clean = ap₂ (λ (x y : ℕ). strayBelow (8 * x) y (rowsOf k)) l (c .put)
-            ∙ put-clean k (numberOf bs) (rowAt (c .place)) z small-before (r .0) (r .1) (c .fits) (8 * length bs) (t .clean);
+            ∙ put-clean k (numberOf (bigOf k) bs) (rowAt (c .place)) z small-before (r .0) (r .1) (c .fits) (8 * length bs) (t .clean);
       } in
       (ap (judgeOf m extended) stored ∙ accepts m extended b k n′ taken, ap length stored ∙ l)
 
@@ -209,35 +206,44 @@ module _ (m : ℕ) (extended : Bool) (bs : List ℕ) (s : ℕ) (z : ℤ) (k n′
     fits-is : fitsIn (rowAt i .signed) (rowAt i .width) z ≡ true
     fits-is = subst (λ (x : ℕ). fitsIn (rowAt x .signed) (rowAt x .width) z ≡ true) place-is (changed m extended bs s z k n′ e .fits)
 
-    put-is : n′ ≡ putRaw (rowAt i) (numberOf bs) z
-    put-is = subst (λ (x : ℕ). n′ ≡ putRaw (rowAt x) (numberOf bs) z) place-is (changed m extended bs s z k n′ e .put)
+    put-is : n′ ≡ putRaw (rowAt i) (numberOf (bigOf k) bs) z
+    put-is = subst (λ (x : ℕ). n′ ≡ putRaw (rowAt x) (numberOf (bigOf k) bs) z) place-is (changed m extended bs s z k n′ e .put)
 
-    -- "Changing one signal touches no bit outside it"
-    pub change-kept : (j : ℕ) → covers (lowest (rowAt i)) (rowAt i .width) j ≡ false
-        → bitAt (bytesAfter bs (changeOf m extended bs s z)) j ≡ bitAt bs j
-    change-kept j u =
-        let r = signal-row k s i found in
-        ap (λ (l : List ℕ). bitAt l j) stored
-        ∙ sym (number-bit (bytesOf (length bs) n′) j (bytes-are (length bs) n′))
-        ∙ ap (λ (x : ℕ). getBits x j 1) (number-after ∙ put-is)
-        ∙ put-kept k (numberOf bs) (rowAt i) z small-before (r .0) (r .1) fits-is j u
-        ∙ number-bit bs j hb
+    -- "Changing one signal touches no bit outside it": a bit that the page's signal does not have
+    pub change-kept : (b : ℕ) → (HasBit (rowAt i) b → ⊥) → bitAt (bytesAfter bs (changeOf m extended bs s z)) b ≡ bitAt bs b
+    change-kept b u = ap (λ (l : List ℕ). bitAt l b) stored ∙ go (half-of (8 * length bs) b)
+      where
+        go : (b < 8 * length bs) ⊎ (8 * length bs ≤ b) → bitAt (bytesOf (bigOf k) (length bs) n′) b ≡ bitAt bs b
+        go (inl l) =
+            let r = signal-row k s i found in
+            let size = changed m extended bs s z k n′ e .read .sized in
+            let p = place (bigOf k) (length bs) b in
+            let free : covers (lowest (rowAt i)) (rowAt i .width) p ≡ false
+            = ap (λ (x : ℕ). covers (lowest (rowAt i)) (rowAt i .width) (place (bigOf k) x b)) size
+            ∙ bit-not-covered k b (rowAt i) (r .1) (subst (λ (x : ℕ). b < 8 * x) size l) u in
+            bit-in (bigOf k) (length bs) n′ b l
+            ∙ ap (λ (x : ℕ). getBits x p 1) put-is
+            ∙ put-kept k (numberOf (bigOf k) bs) (rowAt i) z small-before (r .0) (r .1) fits-is p free
+            ∙ bit-of (bigOf k) bs b hb l
+        go (inr l) =
+            let past : 8 * length (bytesOf (bigOf k) (length bs) n′) ≤ b
+            = subst (λ (x : ℕ). 8 * x ≤ b) (sym (length-of (bigOf k) (length bs) n′)) l in
+            bit-past (bytesOf (bigOf k) (length bs) n′) b past ∙ sym (bit-past bs b l)
 
     -- it has the number that was asked for, and every other signal of the message keeps its own
-    pub change-raws : (wholeAt n′ (rowAt i) ≡ z) × ((q : Row) → Among q (rowsOf k) → (q .start ≡ s → ⊥) → wholeAt n′ q ≡ wholeAt (numberOf bs) q)
+    pub change-raws : (wholeAt n′ (rowAt i) ≡ z) × ((q : Row) → Among q (rowsOf k) → (q .start ≡ s → ⊥) → wholeAt n′ q ≡ wholeAt (numberOf (bigOf k) bs) q)
     change-raws =
         let r = signal-row k s i found in (
-          ap (λ (x : ℕ). wholeAt x (rowAt i)) put-is ∙ whole-put (rowAt i) (numberOf bs) z (r .0) fits-is,
+          ap (λ (x : ℕ). wholeAt x (rowAt i)) put-is ∙ whole-put (rowAt i) (numberOf (bigOf k) bs) z (r .0) fits-is,
           λ q a n. other q n (among-apart (8 * lengthOf k) 0 (rowAt i) q (rowsOf k) (ordered k) (r .1) a),
         )
       where
-        other : (q : Row) → (q .start ≡ s → ⊥) → (q ≡ rowAt i) ⊎ Apart (lowest (rowAt i)) (rowAt i .width) (lowest q) (q .width)
-            → wholeAt n′ q ≡ wholeAt (numberOf bs) q
-        other q n (inl w) = absurd (n (ap lowest w ∙ signal-row k s i found .2))
+        other : (q : Row) → (q .start ≡ s → ⊥) → (q ≡ rowAt i) ⊎ RowsApart (rowAt i) q → wholeAt n′ q ≡ wholeAt (numberOf (bigOf k) bs) q
+        other q n (inl w) = absurd (n (ap (λ (x : Row). x .start) w ∙ signal-row k s i found .2))
         other q n (inr a) =
             let r = signal-row k s i found in
             ap (valueIn (q .signed) (q .width))
-            (ap (λ (x : ℕ). bitsAt x q) put-is ∙ put-other k (numberOf bs) (rowAt i) z small-before (r .0) (r .1) fits-is q a)
+            (ap (λ (x : ℕ). bitsAt x q) put-is ∙ put-other k (numberOf (bigOf k) bs) (rowAt i) z small-before (r .0) (r .1) fits-is q a)
 
 -- "A refusal carries its number only; .. lent bytes stay as they were"
 pub change-refused : (m : ℕ) (extended : Bool) (bs : List ℕ) (s : ℕ) (z : ℤ) (w : Refusal) → changeOf m extended bs s z ≡ Refused w

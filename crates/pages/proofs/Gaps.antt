@@ -1,6 +1,6 @@
 -- Refusal 6 is given where "a bit that no signal covers is 1": clearing the signals leaves nothing exactly where there is no such bit.
 -- Assumes nothing.
-use mathlib.Core.Path.{_≡_, refl, sym, ap, _∙_}
+use mathlib.Core.Path.{_≡_, refl, sym, ap, _∙_, subst}
 use mathlib.Core.Bool.{Bool, true, false, cond, not, _&&_, _||_}
 use mathlib.Core.Logic.{_⊎_, inl, inr}
 use mathlib.Core.List.{List, [], _∷_}
@@ -13,21 +13,22 @@ use lib.Pow.{pow-pos}
 use borrow.Author.Tests.{eq-eqb, ne-eqb, eqb-true, not-true}
 use Rattle.signal.specs.Signal.{getBits, putBits, covers}
 use Rattle.signal.specs.Payload.{numberOf, bitAt, Bytes}
-use Rattle.signal.proofs.Laws.{get-lt, get-zero, bit-put, bit-out, put-lt, same-bits}
+use Rattle.signal.specs.Order.{place}
+use Rattle.signal.proofs.Laws.{get-lt, get-zero, bit-put, put-lt, same-bits}
 use Rattle.signal.proofs.Complement.{half-of}
-use Rattle.signal.proofs.Bytes.{number-lt}
-use Rattle.signal.proofs.Words.{number-bit}
+use Rattle.signal.proofs.Words.{place-lt, place-place, bit-of}
 use Rattle.pages.specs.declared.Row.{Row}
 use Rattle.pages.specs.declared.Found.{Found}
 use Rattle.pages.specs.declared.Found.the-variants.{At, Nothing}
 use Rattle.pages.specs.declared.Judged.{Judged}
 use Rattle.pages.specs.declared.Judged.the-variants.{Frame, Refused}
 use Rattle.pages.specs.declared.Refusal.the-variants.{UnknownIdentifier, TooShort, TooLong, NoLabel, UncoveredBit}
-use Rattle.pages.specs.Table.{rows, noRow, rowsOf, firstAt, hasId, lowest, covered}
+use Rattle.pages.specs.Table.{rows, noRow, rowsOf, lengthOf, bigOf, firstAt, hasId, lowest, HasBit, covered}
 use Rattle.pages.specs.Judge.{unlabelled, offender, strayBelow, judgedNumber, wrongLength, judgedAt, judgeOf}
-use Rattle.pages.specs.Rules.{above}
 use Rattle.pages.specs.Steps.{cleared}
-use Rattle.pages.proofs.Rules.{both-true, not-both, Ordered}
+use Rattle.pages.proofs.Rules.{both-true, not-both, Ordered, Among}
+use Rattle.pages.proofs.Firsts.{first-id}
+use Rattle.pages.proofs.PageBits.{no-signal, no-place, bit-past}
 
 -- ---- clearing the signals
 
@@ -50,7 +51,7 @@ pub cleared-lt : (k p : ℕ) (rs : List Row) (n : ℕ) → Ordered k p rs → n 
 unfolding cleared
 cleared-lt k p [] n o h = h
 cleared-lt k p (r ∷ rs) n o h =
-    cleared-lt k (above r) rs (putBits n (lowest r) (r .width) 0) (o .3) (put-lt n (lowest r) (r .width) 0 k h (pow-pos (r .width)) (o .1))
+    cleared-lt k (suc (r .start)) rs (putBits n (lowest r) (r .width) 0) (o .3) (put-lt n (lowest r) (r .width) 0 k h (pow-pos (r .width)) (o .1))
 
 -- ---- a bit that no signal covers
 
@@ -124,34 +125,29 @@ cleared-test k rs n o h = go (strayBelow k n rs) refl
 
 -- the frame passed 3, 4 and 15, and a is what its number is answered
 pub record Reached (m : ℕ) (extended : Bool) (bs : List ℕ) (a : Judged) : Type 0 where
-  pub isExtended : extended ≡ true
   pub place : ℕ
-  pub found : firstAt (hasId m) 0 rows ≡ At place
+  pub found : firstAt (hasId m extended) 0 rows ≡ At place
   pub sized : length bs ≡ getD rows place noRow .bytes
-  pub judged : judgedNumber (getD rows place noRow .kind) (8 * length bs) (numberOf bs) ≡ a
+  pub judged : judgedNumber (getD rows place noRow .kind) (8 * length bs) (numberOf (getD rows place noRow .big) bs) ≡ a
 
 pub reached : (m : ℕ) (extended : Bool) (bs : List ℕ) (a : Judged) → judgeOf m extended bs ≡ a
     → (a ≡ Refused UnknownIdentifier → ⊥) → (a ≡ Refused TooShort → ⊥) → (a ≡ Refused TooLong → ⊥) → Reached m extended bs a
 unfolding judgeOf
-reached m extended bs a e n3 n4 n15 = outer extended refl e
+reached m extended bs a e n3 n4 n15 = outer (firstAt (hasId m extended) 0 rows) refl e
   where
     length-out : (b : Bool) → Refused (cond b TooShort TooLong) ≡ a → ⊥
     length-out true e = n4 (sym e)
     length-out false e = n15 (sym e)
 
-    inner : (i : ℕ) (b : Bool) → extended ≡ true → firstAt (hasId m) 0 rows ≡ At i → eqb (length bs) (getD rows i noRow .bytes) ≡ b
-        → cond b (judgedNumber (getD rows i noRow .kind) (8 * length bs) (numberOf bs)) (Refused (wrongLength (getD rows i noRow) bs)) ≡ a → Reached m extended bs a
-    inner i true x f l e =
-        record { isExtended = x; place = i; found = f; sized = eqb-true (length bs) (getD rows i noRow .bytes) l; judged = e }
-    inner i false x f l e = absurd (length-out (ltb (length bs) (getD rows i noRow .bytes)) e)
+    inner : (i : ℕ) (b : Bool) → firstAt (hasId m extended) 0 rows ≡ At i → eqb (length bs) (getD rows i noRow .bytes) ≡ b
+        → cond b (judgedNumber (getD rows i noRow .kind) (8 * length bs) (numberOf (getD rows i noRow .big) bs)) (Refused (wrongLength (getD rows i noRow) bs)) ≡ a
+        → Reached m extended bs a
+    inner i true f l e = record { place = i; found = f; sized = eqb-true (length bs) (getD rows i noRow .bytes) l; judged = e }
+    inner i false f l e = absurd (length-out (ltb (length bs) (getD rows i noRow .bytes)) e)
 
-    middle : (f : Found) → extended ≡ true → firstAt (hasId m) 0 rows ≡ f → judgedAt bs f ≡ a → Reached m extended bs a
-    middle (At i) x f e = inner i (eqb (length bs) (getD rows i noRow .bytes)) x f refl e
-    middle Nothing x f e = absurd (n3 (sym e))
-
-    outer : (b : Bool) → extended ≡ b → cond b (judgedAt bs (firstAt (hasId m) 0 rows)) (Refused UnknownIdentifier) ≡ a → Reached m extended bs a
-    outer true x e = middle (firstAt (hasId m) 0 rows) x refl e
-    outer false x e = absurd (n3 (sym e))
+    outer : (f : Found) → firstAt (hasId m extended) 0 rows ≡ f → judgedAt bs f ≡ a → Reached m extended bs a
+    outer (At i) f e = inner i (eqb (length bs) (getD rows i noRow .bytes)) f refl e
+    outer Nothing f e = absurd (n3 (sym e))
 
 pub reached-frame : (m : ℕ) (extended : Bool) (bs : List ℕ) (k n : ℕ) → judgeOf m extended bs ≡ Frame k n → Reached m extended bs (Frame k n)
 reached-frame m extended bs k n e =
@@ -182,56 +178,95 @@ strayed k bits n e = go (unlabelled n (rowsOf k)) (strayBelow bits n (rowsOf k))
 
 -- ---- the theorems, over the payload's bytes
 
--- the message of the table with identifier m, and a bit of the payload that is 1 and that none of its signals covers
-pub record Uncovered (m : ℕ) (bs : List ℕ) : Type 0 where
+-- the message of the table with identifier m in this form, and a bit of the payload that is 1 and that none of its signals has
+pub record Uncovered (m : ℕ) (extended : Bool) (bs : List ℕ) : Type 0 where
   pub place : ℕ
-  pub found : firstAt (hasId m) 0 rows ≡ At place
+  pub found : firstAt (hasId m extended) 0 rows ≡ At place
   pub bit : ℕ
   pub inside : bit < 8 * length bs
-  pub noSignal : covered (rowsOf (getD rows place noRow .kind)) bit ≡ false
+  pub noSignal : (r : Row) → Among r (rowsOf (getD rows place noRow .kind)) → HasBit r bit → ⊥
   pub isOne : bitAt bs bit ≡ 1
 
+-- what the row that is found says of its kind
+module _ (m : ℕ) (extended : Bool) (i : ℕ) (found : firstAt (hasId m extended) 0 rows ≡ At i) where
+  pub found-length : getD rows i noRow .bytes ≡ lengthOf (getD rows i noRow .kind)
+  unfolding lengthOf
+  found-length = sym (ap (λ (x : Row). x .bytes) (first-id m extended i found .3))
+
+  pub found-big : getD rows i noRow .big ≡ bigOf (getD rows i noRow .kind)
+  unfolding bigOf
+  found-big = sym (ap (λ (x : Row). x .big) (first-id m extended i found .3))
+
 -- refusal 6 is given only where "a bit that no signal covers is 1"
-pub uncovered : (m : ℕ) (extended : Bool) (bs : List ℕ) → judgeOf m extended bs ≡ Refused UncoveredBit → Bytes bs → Uncovered m bs
+pub uncovered : (m : ℕ) (extended : Bool) (bs : List ℕ) → judgeOf m extended bs ≡ Refused UncoveredBit → Bytes bs → Uncovered m extended bs
 uncovered m extended bs e hb =
     go (reached m extended bs (Refused UncoveredBit) e (λ q. let z : _≡_ {A = ℕ} 0 1 = cc in omega arith) (λ q. let z : _≡_ {A = ℕ} 0 1 = cc in omega arith) (λ q. let z : _≡_ {A = ℕ} 0 1 = cc in omega arith))
   where
-    told : (i j : ℕ) → firstAt (hasId m) 0 rows ≡ At i → j < 8 * length bs → covered (rowsOf (getD rows i noRow .kind)) j ≡ false
-        → getBits (numberOf bs) j 1 ≡ 1 → Uncovered m bs
-    told i j f l u o = record { place = i; found = f; bit = j; inside = l; noSignal = u; isOne = sym (number-bit bs j hb) ∙ o }
+    told : (i k p : ℕ) → firstAt (hasId m extended) 0 rows ≡ At i → getD rows i noRow .kind ≡ k → length bs ≡ lengthOf k → p < 8 * lengthOf k
+        → covered (rowsOf k) p ≡ false → getBits (numberOf (bigOf k) bs) p 1 ≡ 1 → Uncovered m extended bs
+    told i k p f w s l u o =
+        let back = place-place (bigOf k) (lengthOf k) p l in
+        let b = place (bigOf k) (lengthOf k) p in
+        let inside : b < 8 * lengthOf k = place-lt (bigOf k) (lengthOf k) p l in
+        let within : b < 8 * length bs = subst (λ (x : ℕ). b < 8 * x) (sym s) inside in
+        record {
+          place = i;
+          found = f;
+          bit = b;
+          inside = within;
+          noSignal = subst (λ (x : ℕ). (r : Row) → Among r (rowsOf x) → HasBit r b → ⊥) (sym w) (no-signal k b (ap (covered (rowsOf k)) back ∙ u));
+          isOne = sym (bit-of (bigOf k) bs b hb within) ∙ ap (λ (x : ℕ). getBits (numberOf (bigOf k) bs) x 1) (ap (λ (x : ℕ). place (bigOf k) x b) s ∙ back) ∙ o;
+        }
 
-    go : Reached m extended bs (Refused UncoveredBit) → Uncovered m bs
+    go : Reached m extended bs (Refused UncoveredBit) → Uncovered m extended bs
     go c =
-        let k = getD rows (c .place) noRow .kind in
-        let s = stray-told (8 * length bs) (numberOf bs) (rowsOf k) (strayed k (8 * length bs) (numberOf bs) (c .judged)) in
-        told (c .place) (s .0) (c .found) (s .1) (s .2) (s .3)
+        let r = getD rows (c .place) noRow in
+        let k = r .kind in
+        let s : length bs ≡ lengthOf k = c .sized ∙ found-length m extended (c .place) (c .found) in
+        let n = numberOf (r .big) bs in
+        let t = stray-told (8 * length bs) n (rowsOf k) (strayed k (8 * length bs) n (c .judged)) in
+        told (c .place) k (t .0) (c .found) refl s (subst (λ (x : ℕ). t .0 < 8 * x) s (t .1)) (t .2)
+        (ap (λ (x : Bool). getBits (numberOf x bs) (t .0) 1) (sym (found-big m extended (c .place) (c .found))) ∙ t .3)
+
+-- a bit that no signal of the kind has, in the number of a frame of its length that has no stray bit
+bit-zero : (k n : ℕ) (bs : List ℕ) (b : ℕ) → Bytes bs → length bs ≡ lengthOf k → n ≡ numberOf (bigOf k) bs → strayBelow (8 * length bs) n (rowsOf k) ≡ false
+    → b < 8 * length bs → ((r : Row) → Among r (rowsOf k) → HasBit r b → ⊥) → bitAt bs b ≡ 0
+bit-zero k n bs b hb s e none l u =
+    let i = place (bigOf k) (length bs) b in
+    let free : covered (rowsOf k) i ≡ false
+    = ap (λ (x : ℕ). covered (rowsOf k) (place (bigOf k) x b)) s ∙ no-place k b (subst (λ (x : ℕ). b < 8 * x) s l) u in
+    sym (bit-of (bigOf k) bs b hb l)
+    ∙ ap (λ (x : ℕ). getBits x i 1) (sym e)
+    ∙ stray-none (8 * length bs) n (rowsOf k) none i (place-lt (bigOf k) (length bs) b l) free
 
 -- and given there, once 3, 4 and 5 are passed
-pub uncovered-given : (m : ℕ) (bs : List ℕ) → Bytes bs → (u : Uncovered m bs) → length bs ≡ getD rows (u .place) noRow .bytes
-    → unlabelled (numberOf bs) (rowsOf (getD rows (u .place) noRow .kind)) ≡ false → judgeOf m true bs ≡ Refused UncoveredBit
+pub uncovered-given : (m : ℕ) (extended : Bool) (bs : List ℕ) → Bytes bs → (u : Uncovered m extended bs) → length bs ≡ getD rows (u .place) noRow .bytes
+    → unlabelled (numberOf (getD rows (u .place) noRow .big) bs) (rowsOf (getD rows (u .place) noRow .kind)) ≡ false
+    → judgeOf m extended bs ≡ Refused UncoveredBit
 unfolding judgeOf judgedNumber
-uncovered-given m bs hb u l e =
+uncovered-given m extended bs hb u l e =
     let r = getD rows (u .place) noRow in
-    rw (u .found, eq-eqb (length bs) (r .bytes) l, e) (go (strayBelow (8 * length bs) (numberOf bs) (rowsOf (r .kind))) refl)
+    rw (u .found, eq-eqb (length bs) (r .bytes) l, e) (go (strayBelow (8 * length bs) (numberOf (r .big) bs) (rowsOf (r .kind))) refl)
   where
-    go : (b : Bool) → strayBelow (8 * length bs) (numberOf bs) (rowsOf (getD rows (u .place) noRow .kind)) ≡ b
-        → cond b (Refused UncoveredBit) (Frame (getD rows (u .place) noRow .kind) (numberOf bs)) ≡ Refused UncoveredBit
+    go : (b : Bool) → strayBelow (8 * length bs) (numberOf (getD rows (u .place) noRow .big) bs) (rowsOf (getD rows (u .place) noRow .kind)) ≡ b
+        → cond b (Refused UncoveredBit) (Frame (getD rows (u .place) noRow .kind) (numberOf (getD rows (u .place) noRow .big) bs)) ≡ Refused UncoveredBit
     go true s = refl
     go false s =
-        let z : getBits (numberOf bs) (u .bit) 1 ≡ 0
-        = stray-none (8 * length bs) (numberOf bs) (rowsOf (getD rows (u .place) noRow .kind)) s (u .bit) (u .inside) (u .noSignal) in
-        absurd (omega (arith, z, number-bit bs (u .bit) hb, u .isOne))
+        let r = getD rows (u .place) noRow in
+        let z = bit-zero (r .kind) (numberOf (r .big) bs) bs (u .bit) hb (l ∙ found-length m extended (u .place) (u .found))
+        (ap (λ (x : Bool). numberOf x bs) (found-big m extended (u .place) (u .found))) s (u .inside) (u .noSignal) in
+        absurd (omega (arith, z, u .isOne))
 
--- in an accepted frame every bit that no signal covers is 0
+-- in an accepted frame every bit that no signal has is 0
 pub covered-all : (m : ℕ) (extended : Bool) (bs : List ℕ) (k n : ℕ) → judgeOf m extended bs ≡ Frame k n → Bytes bs
-    → (j : ℕ) → covered (rowsOf k) j ≡ false → bitAt bs j ≡ 0
-covered-all m extended bs k n e hb j u =
-    sym (number-bit bs j hb)
-    ∙ go (reached-frame m extended bs k n e) (half-of (8 * length bs) j)
+    → (b : ℕ) → ((r : Row) → Among r (rowsOf k) → HasBit r b → ⊥) → bitAt bs b ≡ 0
+covered-all m extended bs k n e hb b u = go (reached-frame m extended bs k n e) (half-of (8 * length bs) b)
   where
-    go : Reached m extended bs (Frame k n) → (j < 8 * length bs) ⊎ (8 * length bs ≤ j) → getBits (numberOf bs) j 1 ≡ 0
+    go : Reached m extended bs (Frame k n) → (b < 8 * length bs) ⊎ (8 * length bs ≤ b) → bitAt bs b ≡ 0
     go c (inl l) =
-        let t = taken (getD rows (c .place) noRow .kind) (8 * length bs) (numberOf bs) k n (c .judged) in
-        stray-none (8 * length bs) (numberOf bs) (rowsOf (getD rows (c .place) noRow .kind)) (t .3) j l
-        (ap (λ (x : ℕ). covered (rowsOf x) j) (t .0) ∙ u)
-    go c (inr l) = bit-out (numberOf bs) (8 * length bs) j (number-lt bs hb) l
+        let r = getD rows (c .place) noRow in
+        let t = taken (r .kind) (8 * length bs) (numberOf (r .big) bs) k n (c .judged) in
+        bit-zero (r .kind) (numberOf (r .big) bs) bs b hb (c .sized ∙ found-length m extended (c .place) (c .found))
+        (ap (λ (x : Bool). numberOf x bs) (found-big m extended (c .place) (c .found))) (t .3) l
+        (subst (λ (x : ℕ). (q : Row) → Among q (rowsOf x) → HasBit q b → ⊥) (sym (t .0)) u)
+    go c (inr l) = bit-past bs b l

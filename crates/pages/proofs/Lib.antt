@@ -1,4 +1,8 @@
 pub mod Rules
+pub mod Firsts
+pub mod Searches
+pub mod Keys
+pub mod PageBits
 pub mod Gaps
 pub mod Offenders
 pub mod Trips

@@ -1,27 +1,30 @@
--- The rules of the table, from the one test `tableFine`: what every row keeps to, what the rows of a kind keep to, and where they stand.
+-- The rules of the table, from the one test `tableFine`: what every row keeps to, what two rows do, and what the rows of a kind do.
 -- Assumes nothing.
-use mathlib.Core.Path.{_≡_, refl, sym, ap, _∙_, subst}
-use mathlib.Core.Bool.{Bool, true, false, cond, not, _&&_}
+use mathlib.Core.Path.{_≡_, refl, sym, ap, ap₂, _∙_, subst}
+use mathlib.Core.Bool.{Bool, true, false, cond, not, _&&_, _||_}
 use mathlib.Core.Logic.{_⊎_, inl, inr}
 use mathlib.Core.List.{List, [], _∷_}
-use Prim.Native.Nat.{ℕ, zero, suc, _+_, _*_, _/_, _%_, _^_, _<_, _≤_, min, zero-le}
-use native.Mathlib.Nat.{le-of-suc-le-suc, not-suc-le-zero, suc-add, add-suc, add-zero, zero-add, lt-of-lt-of-le, div-eq-of-lt}
+use Prim.Native.Nat.{ℕ, zero, suc, _*_, _/_, _%_, _^_, _<_, _≤_, min, zero-le}
+use native.Mathlib.Nat.{le-of-suc-le-suc, not-suc-le-zero, lt-of-lt-of-le, div-eq-of-lt}
 use native.Mathlib.Omega.{arith}
 use lib.Dec.{eqb, leb, ltb}
-use lib.ListN.{length, getD, drop}
+use lib.ListN.{length, getD}
 use lib.Pow.{pow-mono}
-use borrow.Author.Tests.{leb-true, le-leb, ltb-true, eqb-true, eqb-false, eq-eqb, ne-eqb, not-true}
+use borrow.Author.Tests.{leb-true, ltb-true, eqb-true, eqb-false, eq-eqb, ne-eqb, not-true}
+use Rattle.signal.specs.Order as order
+use Rattle.signal.specs.Order.{Inside}
 use Rattle.signal.proofs.Laws.{Apart}
+use Rattle.signal.proofs.Orders.{inside-fits, inside-true}
 use Rattle.signal.proofs.Complement.{half-of}
 use Rattle.pages.specs.declared.Row.{Row}
-use Rattle.pages.specs.declared.Found.{Found}
-use Rattle.pages.specs.declared.Found.the-variants.{At, Nothing}
-use Rattle.pages.specs.Table.{rows, rowCount, noRow, hasKind, hasId, keep, ofKind, rowsOf, block, firstAt, headRow, identifierOf, lengthOf, lowest, Fine, labelled}
+use Rattle.pages.specs.Charger.{chargerRows}
+use Rattle.pages.specs.Safety.{safetyRows}
+use Rattle.pages.specs.Table.{rows, rowCount, noRow, same, hasForm, hasKind, hasId, keep, ofKind, rowsOf, headRow, identifierOf, extendedOf, lengthOf, bigOf, lowest, Fine, labelled}
 use Rattle.pages.specs.Raws.{signalCount}
-use Rattle.pages.specs.Rules.{every, above, rowFine, oneMessage, twoMessages, inTurn, allInTurn, hasRoom, tableFine}
+use Rattle.pages.specs.Rules.{every, above, rowFine, apart, oneMessage, twoMessages, inTurn, allInTurn, hasRoom, tableFine}
 
 pub table-fine : tableFine ≡ true
-unfolding tableFine rows ofKind
+unfolding tableFine rows chargerRows safetyRows ofKind
 table-fine = refl
 
 -- ---- tests
@@ -30,10 +33,27 @@ pub both-true : (a b : Bool) → a && b ≡ true → (a ≡ true) × (b ≡ true
 both-true true b e = (refl, e)
 both-true false b e = absurd (let z : _≡_ {A = ℕ} 0 1 = cc in omega arith)
 
+pub either-true : (a b : Bool) → a || b ≡ true → (a ≡ true) ⊎ (b ≡ true)
+either-true true b e = inl refl
+either-true false b e = inr e
+
+pub either-false : (a b : Bool) → a || b ≡ false → (a ≡ false) × (b ≡ false)
+either-false true b e = absurd (let z : _≡_ {A = ℕ} 0 1 = cc in omega arith)
+either-false false b e = (refl, e)
+
+-- two that agree
+pub same-true : (x y : Bool) → same x y ≡ true → x ≡ y
+same-true true y e = sym e
+same-true false y e = sym (not-true y e)
+
+pub same-self : (x : Bool) → same x x ≡ true
+same-self true = refl
+same-self false = refl
+
 pub not-both : (b : Bool) → b ≡ true → b ≡ false → ⊥
 not-both b p q = let z : _≡_ {A = ℕ} 0 1 = cc in omega arith
 
-table-parts : (length rows ≡ rowCount) × (every rowFine rows ≡ true) × (allInTurn rows ≡ true) × (every hasRoom rows ≡ true)
+pub table-parts : (length rows ≡ rowCount) × (every rowFine rows ≡ true) × (allInTurn rows ≡ true) × (every hasRoom rows ≡ true)
 unfolding tableFine
 table-parts =
     let a = eqb (length rows) rowCount in
@@ -47,18 +67,18 @@ table-parts =
 pub rows-length : length rows ≡ rowCount
 rows-length = table-parts .0
 
-every-at : (f : Row → Bool) (l : List Row) → every f l ≡ true → (i : ℕ) → i < length l → f (getD l i noRow) ≡ true
+pub every-at : (f : Row → Bool) (l : List Row) → every f l ≡ true → (i : ℕ) → i < length l → f (getD l i noRow) ≡ true
 every-at f [] t i h = absurd (not-suc-le-zero h)
 every-at f (r ∷ rs) t zero h = both-true (f r) (every f rs) t .0
 every-at f (r ∷ rs) t (suc i) h = every-at f rs (both-true (f r) (every f rs) t .1) i (le-of-suc-le-suc h)
 
-every-so : (f g : Row → Bool) → ((r : Row) → f r ≡ true → g r ≡ true) → (l : List Row) → every f l ≡ true → every g l ≡ true
+pub every-so : (f g : Row → Bool) → ((r : Row) → f r ≡ true → g r ≡ true) → (l : List Row) → every f l ≡ true → every g l ≡ true
 every-so f g h [] t = refl
 every-so f g h (r ∷ rs) t =
     let p = both-true (f r) (every f rs) t in
     rw (h r (p .0)) (every-so f g h rs (p .1))
 
-turn-at : (l : List Row) → allInTurn l ≡ true → (i j : ℕ) → i < j → j < length l → inTurn (getD l i noRow) (getD l j noRow) ≡ true
+pub turn-at : (l : List Row) → allInTurn l ≡ true → (i j : ℕ) → i < j → j < length l → inTurn (getD l i noRow) (getD l j noRow) ≡ true
 turn-at [] t i j h k = absurd (not-suc-le-zero k)
 turn-at (r ∷ rs) t i zero h k = absurd (not-suc-le-zero h)
 turn-at (r ∷ rs) t zero (suc j) h k = every-at (inTurn r) rs (both-true (every (inTurn r) rs) (allInTurn rs) t .0) j (le-of-suc-le-suc k)
@@ -71,7 +91,8 @@ pub record Kept (r : Row) : Type 0 where
   pub short : r .bytes ≤ 8
   pub some : 1 ≤ r .width
   pub narrow : r .width ≤ 63
-  pub inside : above r ≤ 8 * r .bytes
+  pub within : Inside (r .big) (r .bytes) (r .start) (r .width)
+  pub lowestBit : lowest r ≡ order.lowest (r .big) (r .bytes) (r .start) (r .width)
   pub labelling : r .labels < 2 ^ min (2 ^ r .width) 64
 
 kept : (r : Row) → rowFine r ≡ true → Kept r
@@ -79,21 +100,40 @@ kept r e =
     let a = leb (r .bytes) 8 in
     let b = leb 1 (r .width) in
     let d = leb (r .width) 63 in
-    let f = leb (above r) (8 * r .bytes) in
-    let t = both-true (a && b && d && f) (ltb (r .labels) (2 ^ min (2 ^ r .width) 64)) e in
-    let u = both-true (a && b && d) f (t .0) in
+    let f = order.inside (r .big) (r .bytes) (r .start) (r .width) in
+    let g = eqb (lowest r) (order.lowest (r .big) (r .bytes) (r .start) (r .width)) in
+    let t = both-true (a && b && d && f && g) (ltb (r .labels) (2 ^ min (2 ^ r .width) 64)) e in
+    let s = both-true (a && b && d && f) g (t .0) in
+    let u = both-true (a && b && d) f (s .0) in
     let v = both-true (a && b) d (u .0) in
     let w = both-true a b (v .0) in
     record {
       short = leb-true (r .bytes) 8 (w .0);
       some = leb-true 1 (r .width) (w .1);
       narrow = leb-true (r .width) 63 (v .1);
-      inside = leb-true (above r) (8 * r .bytes) (u .1);
+      within = inside-true (r .big) (r .bytes) (r .start) (r .width) (u .1);
+      lowestBit = eqb-true (lowest r) (order.lowest (r .big) (r .bytes) (r .start) (r .width)) (s .1);
       labelling = ltb-true (r .labels) (2 ^ min (2 ^ r .width) 64) (t .1);
     }
 
+-- the signal lies within the bits of its message, and starts there
+kept-above : (r : Row) → Kept r → above r ≤ 8 * r .bytes
+kept-above r k =
+    let l = k .lowestBit in
+    omega (arith, inside-fits (r .big) (r .bytes) (r .start) (r .width) (k .within))
+
+start-in : (big : Bool) (b s w : ℕ) → 1 ≤ w → Inside big b s w → s < 8 * b
+start-in false b s w o h = omega arith
+start-in true b s w o h = h .0
+
 kept-fine : (r : Row) → Kept r → Fine r
-kept-fine r k = (k .some, k .narrow, omega arith)
+kept-fine r k =
+    let s = k .short in (
+      k .some,
+      k .narrow,
+      omega (arith, kept-above r k),
+      omega (arith, start-in (r .big) (r .bytes) (r .start) (r .width) (k .some) (k .within)),
+    )
 
 pub row-kept : (i : ℕ) → i < rowCount → Kept (getD rows i noRow)
 row-kept i h = kept (getD rows i noRow) (every-at rowFine rows (table-parts .1) i (rw rows-length h))
@@ -121,22 +161,71 @@ label-fits i x h e =
 
 -- ---- two rows
 
--- of one kind, the earlier first
-same-message : (r q : Row) → r .kind ≡ q .kind → inTurn r q ≡ true → (r .id ≡ q .id) × (r .bytes ≡ q .bytes) × (above r ≤ lowest q)
+-- they say the same of their message
+abbrev pub Agree : Row → Row → Type 0
+Agree r q = (r .id ≡ q .id) × (r .extended ≡ q .extended) × (r .bytes ≡ q .bytes) × (r .big ≡ q .big)
+
+-- they share no bit
+abbrev pub RowsApart : Row → Row → Type 0
+RowsApart r q = Apart (lowest r) (r .width) (lowest q) (q .width)
+
+apart-told : (r q : Row) → apart r q ≡ true → RowsApart r q
+apart-told r q e = go (either-true (leb (above r) (lowest q)) (leb (above q) (lowest r)) e)
+  where
+    go : (leb (above r) (lowest q) ≡ true) ⊎ (leb (above q) (lowest r) ≡ true) → RowsApart r q
+    go (inl l) = inr (leb-true (above r) (lowest q) l)
+    go (inr l) = inl (leb-true (above q) (lowest r) l)
+
+-- an identifier, in its form
+pub id-true : (m : ℕ) (x : Bool) (r : Row) → hasId m x r ≡ true → (r .id ≡ m) × (x ≡ r .extended)
+id-true m x r e =
+    let p = both-true (eqb (r .id) m) (hasForm x r) e in
+    (eqb-true (r .id) m (p .0), same-true x (r .extended) (p .1))
+
+pub id-self : (r : Row) → hasId (r .id) (r .extended) r ≡ true
+id-self r = ap₂ (λ (x y : Bool). x && y) (eq-eqb (r .id) (r .id) refl) (same-self (r .extended))
+
+-- what holds both ways
+pub id-other : (r q : Row) → hasId (r .id) (r .extended) q ≡ false → hasId (q .id) (q .extended) r ≡ false
+id-other r q n = go (hasId (q .id) (q .extended) r) refl
+  where
+    go : (b : Bool) → hasId (q .id) (q .extended) r ≡ b → b ≡ false
+    go true e =
+        let w = id-true (q .id) (q .extended) r e in
+        absurd (not-both (hasId (r .id) (r .extended) q) (ap₂ (λ (y : ℕ) (z : Bool). hasId y z q) (w .0) (sym (w .1)) ∙ id-self q) n)
+    go false e = refl
+
+-- two rows of one kind, the earlier first
+pub record Mates (r q : Row) : Type 0 where
+  pub agree : Agree r q
+  pub rising : r .start < q .start
+  pub apart : RowsApart r q
+
+pub same-message : (r q : Row) → r .kind ≡ q .kind → inTurn r q ≡ true → Mates r q
 same-message r q e t =
-    let p = both-true (eqb (r .id) (q .id) && eqb (r .bytes) (q .bytes)) (leb (above r) (lowest q))
-    (sym (ap (λ (b : Bool). cond b (oneMessage r q) (twoMessages r q)) (eq-eqb (r .kind) (q .kind) e)) ∙ t) in
-    let u = both-true (eqb (r .id) (q .id)) (eqb (r .bytes) (q .bytes)) (p .0) in
-    (eqb-true (r .id) (q .id) (u .0), eqb-true (r .bytes) (q .bytes) (u .1), leb-true (above r) (lowest q) (p .1))
+    let a = hasId (r .id) (r .extended) q in
+    let b = eqb (r .bytes) (q .bytes) in
+    let d = same (r .big) (q .big) in
+    let f = ltb (r .start) (q .start) in
+    let p = both-true (a && b && d && f) (apart r q) (sym (ap (λ (x : Bool). cond x (oneMessage r q) (twoMessages r q)) (eq-eqb (r .kind) (q .kind) e)) ∙ t) in
+    let u = both-true (a && b && d) f (p .0) in
+    let v = both-true (a && b) d (u .0) in
+    let w = both-true a b (v .0) in
+    let i = id-true (r .id) (r .extended) q (w .0) in
+    record {
+      agree = (sym (i .0), i .1, eqb-true (r .bytes) (q .bytes) (w .1), same-true (r .big) (q .big) (v .1));
+      rising = ltb-true (r .start) (q .start) (u .1);
+      apart = apart-told r q (p .1);
+    }
 
 -- of two kinds
-other-message : (r q : Row) → (r .kind ≡ q .kind → ⊥) → inTurn r q ≡ true → (r .kind < q .kind) × (r .id ≡ q .id → ⊥)
+pub other-message : (r q : Row) → (r .kind ≡ q .kind → ⊥) → inTurn r q ≡ true → (r .kind < q .kind) × (hasId (r .id) (r .extended) q ≡ false)
 other-message r q n t =
-    let p = both-true (ltb (r .kind) (q .kind)) (not (eqb (r .id) (q .id)))
+    let p = both-true (ltb (r .kind) (q .kind)) (not (hasId (r .id) (r .extended) q))
     (sym (ap (λ (b : Bool). cond b (oneMessage r q) (twoMessages r q)) (ne-eqb (r .kind) (q .kind) n)) ∙ t) in
-    (ltb-true (r .kind) (q .kind) (p .0), eqb-false (r .id) (q .id) (not-true (eqb (r .id) (q .id)) (p .1)))
+    (ltb-true (r .kind) (q .kind) (p .0), not-true (hasId (r .id) (r .extended) q) (p .1))
 
-kinds-up : (r q : Row) → inTurn r q ≡ true → r .kind ≤ q .kind
+pub kinds-up : (r q : Row) → inTurn r q ≡ true → r .kind ≤ q .kind
 kinds-up r q t = go (eqb (r .kind) (q .kind)) refl
   where
     go : (b : Bool) → eqb (r .kind) (q .kind) ≡ b → r .kind ≤ q .kind
@@ -210,39 +299,60 @@ kinds-of k (r ∷ rs) = go (hasKind k r) refl (kinds-of k rs)
     go true e i = rw e i
     go false e i = i
 
--- rows from bit p on, inside the n lowest bits: each a fine one, in order and apart
+abbrev pub Among : Row → List Row → Type 0
+Among r [] = ⊥
+Among r (q ∷ rs) = (r ≡ q) ⊎ Among r rs
+
+-- rows that start at p or above, inside the n lowest bits: each a fine one, which starts below those that follow and shares no bit with them
 abbrev pub Ordered : ℕ → ℕ → List Row → Type 0
 Ordered n p [] = Unit {0}
-Ordered n p (r ∷ rs) = (p ≤ lowest r) × (above r ≤ n) × Fine r × Ordered n (above r) rs
+Ordered n p (r ∷ rs) = (p ≤ r .start) × (above r ≤ n) × Fine r × Ordered n (suc (r .start)) rs × ((q : Row) → Among q rs → RowsApart r q)
 
-order : (k : ℕ) (q : Row) (rs : List Row) → q .kind ≡ k → every (inTurn q) rs ≡ true → every (hasKind k) rs ≡ true → every rowFine rs ≡ true
-    → allInTurn rs ≡ true → Ordered (8 * q .bytes) (above q) rs
-order k q [] e t ks fs ts = tt
-order k q (r ∷ rs) e t ks fs ts =
-    let tp = both-true (inTurn q r) (every (inTurn q) rs) t in
+-- a row of kind k and those of its kind that stand behind it
+mates : (k : ℕ) (r q : Row) (rs : List Row) → r .kind ≡ k → every (inTurn r) rs ≡ true → every (hasKind k) rs ≡ true → Among q rs → Mates r q
+mates k r q [] e t ks m = absurd m
+mates k r q (x ∷ rs) e t ks (inl w) =
+    let tp = both-true (inTurn r x) (every (inTurn r) rs) t in
+    let kp = both-true (hasKind k x) (every (hasKind k) rs) ks in
+    subst (Mates r) (sym w) (same-message r x (e ∙ sym (eqb-true (x .kind) k (kp .0))) (tp .0))
+mates k r q (x ∷ rs) e t ks (inr m) =
+    mates k r q rs e (both-true (inTurn r x) (every (inTurn r) rs) t .1) (both-true (hasKind k x) (every (hasKind k) rs) ks .1) m
+
+in-order : (k n p : ℕ) (rs : List Row) → every (hasKind k) rs ≡ true → every rowFine rs ≡ true → allInTurn rs ≡ true
+    → ((q : Row) → Among q rs → (p ≤ q .start) × (n ≡ q .bytes)) → Ordered (8 * n) p rs
+in-order k n p [] ks fs ts from = tt
+in-order k n p (r ∷ rs) ks fs ts from =
     let kp = both-true (hasKind k r) (every (hasKind k) rs) ks in
     let fp = both-true (rowFine r) (every rowFine rs) fs in
     let sp = both-true (every (inTurn r) rs) (allInTurn rs) ts in
     let w : r .kind ≡ k = eqb-true (r .kind) k (kp .0) in
-    let m = same-message q r (e ∙ sym w) (tp .0) in
-    let f = kept r (fp .0) in (
-      m .2,
-      omega (arith, m .1, f .inside),
+    let f = kept r (fp .0) in
+    let first = from r (inl refl) in
+    let mate : (q : Row) → Among q rs → Mates r q = λ q m. mates k r q rs w (sp .0) (kp .1) m in (
+      first .0,
+      omega (arith, kept-above r f, first .1),
       kept-fine r f,
-      subst (λ (x : ℕ). Ordered (8 * x) (above r) rs) (sym (m .1)) (order k r rs w (sp .0) (kp .1) (fp .1) (sp .1)),
+      in-order k n (suc (r .start)) rs (kp .1) (fp .1) (sp .1) (λ q m. (mate q m .rising, first .1 ∙ mate q m .agree .2)),
+      λ q m. mate q m .apart,
     )
 
 ordered-list : (k : ℕ) (l : List Row) → every (hasKind k) l ≡ true → every rowFine l ≡ true → allInTurn l ≡ true
     → Ordered (8 * headRow l .bytes) 0 l × (headRow l .bytes ≤ 8)
 ordered-list k [] ks fs ts = (tt, zero-le)
-ordered-list k (q ∷ rs) ks fs ts =
-    let kp = both-true (hasKind k q) (every (hasKind k) rs) ks in
-    let fp = both-true (rowFine q) (every rowFine rs) fs in
-    let sp = both-true (every (inTurn q) rs) (allInTurn rs) ts in
-    let f = kept q (fp .0) in
-    ((zero-le, f .inside, kept-fine q f, order k q rs (eqb-true (q .kind) k (kp .0)) (sp .0) (kp .1) (fp .1) (sp .1)), f .short)
+ordered-list k (r ∷ rs) ks fs ts =
+    let kp = both-true (hasKind k r) (every (hasKind k) rs) ks in
+    let fp = both-true (rowFine r) (every rowFine rs) fs in
+    let sp = both-true (every (inTurn r) rs) (allInTurn rs) ts in
+    (in-order k (r .bytes) 0 (r ∷ rs) ks fs ts (λ q m. (zero-le, whole q m)), kept r (fp .0) .short)
+  where
+    whole : (q : Row) → Among q (r ∷ rs) → r .bytes ≡ q .bytes
+    whole q (inl e) = ap (λ (x : Row). x .bytes) (sym e)
+    whole q (inr m) =
+        let kp = both-true (hasKind k r) (every (hasKind k) rs) ks in
+        let sp = both-true (every (inTurn r) rs) (allInTurn rs) ts in
+        mates k r q rs (eqb-true (r .kind) k (kp .0)) (sp .0) (kp .1) m .agree .2
 
--- the rows of a kind are in order, apart and inside the message's bits
+-- the rows of a kind are in the order of their starts, apart and inside the message's bits
 pub ordered : (k : ℕ) → Ordered (8 * lengthOf k) 0 (rowsOf k)
 unfolding lengthOf
 ordered k =
@@ -278,190 +388,7 @@ few k = go (seen hasRoom k rows (table-parts .3))
     go (inr s) =
         subst (λ (x : ℕ). length (rowsOf x) ≤ signalCount) (s .1) (leb-true (length (rowsOf (s .0 .kind))) signalCount (s .2))
 
--- ---- the first row that passes a test
-
--- place d of l, counted from i, is the first: it passes, and no place before it
-pub record First (p : Row → Bool) (i : ℕ) (l : List Row) (j : ℕ) : Type 0 where
-  pub off : ℕ
-  pub place : j ≡ i + off
-  pub within : off < length l
-  pub passes : p (getD l off noRow) ≡ true
-  pub before : (m : ℕ) → m < off → p (getD l m noRow) ≡ false
-
-pub first-is : (p : Row → Bool) (i j : ℕ) (l : List Row) → firstAt p i l ≡ At j → First p i l j
-unfolding firstAt
-first-is p i j [] e = absurd (let z : _≡_ {A = ℕ} 0 1 = cc in omega arith)
-first-is p i j (r ∷ rs) e = go (p r) refl e (λ q. first-is p (suc i) j rs q)
-  where
-    go : (b : Bool) → p r ≡ b → cond b (At i) (firstAt p (suc i) rs) ≡ At j → (firstAt p (suc i) rs ≡ At j → First p (suc i) rs j) → First p i (r ∷ rs) j
-    go true t e f =
-        let q : i ≡ j = cc in
-        record { off = 0; place = omega arith; within = omega arith; passes = t; before = λ m h. absurd (not-suc-le-zero h) }
-    go false t e f =
-        let c = f e in
-        record {
-          off = suc (c .off);
-          place = omega (arith, c .place);
-          within = omega (arith, c .within);
-          passes = c .passes;
-          before = elim [ zero ↦ λ h. t | suc m ↦ λ h. c .before m (le-of-suc-le-suc h) ];
-        }
-
-pub is-first : (p : Row → Bool) (i d : ℕ) (l : List Row) → d < length l → p (getD l d noRow) ≡ true → ((m : ℕ) → m < d → p (getD l m noRow) ≡ false)
-    → firstAt p i l ≡ At (i + d)
-unfolding firstAt
-is-first p i d [] h t b = absurd (not-suc-le-zero h)
-is-first p i zero (r ∷ rs) h t b = rw t (ap At (sym (add-zero i)))
-is-first p i (suc d) (r ∷ rs) h t b =
-    rw (b 0 (omega arith))
-    (is-first p (suc i) d rs (le-of-suc-le-suc h) t (λ m l. b (suc m) (omega arith)) ∙ ap At (suc-add i d ∙ sym (add-suc i d)))
-
-pub found-in : (p : Row → Bool) (i : ℕ) → firstAt p 0 rows ≡ At i → (i < rowCount) × (p (getD rows i noRow) ≡ true)
-found-in p i e =
-    let c = first-is p 0 i rows e in
-    let o : c .off ≡ i = omega (arith, c .place) in
-    (omega (arith, c .within, rows-length), subst (λ (x : ℕ). p (getD rows x noRow) ≡ true) o (c .passes))
-
--- no row passes before the first
-found-before : (p : Row → Bool) (i m : ℕ) → firstAt p 0 rows ≡ At i → m < i → p (getD rows m noRow) ≡ false
-found-before p i m e h =
-    let c = first-is p 0 i rows e in
-    c .before m (omega (arith, c .place))
-
--- where two tests pass first
-found-too : (p q : Row → Bool) (i : ℕ) → firstAt p 0 rows ≡ At i → q (getD rows i noRow) ≡ true
-    → ((m : ℕ) → m < i → p (getD rows m noRow) ≡ false → q (getD rows m noRow) ≡ false) → firstAt q 0 rows ≡ At i
-found-too p q i e t f =
-    is-first q 0 i rows (rw rows-length (found-in p i e .0)) t (λ m h. f m h (found-before p i m e h)) ∙ ap At (zero-add i)
-
--- ---- where the rows of a kind stand
-
-kind-none : (k : ℕ) (l : List Row) → ((i : ℕ) → i < length l → getD l i noRow .kind ≡ k → ⊥) → ofKind k l ≡ []
-unfolding ofKind
-kind-none k [] n = refl
-kind-none k (r ∷ rs) n = kind-out k r rs (n 0 (omega arith)) ∙ kind-none k rs (λ i h. n (suc i) (omega arith))
-
--- rows in turn, of no kind below k: those of kind k stand at the front
-together : (k : ℕ) (l : List Row) → every (λ r. leb k (r .kind)) l ≡ true → allInTurn l ≡ true → block k l ≡ ofKind k l
-unfolding ofKind block
-together k [] ge ts = refl
-together k (r ∷ rs) ge ts =
-    let gp = both-true (leb k (r .kind)) (every (λ q. leb k (q .kind)) rs) ge in
-    let sp = both-true (every (inTurn r) rs) (allInTurn rs) ts in
-    go (hasKind k r) refl (leb-true k (r .kind) (gp .0)) (every-at (inTurn r) rs (sp .0)) (together k rs (gp .1) (sp .1))
-  where
-    go : (b : Bool) → hasKind k r ≡ b → k ≤ r .kind → ((i : ℕ) → i < length rs → inTurn r (getD rs i noRow) ≡ true) → block k rs ≡ ofKind k rs
-        → cond b (r ∷ block k rs) [] ≡ keep b r (ofKind k rs)
-    go true e h t i = ap (λ (l : List Row). r ∷ l) i
-    go false e h t i =
-        let n : r .kind ≡ k → ⊥ = eqb-false (r .kind) k e in
-        sym (kind-none k rs (λ j l q. n (omega (arith, kinds-up r (getD rs j noRow) (t j l)))))
-
-pub record Block (k : ℕ) (i : ℕ) (l : List Row) (j : ℕ) : Type 0 where
-  pub off : ℕ
-  pub place : j ≡ i + off
-  pub rest : block k (drop off l) ≡ ofKind k l
-  pub head : getD l off noRow ≡ headRow (ofKind k l)
-  pub some : 1 ≤ length (ofKind k l)
-
-blocked : (k i j : ℕ) (l : List Row) → allInTurn l ≡ true → firstAt (hasKind k) i l ≡ At j → Block k i l j
-unfolding firstAt block ofKind
-blocked k i j [] ts e = absurd (let z : _≡_ {A = ℕ} 0 1 = cc in omega arith)
-blocked k i j (r ∷ rs) ts e =
-    let sp = both-true (every (inTurn r) rs) (allInTurn rs) ts in
-    go (hasKind k r) refl e (sp .0) (sp .1) (λ q. blocked k (suc i) j rs (sp .1) q)
-  where
-    go : (b : Bool) → hasKind k r ≡ b → cond b (At i) (firstAt (hasKind k) (suc i) rs) ≡ At j → every (inTurn r) rs ≡ true → allInTurn rs ≡ true
-        → (firstAt (hasKind k) (suc i) rs ≡ At j → Block k (suc i) rs j) → Block k i (r ∷ rs) j
-    go true t e ts us f =
-        let q : i ≡ j = cc in
-        let w : r .kind ≡ k = eqb-true (r .kind) k t in
-        let g : every (λ x. leb k (x .kind)) rs ≡ true
-        = every-so (inTurn r) (λ x. leb k (x .kind)) (λ x u. le-leb k (x .kind) (omega (arith, kinds-up r x u))) rs ts in
-        record {
-          off = 0;
-          place = omega arith;
-          rest = rw t (ap (λ (l : List Row). r ∷ l) (together k rs g us));
-          head = rw t;
-          some = rw t (omega arith);
-        }
-    go false t e ts us f =
-        let c = f e in
-        record { off = suc (c .off); place = omega (arith, c .place); rest = rw t (c .rest); head = rw t (c .head); some = rw t (c .some) }
-
-pub first-kind : (k i : ℕ) → firstAt (hasKind k) 0 rows ≡ At i
-    → (i < rowCount) × (block k (drop i rows) ≡ rowsOf k) × (getD rows i noRow ≡ headRow (rowsOf k)) × (1 ≤ length (rowsOf k))
-first-kind k i e =
-    let c = blocked k 0 i rows (table-parts .2) e in
-    let o : c .off ≡ i = omega (arith, c .place) in (
-      found-in (hasKind k) i e .0,
-      subst (λ (x : ℕ). block k (drop x rows) ≡ rowsOf k) o (c .rest),
-      subst (λ (x : ℕ). getD rows x noRow ≡ headRow (rowsOf k)) o (c .head),
-      c .some,
-    )
-
-none-in : (k i : ℕ) (l : List Row) → firstAt (hasKind k) i l ≡ Nothing → ofKind k l ≡ []
-unfolding firstAt ofKind
-none-in k i [] e = refl
-none-in k i (r ∷ rs) e = go (hasKind k r) e (λ q. none-in k (suc i) rs q)
-  where
-    go : (b : Bool) → cond b (At i) (firstAt (hasKind k) (suc i) rs) ≡ Nothing → (firstAt (hasKind k) (suc i) rs ≡ Nothing → ofKind k rs ≡ [])
-        → keep b r (ofKind k rs) ≡ []
-    go true e f = absurd (let z : _≡_ {A = ℕ} 0 1 = cc in omega arith)
-    go false e f = f e
-
-pub none-kind : (k : ℕ) → firstAt (hasKind k) 0 rows ≡ Nothing → rowsOf k ≡ []
-none-kind k e = none-in k 0 rows e
-
--- ---- identifiers
-
--- the first row with an identifier is the first row of its kind
-pub id-kind : (m i : ℕ) → firstAt (hasId m) 0 rows ≡ At i → firstAt (hasKind (getD rows i noRow .kind)) 0 rows ≡ At i
-id-kind m i e =
-    let r = getD rows i noRow in
-    let f = found-in (hasId m) i e in
-    let w : r .id ≡ m = eqb-true (r .id) m (f .1) in
-    found-too (hasId m) (hasKind (r .kind)) i e (eq-eqb (r .kind) (r .kind) refl)
-    (λ j h n. let q = getD rows j noRow in
-    ne-eqb (q .kind) (r .kind)
-    (λ s. eqb-false (q .id) m n (same-message q r s (turn-at rows (table-parts .2) j i h (rw rows-length (f .0))) .0 ∙ w)))
-
-pub first-id : (m i : ℕ) → firstAt (hasId m) 0 rows ≡ At i
-    → (i < rowCount) × (getD rows i noRow .id ≡ m) × (block (getD rows i noRow .kind) (drop i rows) ≡ rowsOf (getD rows i noRow .kind))
-    × (headRow (rowsOf (getD rows i noRow .kind)) ≡ getD rows i noRow)
-first-id m i e =
-    let r = getD rows i noRow in
-    let c = first-kind (r .kind) i (id-kind m i e) in
-    (c .0, eqb-true (r .id) m (found-in (hasId m) i e .1), c .1, sym (c .2))
-
--- the first row of a kind is the first with its identifier
-pub known : (k : ℕ) → 1 ≤ length (rowsOf k)
-    → (i : ℕ) × (firstAt (hasId (identifierOf k)) 0 rows ≡ At i) × (getD rows i noRow .kind ≡ k) × (getD rows i noRow .bytes ≡ lengthOf k)
-unfolding identifierOf lengthOf
-known k h = go (firstAt (hasKind k) 0 rows) refl
-  where
-    go : (f : Found) → firstAt (hasKind k) 0 rows ≡ f
-        → (i : ℕ) × (firstAt (hasId (headRow (rowsOf k) .id)) 0 rows ≡ At i) × (getD rows i noRow .kind ≡ k) × (getD rows i noRow .bytes ≡ headRow (rowsOf k) .bytes)
-    go Nothing e = absurd (omega (arith, h, ap length (none-kind k e)))
-    go (At i) e =
-        let r = getD rows i noRow in
-        let c = first-kind k i e in
-        let w : r .kind ≡ k = eqb-true (r .kind) k (found-in (hasKind k) i e .1) in
-        let d : r .id ≡ headRow (rowsOf k) .id = ap (λ (x : Row). x .id) (c .2) in (
-          i,
-          found-too (hasKind k) (hasId (headRow (rowsOf k) .id)) i e (eq-eqb (r .id) (headRow (rowsOf k) .id) d)
-              (λ j l n. let q = getD rows j noRow in
-              ne-eqb (q .id) (headRow (rowsOf k) .id)
-              (λ s. other-message q r (λ t. eqb-false (q .kind) k n (t ∙ w)) (turn-at rows (table-parts .2) j i l (rw rows-length (c .0))) .1 (s ∙ sym d))),
-          w,
-          ap (λ (x : Row). x .bytes) (c .2),
-        )
-
 -- ---- two rows of one kind
-
-abbrev pub Among : Row → List Row → Type 0
-Among r [] = ⊥
-Among r (q ∷ rs) = (r ≡ q) ⊎ Among r rs
 
 among-of : (k : ℕ) (l : List Row) (i : ℕ) → i < length l → getD l i noRow .kind ≡ k → Among (getD l i noRow) (ofKind k l)
 among-of k [] i h e = absurd (not-suc-le-zero h)
@@ -476,39 +403,39 @@ among-of k (r ∷ rs) (suc i) h e = go (kind-is k r) (among-of k rs i (le-of-suc
 pub row-among : (k i : ℕ) → i < rowCount → getD rows i noRow .kind ≡ k → Among (getD rows i noRow) (rowsOf k)
 row-among k i h e = among-of k rows i (rw rows-length h) e
 
-among-from : (n p : ℕ) (q : Row) (rs : List Row) → Ordered n p rs → Among q rs → p ≤ lowest q
-among-from n p q [] o m = absurd m
-among-from n p q (r ∷ rs) o (inl e) = omega (arith, o .0, ap lowest e)
-among-from n p q (r ∷ rs) o (inr m) = omega (arith, o .0, among-from n (above r) q rs (o .3) m)
+pub apart-sym : (s w s′ w′ : ℕ) → Apart s w s′ w′ → Apart s′ w′ s w
+apart-sym s w s′ w′ (inl h) = inr h
+apart-sym s w s′ w′ (inr h) = inl h
 
 -- rows in order are one, or share no bit
-pub among-apart : (n p : ℕ) (r q : Row) (rs : List Row) → Ordered n p rs → Among r rs → Among q rs
-    → (q ≡ r) ⊎ Apart (lowest r) (r .width) (lowest q) (q .width)
+pub among-apart : (n p : ℕ) (r q : Row) (rs : List Row) → Ordered n p rs → Among r rs → Among q rs → (q ≡ r) ⊎ RowsApart r q
 among-apart n p r q [] o a b = absurd a
 among-apart n p r q (x ∷ rs) o (inl e) (inl f) = inl (f ∙ sym e)
-among-apart n p r q (x ∷ rs) o (inl e) (inr b) =
-    inr (inr (omega (arith, among-from n (above x) q rs (o .3) b, ap above e)))
+among-apart n p r q (x ∷ rs) o (inl e) (inr b) = inr (subst (λ (y : Row). RowsApart y q) (sym e) (o .4 q b))
 among-apart n p r q (x ∷ rs) o (inr a) (inl f) =
-    inr (inl (omega (arith, among-from n (above x) r rs (o .3) a, ap above f)))
-among-apart n p r q (x ∷ rs) o (inr a) (inr b) = among-apart n (above x) r q rs (o .3) a b
+    inr (apart-sym (lowest q) (q .width) (lowest r) (r .width) (subst (λ (y : Row). RowsApart y r) (sym f) (o .4 r a)))
+among-apart n p r q (x ∷ rs) o (inr a) (inr b) = among-apart n (suc (x .start)) r q rs (o .3) a b
 
--- the rows of a kind have the identifier and the length of the first
-same-head : (r q : Row) (l : List Row) → every (inTurn r) l ≡ true → r .kind ≡ q .kind → Among q l → (q .id ≡ r .id) × (q .bytes ≡ r .bytes)
-same-head r q [] t w m = absurd m
-same-head r q (x ∷ l) t w (inl e) =
-    let s = same-message r x (w ∙ ap (λ (y : Row). y .kind) e) (both-true (inTurn r x) (every (inTurn r) l) t .0) in
-    (ap (λ (y : Row). y .id) e ∙ sym (s .0), ap (λ (y : Row). y .bytes) e ∙ sym (s .1))
-same-head r q (x ∷ l) t w (inr m) = same-head r q l (both-true (inTurn r x) (every (inTurn r) l) t .1) w m
+-- the rows of a kind say of the message what the first says
+head-says : (k : ℕ) (q : Row) (l : List Row) → every (hasKind k) l ≡ true → allInTurn l ≡ true → Among q l → Agree (headRow l) q
+head-says k q [] ks ts m = absurd m
+head-says k q (r ∷ l) ks ts (inl e) = subst (Agree r) (sym e) (refl, refl, refl, refl)
+head-says k q (r ∷ l) ks ts (inr m) =
+    let kp = both-true (hasKind k r) (every (hasKind k) l) ks in
+    mates k r q l (eqb-true (r .kind) k (kp .0)) (both-true (every (inTurn r) l) (allInTurn l) ts .0) (kp .1) m .agree
 
-head-says : (k : ℕ) (q : Row) (l : List Row) → every (hasKind k) l ≡ true → allInTurn l ≡ true → q .kind ≡ k → Among q l
-    → (q .id ≡ headRow l .id) × (q .bytes ≡ headRow l .bytes)
-head-says k q [] ks ts w m = absurd m
-head-says k q (r ∷ l) ks ts w (inl e) = (ap (λ (y : Row). y .id) e, ap (λ (y : Row). y .bytes) e)
-head-says k q (r ∷ l) ks ts w (inr m) =
-    same-head r q l (both-true (every (inTurn r) l) (allInTurn l) ts .0)
-    (eqb-true (r .kind) k (both-true (hasKind k r) (every (hasKind k) l) ks .0) ∙ sym w) m
+every-among : (f : Row → Bool) (q : Row) (l : List Row) → every f l ≡ true → Among q l → f q ≡ true
+every-among f q [] t m = absurd m
+every-among f q (r ∷ l) t (inl e) = ap f e ∙ both-true (f r) (every f l) t .0
+every-among f q (r ∷ l) t (inr m) = every-among f q l (both-true (f r) (every f l) t .1) m
 
-pub row-message : (k i : ℕ) → i < rowCount → getD rows i noRow .kind ≡ k → (getD rows i noRow .id ≡ identifierOf k) × (getD rows i noRow .bytes ≡ lengthOf k)
-unfolding identifierOf lengthOf
-row-message k i h w =
-    head-says k (getD rows i noRow) (rowsOf k) (kinds-of k rows) (turns-of k rows (table-parts .2)) w (row-among k i h w)
+-- a row of a kind keeps to the rules, and says of the message what the kind says
+pub among-kept : (k : ℕ) (q : Row) → Among q (rowsOf k) → Kept q
+among-kept k q m = kept q (every-among rowFine q (rowsOf k) (every-of rowFine k rows (table-parts .1)) m)
+
+pub row-message : (k : ℕ) (q : Row) → Among q (rowsOf k)
+    → (q .id ≡ identifierOf k) × (q .extended ≡ extendedOf k) × (q .bytes ≡ lengthOf k) × (q .big ≡ bigOf k)
+unfolding identifierOf extendedOf lengthOf bigOf
+row-message k q m =
+    let a = head-says k q (rowsOf k) (kinds-of k rows) (turns-of k rows (table-parts .2)) m in
+    (sym (a .0), sym (a .1), sym (a .2), sym (a .3))

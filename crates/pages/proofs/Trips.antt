@@ -3,57 +3,58 @@
 -- Assumes nothing.
 use mathlib.Core.Path.{_≡_, refl, sym, ap, ap₂, _∙_, subst}
 use mathlib.Core.Bool.{Bool, true, false, cond, not, _&&_, _||_}
-use mathlib.Core.Logic.{inl}
+use mathlib.Core.Logic.{inl, inr}
 use mathlib.Core.List.{List, [], _∷_}
 use Prim.Native.Nat.{ℕ, zero, suc, _+_, _-_, _*_, _^_, _<_, _≤_, zero-le}
-use native.Mathlib.Nat.{not-suc-le-zero, le-of-suc-le-suc, le-refl}
+use native.Mathlib.Nat.{not-suc-le-zero, le-of-suc-le-suc}
 use native.Mathlib.Omega.{arith}
-use lib.Dec.{leb, ltb}
+use lib.Dec.{leb}
 use lib.IntN.{ℤ, pos}
 use lib.ListN.{length, getD, take}
 use lib.Pow.{pow-pos}
-use borrow.Author.Tests.{eq-eqb, le-leb, leb-true, ltb-true, not-false}
+use borrow.Author.Tests.{eq-eqb, le-leb, leb-true, not-false}
 use Rattle.signal.specs.Signal.{getBits, putBits, covers}
 use Rattle.signal.specs.Payload.{numberOf, bytesOf, Bytes}
 use Rattle.signal.specs.Raw.{fitsIn, bitsIn, valueIn}
-use Rattle.signal.proofs.Laws.{get-lt, get-get, get-zero, get-put, get-put-apart, bit-put, bit-kept, put-lt, same-bits}
+use Rattle.signal.proofs.Laws.{get-lt, get-get, get-zero, get-put, get-put-apart, bit-put, bit-kept, put-lt, same-bits, Apart}
 use Rattle.signal.proofs.RawLaws.{value-bits, bits-value, value-fits, bits-lt}
-use Rattle.signal.proofs.Bytes.{number-lt, length-bytes, number-bytes, bytes-number}
+use Rattle.signal.proofs.Orders.{number-bound, length-of, number-of, bytes-of}
 use Rattle.pages.specs.declared.Row.{Row}
 use Rattle.pages.specs.declared.Judged.the-variants.{Frame}
-use Rattle.pages.specs.Table.{rows, noRow, rowsOf, headRow, identifierOf, lengthOf, lowest, bitsAt, Fine, covered, takes}
+use Rattle.pages.specs.Table.{rows, noRow, rowsOf, headRow, identifierOf, extendedOf, lengthOf, bigOf, lowest, bitsAt, Fine, covered, takes}
 use Rattle.pages.specs.Judge.{unlabelled, strayBelow, judgedNumber, judgeOf}
 use Rattle.pages.specs.Raws.{signalCount, wholeAt, wholesOf, pad, rawsOf, rowTakes, allTake, putRaw, packedOn, canWrite}
-use Rattle.pages.specs.Rules.{above}
-use Rattle.pages.proofs.Rules.{both-true, Ordered, ordered, few, id-kind, first-kind, first-id, known}
+use Rattle.pages.proofs.Rules.{both-true, either-false, Ordered, ordered, Among, apart-sym, few}
+use Rattle.pages.proofs.Firsts.{id-kind, first-kind, first-id, known}
+use Rattle.pages.proofs.PageBits.{covers-in}
 use Rattle.pages.proofs.Gaps.{reached-frame, taken, stray-none, stray-zero}
 
 -- ---- an accepted frame
 
--- what an accepted frame passed: it is extended, has the identifier and length of its kind, a label where there are labels, and no stray bit
+-- what an accepted frame passed: it has the identifier, its form and the length of its kind, a label where there are labels, and no stray bit
 pub record Taken (m : ℕ) (extended : Bool) (bs : List ℕ) (k n : ℕ) : Type 0 where
-  pub isExtended : extended ≡ true
   pub identifier : identifierOf k ≡ m
+  pub form : extendedOf k ≡ extended
   pub sized : length bs ≡ lengthOf k
-  pub number : n ≡ numberOf bs
+  pub number : n ≡ numberOf (bigOf k) bs
   pub some : 1 ≤ length (rowsOf k)
   pub labelled : unlabelled n (rowsOf k) ≡ false
   pub clean : strayBelow (8 * length bs) n (rowsOf k) ≡ false
 
 pub accepted : (m : ℕ) (extended : Bool) (bs : List ℕ) (k n : ℕ) → judgeOf m extended bs ≡ Frame k n → Taken m extended bs k n
-unfolding identifierOf lengthOf
+unfolding identifierOf extendedOf lengthOf bigOf
 accepted m extended bs k n e =
     let c = reached-frame m extended bs k n e in
     let r = getD rows (c .place) noRow in
-    let t = taken (r .kind) (8 * length bs) (numberOf bs) k n (c .judged) in
-    let f = first-id m (c .place) (c .found) in
+    let t = taken (r .kind) (8 * length bs) (numberOf (r .big) bs) k n (c .judged) in
+    let f = first-id m extended (c .place) (c .found) in
     let h : headRow (rowsOf k) ≡ r = ap (λ (x : ℕ). headRow (rowsOf x)) (sym (t .0)) ∙ f .3 in
     record {
-      isExtended = c .isExtended;
       identifier = ap (λ (x : Row). x .id) h ∙ f .1;
+      form = ap (λ (x : Row). x .extended) h ∙ f .4;
       sized = c .sized ∙ sym (ap (λ (x : Row). x .bytes) h);
-      number = sym (t .1);
-      some = subst (λ (x : ℕ). 1 ≤ length (rowsOf x)) (t .0) (first-kind (r .kind) (c .place) (id-kind m (c .place) (c .found)) .3);
+      number = sym (t .1) ∙ ap (λ (x : Row). numberOf (x .big) bs) (sym h);
+      some = subst (λ (x : ℕ). 1 ≤ length (rowsOf x)) (t .0) (first-kind (r .kind) (c .place) (id-kind m extended (c .place) (c .found)) .3);
       labelled = ap₂ (λ (x y : ℕ). unlabelled x (rowsOf y)) (sym (t .1)) (sym (t .0)) ∙ t .2;
       clean = ap₂ (λ (x y : ℕ). strayBelow (8 * length bs) x (rowsOf y)) (sym (t .1)) (sym (t .0)) ∙ t .3;
     }
@@ -63,7 +64,7 @@ pub accepts : (m : ℕ) (extended : Bool) (bs : List ℕ) (k n : ℕ) → Taken 
 unfolding judgeOf judgedNumber
 accepts m extended bs k n t =
     let c = known k (t .some) in
-    rw (t .isExtended, ← t .identifier, c .1, c .3, eq-eqb (length bs) (lengthOf k) (t .sized), c .2, ← t .number, t .labelled, t .clean)
+    rw (← t .identifier, ← t .form, c .1, c .3, eq-eqb (length bs) (lengthOf k) (t .sized), c .2, c .4, ← t .number, t .labelled, t .clean)
 
 -- ---- numbers put in their signals' places
 
@@ -100,24 +101,19 @@ packed-on-lt k p n [] zs o e h = h
 packed-on-lt k p n (r ∷ rs) [] o e h = h
 packed-on-lt k p n (r ∷ rs) (z ∷ zs) o e h =
     let t = all-take r rs z zs e in
-    packed-on-lt k (above r) (putRaw r n z) rs zs (o .3) (t .2)
+    packed-on-lt k (suc (r .start)) (putRaw r n z) rs zs (o .3) (t .2)
     (put-lt n (lowest r) (r .width) (bitsIn (r .signed) (r .width) z) k h (bits-lt (r .signed) (r .width) (o .2 .0) z (t .0)) (o .1))
 
--- what lies below the rows stays
-pub packed-below : (k p n : ℕ) (rs : List Row) (zs : List ℤ) (s w : ℕ) → Ordered k p rs → allTake rs zs ≡ true → s + w ≤ p
-    → getBits (packedOn n rs zs) s w ≡ getBits n s w
+-- what lies apart from the rows stays
+pub packed-apart : (k p n : ℕ) (rs : List Row) (zs : List ℤ) (s w : ℕ) → Ordered k p rs → allTake rs zs ≡ true
+    → ((q : Row) → Among q rs → Apart (lowest q) (q .width) s w) → getBits (packedOn n rs zs) s w ≡ getBits n s w
 unfolding packedOn
-packed-below k p n [] zs s w o e h = refl
-packed-below k p n (r ∷ rs) [] s w o e h = refl
-packed-below k p n (r ∷ rs) (z ∷ zs) s w o e h =
+packed-apart k p n [] zs s w o e h = refl
+packed-apart k p n (r ∷ rs) [] s w o e h = refl
+packed-apart k p n (r ∷ rs) (z ∷ zs) s w o e h =
     let t = all-take r rs z zs e in
-    packed-below k (above r) (putRaw r n z) rs zs s w (o .3) (t .2) (omega (arith, o .0))
-    ∙ get-put-apart n (lowest r) (r .width) (bitsIn (r .signed) (r .width) z) s w
-    (bits-lt (r .signed) (r .width) (o .2 .0) z (t .0)) (inl (omega (arith, o .0)))
-
-pub either-false : (a b : Bool) → a || b ≡ false → (a ≡ false) × (b ≡ false)
-either-false true b e = absurd (let z : _≡_ {A = ℕ} 0 1 = cc in omega arith)
-either-false false b e = (refl, e)
+    packed-apart k (suc (r .start)) (putRaw r n z) rs zs s w (o .3) (t .2) (λ q m. h q (inr m))
+    ∙ get-put-apart n (lowest r) (r .width) (bitsIn (r .signed) (r .width) z) s w (bits-lt (r .signed) (r .width) (o .2 .0) z (t .0)) (h r (inl refl))
 
 -- a bit that no row covers stays
 pub packed-kept : (k p n : ℕ) (rs : List Row) (zs : List ℤ) (i : ℕ) → Ordered k p rs → allTake rs zs ≡ true → covered rs i ≡ false
@@ -128,7 +124,7 @@ packed-kept k p n (r ∷ rs) [] i o e u = refl
 packed-kept k p n (r ∷ rs) (z ∷ zs) i o e u =
     let t = all-take r rs z zs e in
     let v = either-false (covers (lowest r) (r .width) i) (covered rs i) u in
-    packed-kept k (above r) (putRaw r n z) rs zs i (o .3) (t .2) (v .1)
+    packed-kept k (suc (r .start)) (putRaw r n z) rs zs i (o .3) (t .2) (v .1)
     ∙ bit-kept n (lowest r) (r .width) (bitsIn (r .signed) (r .width) z) i (bits-lt (r .signed) (r .width) (o .2 .0) z (t .0)) (v .0)
 
 -- each row reads what was put there
@@ -136,7 +132,9 @@ pub packed-bits : (k p n : ℕ) (r : Row) (rs : List Row) (z : ℤ) (zs : List �
     → bitsAt (packedOn (putRaw r n z) rs zs) r ≡ bitsIn (r .signed) (r .width) z
 packed-bits k p n r rs z zs o e =
     let t = all-take r rs z zs e in
-    packed-below k (above r) (putRaw r n z) rs zs (lowest r) (r .width) (o .3) (t .2) (le-refl (above r)) ∙ bits-put r n z (o .2) (t .0)
+    packed-apart k (suc (r .start)) (putRaw r n z) rs zs (lowest r) (r .width) (o .3) (t .2)
+    (λ q m. apart-sym (lowest r) (r .width) (lowest q) (q .width) (o .4 q m))
+    ∙ bits-put r n z (o .2) (t .0)
 
 pub packed-wholes : (k p n : ℕ) (rs : List Row) (zs : List ℤ) → Ordered k p rs → allTake rs zs ≡ true
     → wholesOf (packedOn n rs zs) rs ≡ take (length rs) zs
@@ -147,7 +145,7 @@ packed-wholes k p n (r ∷ rs) (z ∷ zs) o e =
     let t = all-take r rs z zs e in
     ap₂ (λ (x : ℤ) (l : List ℤ). x ∷ l)
     (ap (valueIn (r .signed) (r .width)) (packed-bits k p n r rs z zs o e) ∙ value-bits (r .signed) (r .width) (o .2 .0) z (t .0))
-    (packed-wholes k (above r) (putRaw r n z) rs zs (o .3) (t .2))
+    (packed-wholes k (suc (r .start)) (putRaw r n z) rs zs (o .3) (t .2))
 
 pub packed-labels : (k p n : ℕ) (rs : List Row) (zs : List ℤ) → Ordered k p rs → allTake rs zs ≡ true → unlabelled (packedOn n rs zs) rs ≡ false
 unfolding packedOn unlabelled
@@ -156,7 +154,7 @@ packed-labels k p n (r ∷ rs) [] o e = absurd (none-take r rs e)
 packed-labels k p n (r ∷ rs) (z ∷ zs) o e =
     let t = all-take r rs z zs e in
     let l : takes (r .labels) (bitsAt (packedOn (putRaw r n z) rs zs) r) ≡ true = ap (takes (r .labels)) (packed-bits k p n r rs z zs o e) ∙ t .1 in
-    ap (λ (b : Bool). not b || unlabelled (packedOn (putRaw r n z) rs zs) rs) l ∙ packed-labels k (above r) (putRaw r n z) rs zs (o .3) (t .2)
+    ap (λ (b : Bool). not b || unlabelled (packedOn (putRaw r n z) rs zs) rs) l ∙ packed-labels k (suc (r .start)) (putRaw r n z) rs zs (o .3) (t .2)
 
 -- ---- a frame's own numbers
 
@@ -175,12 +173,7 @@ wholes-take k p n (r ∷ rs) o u =
     let t : rowTakes r (wholeAt n r) ≡ true
     = ap₂ (λ (x y : Bool). x && y) (value-fits (r .signed) (r .width) (o .2 .0) (bitsAt n r) b)
     (ap (takes (r .labels)) (bits-value (r .signed) (r .width) (o .2 .0) (bitsAt n r) b) ∙ not-false (takes (r .labels) (bitsAt n r)) (v .0)) in
-    ap₂ (λ (x y : Bool). x && y) t (wholes-take k (above r) n rs (o .3) (v .1))
-
-covers-in : (s w i : ℕ) → covers s w i ≡ true → (s ≤ i) × (i < s + w)
-covers-in s w i e =
-    let p = both-true (leb s i) (ltb i (s + w)) e in
-    (leb-true s i (p .0), ltb-true i (s + w) (p .1))
+    ap₂ (λ (x y : Bool). x && y) t (wholes-take k (suc (r .start)) n rs (o .3) (v .1))
 
 -- n's own signals, put into a number x: n's bits where a row covers, and x's elsewhere
 pub wholes-bit : (k p x n : ℕ) (rs : List Row) (i : ℕ) → Ordered k p rs
@@ -188,7 +181,7 @@ pub wholes-bit : (k p x n : ℕ) (rs : List Row) (i : ℕ) → Ordered k p rs
 unfolding packedOn wholesOf covered
 wholes-bit k p x n [] i o = refl
 wholes-bit k p x n (r ∷ rs) i o =
-    wholes-bit k (above r) (putRaw r x (wholeAt n r)) n rs i (o .3)
+    wholes-bit k (suc (r .start)) (putRaw r x (wholeAt n r)) n rs i (o .3)
     ∙ ap (λ (y : ℕ). cond (covered rs i) (getBits n i 1) y)
     (ap (λ (v : ℕ). getBits (putBits x (lowest r) (r .width) v) i 1)
     (bits-value (r .signed) (r .width) (o .2 .0) (bitsAt n r) (get-lt n (lowest r) (r .width)))
@@ -271,7 +264,7 @@ packed-lt k zs e = packed-on-lt (8 * lengthOf k) 0 0 (rowsOf k) zs (ordered k) (
 pub record Back (k n : ℕ) (bs : List ℕ) : Type 0 where
   pub writes : canWrite k (rawsOf k n) ≡ true
   pub number : packedOn 0 (rowsOf k) (rawsOf k n) ≡ n
-  pub bytes : bytesOf (lengthOf k) n ≡ bs
+  pub bytes : bytesOf (bigOf k) (lengthOf k) n ≡ bs
 
 pub raws-back : (m : ℕ) (extended : Bool) (bs : List ℕ) (k n : ℕ) → judgeOf m extended bs ≡ Frame k n → Bytes bs → Back k n bs
 unfolding rawsOf
@@ -282,18 +275,18 @@ raws-back m extended bs k n e hb = go (accepted m extended bs k n e)
         let rs = rowsOf k in
         let zs = wholesOf n rs in
         let l : length rs ≤ length zs = omega (arith, wholes-length n rs) in
-        let h : n < 2 ^ (8 * lengthOf k) = rw (t .number, ← t .sized) (number-lt bs hb) in
+        let h : n < 2 ^ (8 * lengthOf k) = rw (t .number, ← t .sized) (number-bound (bigOf k) bs hb) in
         let s : strayBelow (8 * lengthOf k) n rs ≡ false = rw (← t .sized) (t .clean) in
         record {
           writes = ap₂ (λ (x y : Bool). x && y) (le-leb 1 (length rs) (t .some))
               (all-pad signalCount rs zs (few k) l ∙ wholes-take (8 * lengthOf k) 0 n rs (ordered k) (t .labelled));
           number = packed-pad signalCount 0 rs zs (few k) l ∙ wholes-packed (8 * lengthOf k) n rs (ordered k) h (t .labelled) s;
-          bytes = ap₂ bytesOf (sym (t .sized)) (t .number) ∙ bytes-number bs hb;
+          bytes = ap₂ (bytesOf (bigOf k)) (sym (t .sized)) (t .number) ∙ bytes-of (bigOf k) bs hb;
         }
 
 -- raw numbers that can be written make a frame that is accepted, and that has them again: one for each row
 pub record There (k : ℕ) (zs : List ℤ) (n : ℕ) : Type 0 where
-  pub reads : judgeOf (identifierOf k) true (bytesOf (lengthOf k) n) ≡ Frame k n
+  pub reads : judgeOf (identifierOf k) (extendedOf k) (bytesOf (bigOf k) (lengthOf k) n) ≡ Frame k n
   pub raws : wholesOf n (rowsOf k) ≡ take (length (rowsOf k)) zs
 
 pub raws-there : (k : ℕ) (zs : List ℤ) → canWrite k zs ≡ true → There k zs (packedOn 0 (rowsOf k) zs)
@@ -304,16 +297,17 @@ raws-there k zs e = go (packedOn 0 (rowsOf k) zs) refl (can-write k zs e)
         let rs = rowsOf k in
         let o = ordered k in
         let h : n < 2 ^ (8 * lengthOf k) = subst (λ (x : ℕ). x < 2 ^ (8 * lengthOf k)) q (packed-lt k zs e) in
-        let sz : length (bytesOf (lengthOf k) n) ≡ lengthOf k = length-bytes (lengthOf k) n in
+        let bs = bytesOf (bigOf k) (lengthOf k) n in
+        let sz : length (bytesOf (bigOf k) (lengthOf k) n) ≡ lengthOf k = length-of (bigOf k) (lengthOf k) n in
         record {
-          reads = accepts (identifierOf k) true (bytesOf (lengthOf k) n) k n (record {
-            isExtended = refl;
+          reads = accepts (identifierOf k) (extendedOf k) bs k n (record {
             identifier = refl;
+            form = refl;
             sized = sz;
-            number = sym (number-bytes (lengthOf k) n h);
+            number = sym (number-of (bigOf k) (lengthOf k) n h);
             some = w .0;
             labelled = ap (λ (x : ℕ). unlabelled x rs) (sym q) ∙ packed-labels (8 * lengthOf k) 0 0 rs zs o (w .1);
-            clean = stray-zero (8 * length (bytesOf (lengthOf k) n)) n rs
+            clean = stray-zero (8 * length bs) n rs
                 (λ i l u. ap (λ (x : ℕ). getBits x i 1) (sym q) ∙ packed-kept (8 * lengthOf k) 0 0 rs zs i o (w .1) u ∙ get-zero i 1);
           });
           raws = ap (λ (x : ℕ). wholesOf x rs) (sym q) ∙ packed-wholes (8 * lengthOf k) 0 0 rs zs o (w .1);

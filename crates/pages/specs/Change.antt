@@ -1,6 +1,6 @@
 -- What changing a signal answers, and the lent bytes afterwards.
 use Prim.Native.Nat.{ℕ}
-use mathlib.Core.Bool.{Bool, true, false, cond}
+use mathlib.Core.Bool.{Bool, cond}
 use mathlib.Core.List.{List}
 use lib.ListN.{length, getD}
 use lib.IntN.{ℤ}
@@ -12,7 +12,7 @@ use Rattle.pages.specs.declared.Found.the-variants.{At, Nothing}
 use Rattle.pages.specs.declared.Judged.{Judged}
 use Rattle.pages.specs.declared.Judged.the-variants.{Frame, Refused}
 use Rattle.pages.specs.declared.Refusal.the-variants.{NoLabel, NoRawNumber, NoSignal}
-use Rattle.pages.specs.Table.{rows, noRow, firstAt, isSignal, takes}
+use Rattle.pages.specs.Table.{rows, noRow, bigOf, firstAt, isSignal, takes}
 use Rattle.pages.specs.Judge.{judgeOf}
 use Rattle.pages.specs.Raws.{putRaw}
 
@@ -38,5 +38,5 @@ changeOf m extended bs s z = changedIn s z (judgeOf m extended bs)
 
 -- a refusal leaves the bytes as they were
 abbrev pub bytesAfter : List ℕ → Judged → List ℕ
-bytesAfter bs (Frame k n) = bytesOf (length bs) n
+bytesAfter bs (Frame k n) = bytesOf (bigOf k) (length bs) n
 bytesAfter bs (Refused w) = bs

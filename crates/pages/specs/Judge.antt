@@ -1,10 +1,10 @@
 -- What reading a frame answers: 01, "Reading gives 3 to 6", the lowest that applies.
 use Prim.Native.Nat.{ℕ, zero, suc, _*_, min}
-use mathlib.Core.Bool.{Bool, true, false, cond, not, _&&_, _||_}
+use mathlib.Core.Bool.{Bool, false, cond, not, _&&_, _||_}
 use mathlib.Core.List.{List, [], _∷_}
 use lib.Dec.{eqb, ltb}
 use lib.ListN.{length, getD}
-use Rattle.signal.specs.Signal.{getBits, putBits}
+use Rattle.signal.specs.Signal.{getBits}
 use Rattle.signal.specs.Payload.{numberOf}
 use Rattle.pages.specs.declared.Row.{Row}
 use Rattle.pages.specs.declared.Found.{Found}
@@ -13,7 +13,7 @@ use Rattle.pages.specs.declared.Judged.{Judged}
 use Rattle.pages.specs.declared.Judged.the-variants.{Frame, Refused}
 use Rattle.pages.specs.declared.Refusal.{Refusal}
 use Rattle.pages.specs.declared.Refusal.the-variants.{UnknownIdentifier, TooShort, TooLong, NoLabel, UncoveredBit}
-use Rattle.pages.specs.Table.{rows, noRow, rowsOf, firstAt, hasId, lowest, bitsAt, covered, takes}
+use Rattle.pages.specs.Table.{rows, noRow, rowsOf, firstAt, hasId, bitsAt, covered, takes}
 
 -- 5: "a label signal holds a number without a label"
 unfoldable pub unlabelled : ℕ → List Row → Bool
@@ -45,14 +45,14 @@ judgedNumber k bits n =
 abbrev pub wrongLength : Row → List ℕ → Refusal
 wrongLength r bs = cond (ltb (length bs) (r .bytes)) TooShort TooLong
 
--- 4 or 15 before them, for a message of the table
+-- 4 or 15 before them, for a message of the table; its number is read in its byte order
 abbrev pub judgedRow : Row → List ℕ → Judged
-judgedRow r bs = cond (eqb (length bs) (r .bytes)) (judgedNumber (r .kind) (8 * length bs) (numberOf bs)) (Refused (wrongLength r bs))
+judgedRow r bs = cond (eqb (length bs) (r .bytes)) (judgedNumber (r .kind) (8 * length bs) (numberOf (r .big) bs)) (Refused (wrongLength r bs))
 
 abbrev pub judgedAt : List ℕ → Found → Judged
 judgedAt bs (At i) = judgedRow (getD rows i noRow) bs
 judgedAt bs Nothing = Refused UnknownIdentifier
 
--- 3 first: "identifier not in the table, or standard"
+-- 3 first: "identifier not in the table", in this form; 02, Req 04: "Refusal 3 and E4 now read over the wider table"
 unfoldable pub judgeOf : ℕ → Bool → List ℕ → Judged
-judgeOf m extended bs = cond extended (judgedAt bs (firstAt (hasId m) 0 rows)) (Refused UnknownIdentifier)
+judgeOf m extended bs = judgedAt bs (firstAt (hasId m extended) 0 rows)

@@ -1,4 +1,7 @@
 pub mod Refusals
+pub mod Layout
+pub mod Charger
+pub mod Safety
 pub mod Table
 pub mod Judge
 pub mod Raws

@@ -1,7 +1,7 @@
 -- The raw whole numbers of a kind's signals, read from a payload number and written into one.
 use Prim.Native.Nat.{ℕ, zero, suc}
 use mathlib.Core.Bool.{Bool, true, false, cond, _&&_}
-use mathlib.Core.List.{List, [], _∷_, map}
+use mathlib.Core.List.{List, [], _∷_}
 use lib.Dec.{leb}
 use lib.ListN.{length}
 use lib.IntN.{ℤ, pos}
@@ -12,11 +12,11 @@ use Rattle.pages.specs.declared.Row.{Row}
 use Rattle.pages.specs.declared.Written.{Written}
 use Rattle.pages.specs.declared.Written.the-variants.{Wrote, Refused}
 use Rattle.pages.specs.declared.Refusal.the-variants.{NoRawNumber, ShortBuffer}
-use Rattle.pages.specs.Table.{rowsOf, identifierOf, lengthOf, lowest, bitsAt, takes}
+use Rattle.pages.specs.Table.{rowsOf, identifierOf, lengthOf, bigOf, lowest, bitsAt, takes}
 
 -- no message has more signals
 abbrev pub signalCount : ℕ
-signalCount = 8
+signalCount = 16
 
 -- ---- reading
 
@@ -69,4 +69,4 @@ writeRawsOf k zs buf =
 
 -- 01: "Writing into a longer buffer changes only the message's bytes, from index 0", and a refusal nothing
 unfoldable pub bufferAfter : ℕ → List ℤ → List ℕ → List ℕ
-bufferAfter k zs buf = cond (canWrite k zs) (storedIn (lengthOf k) (packedOn 0 (rowsOf k) zs) buf) buf
+bufferAfter k zs buf = cond (canWrite k zs) (storedIn (bigOf k) (lengthOf k) (packedOn 0 (rowsOf k) zs) buf) buf

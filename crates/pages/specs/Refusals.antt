@@ -8,7 +8,7 @@ abbrev pub numberOf : Refusal → ℕ
 numberOf ChannelFree = 1
 -- time earlier than that post's latest accepted frame or tick
 numberOf Earlier = 2
--- identifier not in the table, or standard
+-- identifier not in the table, in the frame's form
 numberOf UnknownIdentifier = 3
 -- length differs from the table's; 02, Req 02: "4 when too short, 15 when too long"
 numberOf TooShort = 4

@@ -1,6 +1,6 @@
 -- Inner steps: what the loops over a message's rows compute. The promises of Judge, Raws and Change do not speak of them.
 use Prim.Native.Nat.{ℕ}
-use mathlib.Core.Bool.{Bool, true, false, cond, not}
+use mathlib.Core.Bool.{cond}
 use mathlib.Core.List.{List, [], _∷_}
 use lib.Dec.{eqb}
 use lib.IntN.{ℤ}

@@ -4,12 +4,14 @@ ghost use mathlib.Core.Path.{_≡_};
 ghost use lib.IntN.{pos};
 ghost use lib.ListN.{getD};
 ghost use Rattle.pages.specs.Refusals.{numberOf, startOf};
-ghost use Rattle.pages.specs.Table.{rowsOf, headRow, identifierOf, lengthOf};
+ghost use Rattle.pages.specs.Table.{rowsOf, headRow, identifierOf, lengthOf, extendedOf, bigOf};
 ghost use Rattle.pages.specs.Judge.{judgeOf};
 ghost use Rattle.pages.specs.Raws.{rawsOf, writeRawsOf, bufferAfter};
 ghost use Rattle.pages.specs.Change.{changeOf, bytesAfter};
 
-mod table; // table.rt: the rows, and the searches over them
+mod charger; // charger.rt: the rows of document 000
+mod safety; // safety.rt: the rows of document 004
+mod table; // table.rt: all of them, and the searches over them
 mod signals; // signals.rt: the loops over one message's rows
 
 use signals::change_number;
@@ -42,14 +44,19 @@ pub enum Refusal {
     LogTick,
 }
 
-// 01: "a row holds message, start, width, signedness and labels or none". The message is its kind, its identifier and its length in bytes;
-// bit n of labels says that the raw number n has a label, and 0 that the signal has none.
+// 01: "a row holds message, start, width, signedness and labels or none". The message is its kind, its identifier and that identifier's form, its length
+// in bytes and its byte order (`big`: byte 0 is highest, and a start names the highest bit). `low` is the signal's lowest bit in the payload
+// number, which follows from the rest: worked out here beforehand, and held to it by the proof of `row_at`. Bit n of labels says that the raw
+// number n has a label, and 0 that the signal has none.
 pub struct Row {
     pub kind: usize,
     pub id: u32,
+    pub extended: bool,
     pub bytes: usize,
+    pub big: bool,
     pub start: u32,
     pub width: u32,
+    pub low: u32,
     pub signed: bool,
     pub labels: u64,
 }
@@ -134,9 +141,12 @@ fn head_row(kind: usize) -> Row
         return Row {
             kind: 0,
             id: 0,
+            extended: false,
             bytes: 0,
+            big: false,
             start: 0,
             width: 0,
+            low: 0,
             signed: false,
             labels: 0,
         };
@@ -144,11 +154,17 @@ fn head_row(kind: usize) -> Row
     table::row_at(i)
 }
 
-// The identifier of a kind's frames, and their length in bytes; 0 for a number that is no kind.
+// The identifier of a kind's frames and its form, their length in bytes and their byte order; 0 and false for a number that is no kind.
 pub fn identifier_of(kind: usize) -> u32
     ensures { λ r. ⌜ r ≡ identifierOf kind ⌝ }
 {
     head_row(kind).id
+}
+
+pub fn is_extended(kind: usize) -> bool
+    ensures { λ r. ⌜ r ≡ extendedOf kind ⌝ }
+{
+    head_row(kind).extended
 }
 
 pub fn length_of(kind: usize) -> usize
@@ -157,14 +173,17 @@ pub fn length_of(kind: usize) -> usize
     head_row(kind).bytes
 }
 
+pub fn is_big(kind: usize) -> bool
+    ensures { λ r. ⌜ r ≡ bigOf kind ⌝ }
+{
+    head_row(kind).big
+}
+
 // 01: "Reading gives 3 to 6", in this order; 02: "with 15 in 4's place".
 pub fn judge(id: u32, extended: bool, bytes: &[u8]) -> Judged
     ensures { λ r. ⌜ r ≡ judgeOf id extended (now (bytes .entry)) ⌝ }
 {
-    if !extended {
-        return Judged::Refused(Refusal::UnknownIdentifier);
-    }
-    let Found::At(i) = table::first_with_id(id) else {
+    let Found::At(i) = table::first_with_id(id, extended) else {
         return Judged::Refused(Refusal::UnknownIdentifier);
     };
     let r = table::row_at(i);
@@ -174,15 +193,15 @@ pub fn judge(id: u32, extended: bool, bytes: &[u8]) -> Judged
     if r.bytes < bytes.len() {
         return Judged::Refused(Refusal::TooLong);
     }
-    judge_number(i, r.kind, signal::number(bytes))
+    judge_number(i, r.kind, signal::number(r.big, bytes))
 }
 
 // The raw whole number of each of a kind's signals, in the table's order, and 0 behind them.
-pub fn raws_of(kind: usize, number: u64) -> [i64; 8]
+pub fn raws_of(kind: usize, number: u64) -> [i64; 16]
     ensures { λ r. ⌜ r ≡ rawsOf kind number ⌝ }
 {
     let Found::At(i) = table::first_of_kind(kind) else {
-        return [0; 8];
+        return [0; 16];
     };
     signals::unpack(i, kind, number)
 }
@@ -195,14 +214,14 @@ pub fn raw_of(kind: usize, place: usize, number: u64) -> i64
     let Found::At(i) = table::first_of_kind(kind) else {
         return 0;
     };
-    if 8 <= place {
+    if 16 <= place {
         return 0;
     }
     signals::raw_after(i, kind, place, number)
 }
 
 // The frame of a kind whose signals have these raw numbers: 7, then 8. Numbers behind the kind's signals are passed over.
-pub fn write_raws(kind: usize, raws: [i64; 8], buf: &mut [u8]) -> Written
+pub fn write_raws(kind: usize, raws: [i64; 16], buf: &mut [u8]) -> Written
     ensures { λ r. ⌜ (r ≡ writeRawsOf kind raws (now (buf .entry))) × (now (buf .exit) ≡ bufferAfter kind raws (now (buf .entry))) ⌝ }
 {
     let Found::At(i) = table::first_of_kind(kind) else {
@@ -215,7 +234,7 @@ pub fn write_raws(kind: usize, raws: [i64; 8], buf: &mut [u8]) -> Written
     if buf.len() < r.bytes {
         return Written::Refused(Refusal::ShortBuffer);
     }
-    signal::store(buf, n, r.bytes);
+    signal::store(r.big, buf, n, r.bytes);
     Written::Wrote(r.id, r.bytes)
 }
 
@@ -230,10 +249,10 @@ pub fn change(id: u32, extended: bool, bytes: &mut [u8], start: u32, raw: i64) -
         return read;
     };
     let changed = change_number(kind, n, start, raw);
-    let Judged::Frame(_, m) = changed else {
+    let Judged::Frame(k, m) = changed else {
         return changed;
     };
     let len = bytes.len();
-    signal::store(bytes, m, len);
+    signal::store(is_big(k), bytes, m, len);
     changed
 }

@@ -4,7 +4,7 @@ ghost use mathlib.Core.Bool.{true};
 ghost use Prim.Native.Nat.{_<_};
 ghost use lib.IntN.{pos};
 ghost use lib.ListN.{drop, getD};
-ghost use Rattle.pages.specs.Table.{rows, noRow, rowCount, Fine, block, lowest, bitsAt, takes};
+ghost use Rattle.pages.specs.Table.{rows, noRow, rowCount, Fine, block, bitsAt, takes};
 ghost use Rattle.pages.specs.Raws.{signalCount, wholeAt, wholesOf, pad, rowTakes, putRaw};
 ghost use Rattle.pages.specs.Change.{changedRow, changedAt};
 ghost use Rattle.pages.specs.Steps.{offenceOf, cleared, judgedBy, packOf, signalFound};
@@ -19,13 +19,6 @@ use crate::table::ROW_COUNT;
 use crate::table::row_at;
 use crate::table::signal_at;
 
-// 01: "A signal with start s and width w has its lowest bit at s."
-fn lowest_bit(r: Row) -> u32
-    ensures { λ b. ⌜ b ≡ lowest r ⌝ }
-{
-    r.start
-}
-
 // The start as refusal 5 carries it: no signal of 8 bytes starts above bit 63.
 fn start_bit(r: Row) -> u8
     requires { ⌜ Fine r ⌝ }
@@ -38,7 +31,7 @@ fn signal_bits(r: Row, n: u64) -> u64
     requires { ⌜ Fine r ⌝ }
     ensures { λ v. ⌜ v ≡ bitsAt n r ⌝ }
 {
-    signal::get(n, lowest_bit(r), r.width)
+    signal::get(n, r.low, r.width)
 }
 
 // Whether a signal with these labels, or with none, may hold the number.
@@ -81,7 +74,7 @@ fn sifted(at: usize, kind: usize, n: u64) -> Sifted
                 rest,
             };
         }
-        rest = signal::put(rest, lowest_bit(r), r.width, 0);
+        rest = signal::put(rest, r.low, r.width, 0);
         i += 1;
     }
 }
@@ -108,17 +101,17 @@ fn signal_whole(r: Row, n: u64) -> i64
     signal::whole(signal_bits(r, n), r.signed, r.width)
 }
 
-pub fn unpack(at: usize, kind: usize, n: u64) -> [i64; 8]
+pub fn unpack(at: usize, kind: usize, n: u64) -> [i64; 16]
     ensures { λ r. ⌜ r ≡ pad signalCount (wholesOf n (block kind (drop at rows))) ⌝ }
 {
-    let mut raws = [0i64; 8];
+    let mut raws = [0i64; 16];
     let mut j: usize = 0;
     let mut i = at;
     'rows: loop {
         if ROW_COUNT <= i {
             break 'rows raws;
         }
-        if 8 <= j {
+        if 16 <= j {
             break 'rows raws;
         }
         let r = row_at(i);
@@ -162,15 +155,10 @@ fn put_raw(r: Row, n: u64, z: i64) -> u64
     requires { ⌜ Fine r × (rowTakes r z ≡ true) ⌝ }
     ensures { λ m. ⌜ m ≡ putRaw r n z ⌝ }
 {
-    signal::put(
-        n,
-        lowest_bit(r),
-        r.width,
-        signal::bits(z, r.signed, r.width),
-    )
+    signal::put(n, r.low, r.width, signal::bits(z, r.signed, r.width))
 }
 
-pub fn pack(at: usize, kind: usize, raws: [i64; 8]) -> Packed
+pub fn pack(at: usize, kind: usize, raws: [i64; 16]) -> Packed
     ensures { λ r. ⌜ r ≡ packOf (block kind (drop at rows)) raws ⌝ }
 {
     let mut n: u64 = 0;
@@ -184,7 +172,7 @@ pub fn pack(at: usize, kind: usize, raws: [i64; 8]) -> Packed
         if r.kind != kind {
             break 'rows Packed::Number(n);
         }
-        if 8 <= j {
+        if 16 <= j {
             break 'rows Packed::Refused;
         }
         let z = raws[j];

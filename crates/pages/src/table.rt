@@ -1,444 +1,75 @@
-// The rows of the maker's pages, document 000, in the order of their identifiers and, within a message, of their starts.
+// The table: the rows of both documents, one behind the other, and the searches over them.
 ghost use mathlib.Core.Path.{_≡_};
 ghost use Prim.Native.Nat.{_<_};
 ghost use lib.ListN.{getD};
 ghost use Rattle.pages.specs.Table.{rows, noRow, rowCount, Fine, firstAt, hasId, hasKind, isSignal};
 use crate::Found;
 use crate::Row;
+use crate::charger;
+use crate::safety;
 
-pub const ROW_COUNT: usize = 30;
+pub const ROW_COUNT: usize = 61;
 
-// Power_Modules_Status
-const PRESENT_VOLTAGE: Row = Row {
-    kind: 0,
-    id: 0x63000,
-    bytes: 8,
-    start: 0,
-    width: 16,
-    signed: false,
-    labels: 0,
-};
-
-const PRESENT_CURRENT: Row = Row {
-    kind: 0,
-    id: 0x63000,
-    bytes: 8,
-    start: 16,
-    width: 16,
-    signed: true,
-    labels: 0,
-};
-
-const POWER_MODULES_TEMPERATURE: Row = Row {
-    kind: 0,
-    id: 0x63000,
-    bytes: 8,
-    start: 32,
-    width: 8,
-    signed: false,
-    labels: 0,
-};
-
-const ENCLOSURE_TEMPERATURE: Row = Row {
-    kind: 0,
-    id: 0x63000,
-    bytes: 8,
-    start: 40,
-    width: 8,
-    signed: false,
-    labels: 0,
-};
-
-const SYSTEM_ENABLE: Row = Row {
-    kind: 0,
-    id: 0x63000,
-    bytes: 8,
-    start: 48,
-    width: 8,
-    signed: false,
-    labels: 0b11,
-};
-
-const INSULATION_RESISTANCE: Row = Row {
-    kind: 0,
-    id: 0x63000,
-    bytes: 8,
-    start: 56,
-    width: 8,
-    signed: false,
-    labels: 0,
-};
-
-// DC_Power_Parameters
-const MAXIMUM_VOLTAGE: Row = Row {
-    kind: 1,
-    id: 0x63001,
-    bytes: 8,
-    start: 0,
-    width: 16,
-    signed: false,
-    labels: 0,
-};
-
-const MAXIMUM_CHARGE_CURRENT: Row = Row {
-    kind: 1,
-    id: 0x63001,
-    bytes: 8,
-    start: 16,
-    width: 16,
-    signed: false,
-    labels: 0,
-};
-
-const MAXIMUM_DISCHARGE_CURRENT: Row = Row {
-    kind: 1,
-    id: 0x63001,
-    bytes: 8,
-    start: 32,
-    width: 16,
-    signed: false,
-    labels: 0,
-};
-
-const RANGE_TARGET_CURRENT: Row = Row {
-    kind: 1,
-    id: 0x63001,
-    bytes: 8,
-    start: 48,
-    width: 16,
-    signed: true,
-    labels: 0,
-};
-
-// Advantics_Controller_Status
-const CONTROLLER_STATE: Row = Row {
-    kind: 2,
-    id: 0x6b000,
-    bytes: 1,
-    start: 0,
-    width: 8,
-    signed: false,
-    labels: 0b11111111111111,
-};
-
-// New_Charge_Session
-const COMMUNICATION_PROTOCOL: Row = Row {
-    kind: 3,
-    id: 0x6b001,
-    bytes: 2,
-    start: 0,
-    width: 8,
-    signed: false,
-    labels: 0b11111111,
-};
-
-const PLUG_AND_PINS: Row = Row {
-    kind: 3,
-    id: 0x6b001,
-    bytes: 2,
-    start: 8,
-    width: 8,
-    signed: false,
-    labels: 0b11111,
-};
-
-// Charge_Status_Change
-const VEHICLE_READY_FOR_CHARGING: Row = Row {
-    kind: 4,
-    id: 0x6b002,
-    bytes: 1,
-    start: 0,
-    width: 8,
-    signed: false,
-    labels: 0b11,
-};
-
-// DC_Power_Control
-const TARGET_VOLTAGE: Row = Row {
-    kind: 5,
-    id: 0x6b003,
-    bytes: 7,
-    start: 0,
-    width: 16,
-    signed: false,
-    labels: 0,
-};
-
-const CURRENT_RANGE_MAX: Row = Row {
-    kind: 5,
-    id: 0x6b003,
-    bytes: 7,
-    start: 16,
-    width: 16,
-    signed: true,
-    labels: 0,
-};
-
-const CURRENT_RANGE_MIN: Row = Row {
-    kind: 5,
-    id: 0x6b003,
-    bytes: 7,
-    start: 32,
-    width: 16,
-    signed: true,
-    labels: 0,
-};
-
-const POWER_FUNCTION: Row = Row {
-    kind: 5,
-    id: 0x6b003,
-    bytes: 7,
-    start: 48,
-    width: 4,
-    signed: false,
-    labels: 0b100010111,
-};
-
-const RESERVED: Row = Row {
-    kind: 5,
-    id: 0x6b003,
-    bytes: 7,
-    start: 52,
-    width: 1,
-    signed: false,
-    labels: 0,
-};
-
-const SETPOINTS_MODE: Row = Row {
-    kind: 5,
-    id: 0x6b003,
-    bytes: 7,
-    start: 53,
-    width: 1,
-    signed: false,
-    labels: 0b11,
-};
-
-const OUTPUT_CONTACTORS: Row = Row {
-    kind: 5,
-    id: 0x6b003,
-    bytes: 7,
-    start: 54,
-    width: 1,
-    signed: false,
-    labels: 0b11,
-};
-
-const LOWER_OUTPUT_VOLTAGE: Row = Row {
-    kind: 5,
-    id: 0x6b003,
-    bytes: 7,
-    start: 55,
-    width: 1,
-    signed: false,
-    labels: 0b11,
-};
-
-// Charge_Session_Finished
-const FINISHED_STATE: Row = Row {
-    kind: 6,
-    id: 0x6b004,
-    bytes: 1,
-    start: 0,
-    width: 8,
-    signed: false,
-    labels: 0b11,
-};
-
-// Emergency_Stop
-const STOP_ORIGIN: Row = Row {
-    kind: 7,
-    id: 0x6b005,
-    bytes: 1,
-    start: 0,
-    width: 8,
-    signed: false,
-    labels: 0b1010,
-};
-
-// EV_ID_CCS_Part2_DIN
-const BYTE0: Row = Row {
-    kind: 8,
-    id: 0x6b105,
-    bytes: 6,
-    start: 0,
-    width: 8,
-    signed: false,
-    labels: 0,
-};
-
-const BYTE1: Row = Row {
-    kind: 8,
-    id: 0x6b105,
-    bytes: 6,
-    start: 8,
-    width: 8,
-    signed: false,
-    labels: 0,
-};
-
-const BYTE2: Row = Row {
-    kind: 8,
-    id: 0x6b105,
-    bytes: 6,
-    start: 16,
-    width: 8,
-    signed: false,
-    labels: 0,
-};
-
-const BYTE3: Row = Row {
-    kind: 8,
-    id: 0x6b105,
-    bytes: 6,
-    start: 24,
-    width: 8,
-    signed: false,
-    labels: 0,
-};
-
-const BYTE4: Row = Row {
-    kind: 8,
-    id: 0x6b105,
-    bytes: 6,
-    start: 32,
-    width: 8,
-    signed: false,
-    labels: 0,
-};
-
-const BYTE5: Row = Row {
-    kind: 8,
-    id: 0x6b105,
-    bytes: 6,
-    start: 40,
-    width: 8,
-    signed: false,
-    labels: 0,
-};
-
-const ROWS: [Row; 30] = [
-    PRESENT_VOLTAGE,
-    PRESENT_CURRENT,
-    POWER_MODULES_TEMPERATURE,
-    ENCLOSURE_TEMPERATURE,
-    SYSTEM_ENABLE,
-    INSULATION_RESISTANCE,
-    MAXIMUM_VOLTAGE,
-    MAXIMUM_CHARGE_CURRENT,
-    MAXIMUM_DISCHARGE_CURRENT,
-    RANGE_TARGET_CURRENT,
-    CONTROLLER_STATE,
-    COMMUNICATION_PROTOCOL,
-    PLUG_AND_PINS,
-    VEHICLE_READY_FOR_CHARGING,
-    TARGET_VOLTAGE,
-    CURRENT_RANGE_MAX,
-    CURRENT_RANGE_MIN,
-    POWER_FUNCTION,
-    RESERVED,
-    SETPOINTS_MODE,
-    OUTPUT_CONTACTORS,
-    LOWER_OUTPUT_VOLTAGE,
-    FINISHED_STATE,
-    STOP_ORIGIN,
-    BYTE0,
-    BYTE1,
-    BYTE2,
-    BYTE3,
-    BYTE4,
-    BYTE5,
-];
-
-// A `match` and not `ROWS[i]`: of an index that is not known beforehand the compiler builds the whole array on the stack at each call.
 pub fn row_at(i: usize) -> Row
     requires { ⌜ i < rowCount ⌝ }
     ensures { λ r. ⌜ (r ≡ getD rows i noRow) × Fine r ⌝ }
 {
-    match i {
-        0 => PRESENT_VOLTAGE,
-        1 => PRESENT_CURRENT,
-        2 => POWER_MODULES_TEMPERATURE,
-        3 => ENCLOSURE_TEMPERATURE,
-        4 => SYSTEM_ENABLE,
-        5 => INSULATION_RESISTANCE,
-        6 => MAXIMUM_VOLTAGE,
-        7 => MAXIMUM_CHARGE_CURRENT,
-        8 => MAXIMUM_DISCHARGE_CURRENT,
-        9 => RANGE_TARGET_CURRENT,
-        10 => CONTROLLER_STATE,
-        11 => COMMUNICATION_PROTOCOL,
-        12 => PLUG_AND_PINS,
-        13 => VEHICLE_READY_FOR_CHARGING,
-        14 => TARGET_VOLTAGE,
-        15 => CURRENT_RANGE_MAX,
-        16 => CURRENT_RANGE_MIN,
-        17 => POWER_FUNCTION,
-        18 => RESERVED,
-        19 => SETPOINTS_MODE,
-        20 => OUTPUT_CONTACTORS,
-        21 => LOWER_OUTPUT_VOLTAGE,
-        22 => FINISHED_STATE,
-        23 => STOP_ORIGIN,
-        24 => BYTE0,
-        25 => BYTE1,
-        26 => BYTE2,
-        27 => BYTE3,
-        28 => BYTE4,
-        _ => BYTE5,
+    if i < charger::ROW_COUNT {
+        return charger::row_at(i);
     }
+    safety::row_at(i - charger::ROW_COUNT)
 }
 
-pub fn first_with_id(id: u32) -> Found
-    ensures { λ r. ⌜ r ≡ firstAt (hasId id) 0 rows ⌝ }
+// All identifiers of a document have one form: the frame's own says which rows to search.
+pub fn first_with_id(id: u32, extended: bool) -> Found
+    ensures { λ r. ⌜ r ≡ firstAt (hasId id extended) 0 rows ⌝ }
 {
-    let rows = ROWS;
-    let mut i: usize = 0;
-    'rows: loop {
-        if ROW_COUNT <= i {
-            break 'rows Found::Nothing;
-        }
-        let r = rows[i];
-        if r.id == id {
-            break 'rows Found::At(i);
-        }
-        i += 1;
+    if extended {
+        return charger::first_with_id(id);
     }
+    safety::first_with_id(id)
 }
 
+// A `match` and no search, so that nothing is left of it where the caller knows the kind (`raw_of`).
 pub fn first_of_kind(kind: usize) -> Found
     ensures { λ r. ⌜ r ≡ firstAt (hasKind kind) 0 rows ⌝ }
 {
-    let rows = ROWS;
-    let mut i: usize = 0;
-    'rows: loop {
-        if ROW_COUNT <= i {
-            break 'rows Found::Nothing;
-        }
-        let r = rows[i];
-        if r.kind == kind {
-            break 'rows Found::At(i);
-        }
-        i += 1;
+    match kind {
+        0 => Found::At(0),
+        1 => Found::At(6),
+        2 => Found::At(10),
+        3 => Found::At(11),
+        4 => Found::At(13),
+        5 => Found::At(14),
+        6 => Found::At(22),
+        7 => Found::At(23),
+        8 => Found::At(24),
+        9 => Found::At(30),
+        10 => Found::At(34),
+        11 => Found::At(49),
+        _ => Found::Nothing,
     }
 }
 
-// The row of the signal of a kind that starts at a bit: only an exact start counts.
+// The row of the signal of a kind that starts at a bit: only an exact start counts. The kind's rows stand together.
 pub fn signal_at(kind: usize, start: u32) -> Found
     ensures { λ r. ⌜ r ≡ firstAt (isSignal kind start) 0 rows ⌝ }
 {
-    let mut i: usize = 0;
+    let Found::At(at) = first_of_kind(kind) else {
+        return Found::Nothing;
+    };
+    let mut i = at;
     'rows: loop {
         if ROW_COUNT <= i {
             break 'rows Found::Nothing;
         }
         let r = row_at(i);
-        i += 1;
         if r.kind != kind {
-            continue 'rows;
+            break 'rows Found::Nothing;
         }
         if r.start == start {
-            break 'rows Found::At(i - 1);
+            break 'rows Found::At(i);
         }
+        i += 1;
     }
 }

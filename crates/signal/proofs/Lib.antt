@@ -2,6 +2,8 @@ pub mod Masks
 pub mod Laws
 pub mod Totals
 pub mod Bytes
+pub mod BigBytes
+pub mod Orders
 pub mod Words
 pub mod Complement
 pub mod RawLaws

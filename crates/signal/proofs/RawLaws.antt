@@ -39,7 +39,7 @@ bits-lt false w o (negsuc n) e = absurd (let z : _≡_ {A = ℕ} 0 1 = cc in ome
 
 -- ---- the test of a width
 
-both : (a b : Bool) → a && b ≡ true → (a ≡ true) × (b ≡ true)
+pub both : (a b : Bool) → a && b ≡ true → (a ≡ true) × (b ≡ true)
 both true b e = (refl, e)
 both false b e = absurd (let z : _≡_ {A = ℕ} 0 1 = cc in omega arith)
 

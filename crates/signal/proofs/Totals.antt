@@ -1,6 +1,6 @@
 -- What the total answers `getOf`, `putOf`, `take 8` and `storedIn` are within their range.
 -- Assumes nothing.
-use mathlib.Core.Path.{_≡_, refl, sym, ap, ap₂, _∙_}
+use mathlib.Core.Path.{_≡_, sym, ap, ap₂, _∙_}
 use mathlib.Core.Bool.{Bool, true, false, cond, not, _&&_, and-false}
 use mathlib.Core.Logic.{_⊎_, inl, inr}
 use mathlib.Core.List.{List, _++_, append-nil}
@@ -14,10 +14,7 @@ use borrow.Author.Tests.{lt-ltb, le-leb, lt-leb, leb-true, not-false}
 use Rattle.signal.specs.Signal.{getBits, putBits, inWord, getOf, putOf}
 use Rattle.signal.specs.Payload.{numberOf, bytesOf, storedIn}
 use Rattle.signal.proofs.Complement.{half-of}
-
-both-true : (a b : Bool) → a && b ≡ true → (a ≡ true) × (b ≡ true)
-both-true true b e = (refl, e)
-both-true false b e = absurd (let z : _≡_ {A = ℕ} 0 1 = cc in omega arith)
+use Rattle.signal.proofs.RawLaws.{both}
 
 -- ---- signals
 
@@ -30,7 +27,7 @@ word-no s w h = ap (λ (x : Bool). leb 1 w && x) (lt-leb (s + w) 64 h) ∙ and-f
 -- after the test `!in_word(s, w)`, where b is what `in_word` answered
 pub word-found : (s w : ℕ) (b : Bool) → b ≡ inWord s w → not b ≡ false → (1 ≤ w) × (s + w ≤ 64)
 word-found s w b e t =
-    let p = both-true (leb 1 w) (leb (s + w) 64) (sym e ∙ not-false b t) in
+    let p = both (leb 1 w) (leb (s + w) 64) (sym e ∙ not-false b t) in
     (leb-true 1 w (p .0), leb-true (s + w) 64 (p .1))
 
 -- `in_word`'s last test, which cannot wrap
@@ -52,20 +49,20 @@ put-in n s w v o h l =
 
 -- ---- bytes
 
-pub number-in : (bs : List ℕ) → length bs ≤ 8 → numberOf (take 8 bs) ≡ numberOf bs
-number-in bs h = ap numberOf (take-all 8 bs h)
+pub number-in : (big : Bool) (bs : List ℕ) → length bs ≤ 8 → numberOf big (take 8 bs) ≡ numberOf big bs
+number-in big bs h = ap (numberOf big) (take-all 8 bs h)
 
-pub stored-in : (k n : ℕ) (buf : List ℕ) → k ≤ length buf → storedIn k n buf ≡ bytesOf k n ++ drop k buf
+pub stored-in : (big : Bool) (k n : ℕ) (buf : List ℕ) → k ≤ length buf → storedIn big k n buf ≡ bytesOf big k n ++ drop k buf
 unfolding storedIn
-stored-in k n buf h = ap (λ (b : Bool). cond b (bytesOf k n ++ drop k buf) buf) (le-leb k (length buf) h)
+stored-in big k n buf h = ap (λ (b : Bool). cond b (bytesOf big k n ++ drop k buf) buf) (le-leb k (length buf) h)
 
-pub stored-not : (k n : ℕ) (buf : List ℕ) → length buf < k → storedIn k n buf ≡ buf
+pub stored-not : (big : Bool) (k n : ℕ) (buf : List ℕ) → length buf < k → storedIn big k n buf ≡ buf
 unfolding storedIn
-stored-not k n buf h = ap (λ (b : Bool). cond b (bytesOf k n ++ drop k buf) buf) (lt-leb k (length buf) h)
+stored-not big k n buf h = ap (λ (b : Bool). cond b (bytesOf big k n ++ drop k buf) buf) (lt-leb k (length buf) h)
 
 -- a buffer that is filled
-pub stored-all : (bs : List ℕ) (n : ℕ) → storedIn (length bs) n bs ≡ bytesOf (length bs) n
-stored-all bs n =
-    stored-in (length bs) n bs (le-refl (length bs))
-    ∙ ap (λ (l : List ℕ). bytesOf (length bs) n ++ l) (drop-length bs)
-    ∙ append-nil (bytesOf (length bs) n)
+pub stored-all : (big : Bool) (bs : List ℕ) (n : ℕ) → storedIn big (length bs) n bs ≡ bytesOf big (length bs) n
+stored-all big bs n =
+    stored-in big (length bs) n bs (le-refl (length bs))
+    ∙ ap (λ (l : List ℕ). bytesOf big (length bs) n ++ l) (drop-length bs)
+    ∙ append-nil (bytesOf big (length bs) n)

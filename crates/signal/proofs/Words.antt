@@ -1,51 +1,130 @@
--- The definitions say what paper 01 says: "Bit n of a payload is bit n mod 8 of byte n / 8, bit 0 lowest. A signal with start s and width w has its lowest bit at s."
+-- The definitions say what the papers say, in both byte orders: "Bit n of a payload is bit n mod 8 of byte n / 8, bit 0 lowest. A signal with start s and width w has its lowest bit at s" (01);
+-- "There the start names the highest bit, and the signal runs down to bit 0 of that byte and on at bit 7 of the next" (02, Req 04).
 -- Assumes nothing.
 use mathlib.Core.Path.{_≡_, sym, ap, _∙_}
+use mathlib.Core.Bool.{Bool, true, false}
+use mathlib.Core.Logic.{_⊎_, inl, inr}
 use mathlib.Core.List.{List, [], _∷_}
-use Prim.Native.Nat.{ℕ, zero, suc, _+_, _*_, _/_, _%_, _^_, _<_}
-use native.Mathlib.Nat.{mul-suc, add-comm, div-one, le-of-suc-le-suc, not-suc-le-zero}
+use Prim.Native.Nat.{ℕ, zero, suc, _+_, _-_, _*_, _/_, _%_, _^_, _≤_, _<_}
+use native.Mathlib.Nat.{sub-zero, le-of-suc-le, mul-suc, add-comm, div-one, mod-eq-of-lt, le-of-suc-le-suc, not-suc-le-zero}
 use native.Mathlib.Omega.{arith}
 use lib.Arith.{digits-div, digits-mod}
-use lib.ListN.{getD}
+use lib.ListN.{length, getD}
+use lib.Pow.{low, high}
+use borrow.Author.Tests.{eq-eqb, ne-eqb}
 use Rattle.signal.specs.Signal.{getBits}
-use Rattle.signal.specs.Payload.{numberOf, bytesOf, bitAt, Bytes}
-use Rattle.signal.proofs.Laws.{get-of-div, get-get, get-zero}
+use Rattle.signal.specs.Payload.{leNumber, leBytes, beNumber, beBytes, numberOf, bytesOf, bitAt, Bytes}
+use Rattle.signal.specs.Order.{spot, place, lowest, Inside, next, walk, bitOf}
+use Rattle.signal.proofs.Laws.{get-of-mod, get-of-div, get-get}
+use Rattle.signal.proofs.Complement.{half-of}
+use Rattle.signal.proofs.BigBytes.{be-lt}
 
--- byte i of a payload is the 8 bits of its number from 8 i on; past the end both are 0
-pub number-byte : (bs : List ℕ) (i : ℕ) → Bytes bs → getBits (numberOf bs) (8 * i) 8 ≡ getD bs i 0
-unfolding numberOf getBits
-number-byte [] i hb = get-zero (8 * i) 8
-number-byte (b ∷ bs) zero hb = ap (λ (x : ℕ). x % 256) (div-one (numberOf bs * 256 + b)) ∙ digits-mod (numberOf bs) (hb zero)
-number-byte (b ∷ bs) (suc i) hb =
-    ap (λ (x : ℕ). (numberOf bs * 256 + b) / 2 ^ x % 256) (mul-suc 8 i ∙ add-comm (8 * i) 8)
-    ∙ sym (get-of-div (numberOf bs * 256 + b) 8 (8 * i) 8)
-    ∙ ap (λ (x : ℕ). x / 2 ^ (8 * i) % 256) (digits-div (numberOf bs) (hb zero))
-    ∙ number-byte bs i (λ j. hb (suc j))
+-- ---- bytes
+
+-- byte i stands at its spot in the number
+pub byte-of : (big : Bool) (bs : List ℕ) (i : ℕ) → Bytes bs → i < length bs → getBits (numberOf big bs) (8 * spot big (length bs) i) 8 ≡ getD bs i 0
+unfolding leNumber beNumber getBits
+byte-of big [] i hb h = absurd (not-suc-le-zero h)
+byte-of false (b ∷ bs) zero hb h = ap (λ (x : ℕ). x % 256) (div-one (leNumber bs * 256 + b)) ∙ digits-mod (leNumber bs) (hb zero)
+byte-of false (b ∷ bs) (suc i) hb h =
+    ap (λ (x : ℕ). (leNumber bs * 256 + b) / 2 ^ x % 256) (mul-suc 8 i ∙ add-comm (8 * i) 8)
+    ∙ sym (get-of-div (leNumber bs * 256 + b) 8 (8 * i) 8)
+    ∙ ap (λ (x : ℕ). x / 2 ^ (8 * i) % 256) (digits-div (leNumber bs) (hb zero))
+    ∙ byte-of false bs i (λ j. hb (suc j)) (le-of-suc-le-suc h)
+byte-of true (b ∷ bs) zero hb h =
+    let e : suc (length bs) - 1 - 0 ≡ length bs = omega arith in
+    ap (λ (x : ℕ). (b * 2 ^ (8 * length bs) + beNumber bs) / 2 ^ (8 * x) % 256) e
+    ∙ ap (λ (x : ℕ). x % 256) (high b (8 * length bs) (be-lt bs (λ j. hb (suc j)))) ∙ mod-eq-of-lt (hb zero)
+byte-of true (b ∷ bs) (suc i) hb h =
+    let e : suc (length bs) - 1 - suc i ≡ length bs - 1 - i = omega arith in
+    ap (λ (x : ℕ). (b * 2 ^ (8 * length bs) + beNumber bs) / 2 ^ (8 * x) % 256) e
+    ∙ sym (get-of-mod (b * 2 ^ (8 * length bs) + beNumber bs) (8 * length bs) (8 * (length bs - 1 - i)) 8 (omega arith))
+    ∙ ap (λ (x : ℕ). x / 2 ^ (8 * (length bs - 1 - i)) % 256) (low b (8 * length bs) (be-lt bs (λ j. hb (suc j))))
+    ∙ byte-of true bs i (λ j. hb (suc j)) (le-of-suc-le-suc h)
 
 -- the other way
-pub bytes-byte : (k n i : ℕ) → i < k → getD (bytesOf k n) i 0 ≡ getBits n (8 * i) 8
-unfolding bytesOf getBits
-bytes-byte zero n i h = absurd (not-suc-le-zero h)
-bytes-byte (suc k) n zero h = ap (λ (x : ℕ). x % 256) (sym (div-one n))
-bytes-byte (suc k) n (suc i) h =
-    bytes-byte k (n / 256) i (le-of-suc-le-suc h) ∙ get-of-div n 8 (8 * i) 8 ∙ ap (λ (x : ℕ). n / 2 ^ x % 256) (sym (mul-suc 8 i ∙ add-comm (8 * i) 8))
+pub byte-in : (big : Bool) (k n i : ℕ) → i < k → getD (bytesOf big k n) i 0 ≡ getBits n (8 * spot big k i) 8
+unfolding leBytes beBytes getBits
+byte-in big zero n i h = absurd (not-suc-le-zero h)
+byte-in false (suc k) n zero h = ap (λ (x : ℕ). x % 256) (sym (div-one n))
+byte-in false (suc k) n (suc i) h =
+    byte-in false k (n / 256) i (le-of-suc-le-suc h) ∙ get-of-div n 8 (8 * i) 8 ∙ ap (λ (x : ℕ). n / 2 ^ x % 256) (sym (mul-suc 8 i ∙ add-comm (8 * i) 8))
+byte-in true (suc k) n zero h =
+    let e : k ≡ suc k - 1 - 0 = omega arith in
+    ap (λ (x : ℕ). n / 2 ^ (8 * x) % 256) e
+byte-in true (suc k) n (suc i) h =
+    let e : k - 1 - i ≡ suc k - 1 - suc i = omega arith in
+    byte-in true k n i (le-of-suc-le-suc h) ∙ ap (λ (x : ℕ). n / 2 ^ (8 * x) % 256) e
 
--- bit n % 8 of byte n / 8 of a number is its bit n
-byte-bit : (m n : ℕ) → getBits (getBits m (8 * (n / 8)) 8) (n % 8) 1 ≡ getBits m n 1
-byte-bit m n =
-    let e : 8 * (n / 8) + n % 8 ≡ n = omega arith in
-    get-get m (8 * (n / 8)) 8 (n % 8) 1 (omega arith) ∙ ap (λ (x : ℕ). getBits m x 1) e
+-- ---- bits
 
--- bit n of the payload is bit n of its number
-pub number-bit : (bs : List ℕ) (n : ℕ) → Bytes bs → getBits (numberOf bs) n 1 ≡ bitAt bs n
+-- each bit of k bytes has its place in their number, and each bit of the number is the place of one
+pub place-lt : (big : Bool) (k n : ℕ) → n < 8 * k → place big k n < 8 * k
+place-lt false k n h = omega arith
+place-lt true k n h = omega arith
+
+pub place-place : (big : Bool) (k n : ℕ) → n < 8 * k → place big k (place big k n) ≡ n
+place-place false k n h = omega arith
+place-place true k n h = omega arith
+
+-- a payload's bit n stands at its place in the number
+pub bit-of : (big : Bool) (bs : List ℕ) (n : ℕ) → Bytes bs → n < 8 * length bs → getBits (numberOf big bs) (place big (length bs) n) 1 ≡ bitAt bs n
 unfolding bitAt
-number-bit bs n hb = sym (byte-bit (numberOf bs) n) ∙ ap (λ (x : ℕ). getBits x (n % 8) 1) (number-byte bs (n / 8) hb)
+bit-of big bs n hb h =
+    sym (get-get (numberOf big bs) (8 * spot big (length bs) (n / 8)) 8 (n % 8) 1 (omega arith))
+    ∙ ap (λ (x : ℕ). getBits x (n % 8) 1) (byte-of big bs (n / 8) hb (omega arith))
 
--- bit j of the signal is bit s + j of the payload
-pub signal-bit : (bs : List ℕ) (s w j : ℕ) → Bytes bs → j < w → getBits (getBits (numberOf bs) s w) j 1 ≡ bitAt bs (s + j)
-signal-bit bs s w j hb h = get-get (numberOf bs) s w j 1 (omega arith) ∙ number-bit bs (s + j) hb
-
--- bit i of the bytes of a number is its bit i
-pub bytes-bit : (k n i : ℕ) → i < 8 * k → bitAt (bytesOf k n) i ≡ getBits n i 1
+-- the other way
+pub bit-in : (big : Bool) (k n i : ℕ) → i < 8 * k → bitAt (bytesOf big k n) i ≡ getBits n (place big k i) 1
 unfolding bitAt
-bytes-bit k n i h = ap (λ (x : ℕ). getBits x (i % 8) 1) (bytes-byte k n (i / 8) (omega arith)) ∙ byte-bit n i
+bit-in big k n i h =
+    ap (λ (x : ℕ). getBits x (i % 8) 1) (byte-in big k n (i / 8) (omega arith))
+    ∙ get-get n (8 * spot big k (i / 8)) 8 (i % 8) 1 (omega arith)
+
+-- ---- signals
+
+-- one step of the way is one bit down in the number
+step : (k n : ℕ) → n < 8 * k → 1 ≤ place true k n → (next n < 8 * k) × (place true k (next n) ≡ place true k n - 1)
+step k n h l = go (half-of 1 (n % 8))
+  where
+    go : (n % 8 < 1) ⊎ (1 ≤ n % 8) → (next n < 8 * k) × (place true k (next n) ≡ place true k n - 1)
+    go (inl z) = rw (eq-eqb (n % 8) 0 (omega arith)) (omega arith)
+    go (inr z) = rw (ne-eqb (n % 8) 0 (λ q. omega arith)) (omega arith)
+
+one-down : (p q r i : ℕ) → q ≡ p - i → r ≡ q - 1 → r ≡ p - suc i
+one-down p q r i e f = omega arith
+
+some-left : (p q i : ℕ) → suc i ≤ p → q ≡ p - i → 1 ≤ q
+some-left p q i h e = omega arith
+
+walked : (k s i : ℕ) → s < 8 * k → i ≤ place true k s → (walk s i < 8 * k) × (place true k (walk s i) ≡ place true k s - i)
+unfolding walk
+walked k s zero h l = (h, sym (sub-zero (place true k s)))
+walked k s (suc i) h l =
+    let w = walked k s i h (le-of-suc-le l) in
+    let t = step k (walk s i) (w .0) (some-left (place true k s) (place true k (walk s i)) i l (w .1)) in
+    (t .0, one-down (place true k s) (place true k (walk s i)) (place true k (next (walk s i))) i (w .1) (t .1))
+
+top-in : (p w j : ℕ) → w ≤ p + 1 → j < w → w - 1 - j ≤ p
+top-in p w j h l = omega arith
+
+from-top : (p q w j : ℕ) → w ≤ p + 1 → j < w → q ≡ p - (w - 1 - j) → q ≡ p + 1 - w + j
+from-top p q w j h l e = omega arith
+
+-- the payload's bit that the papers name as bit j of a signal is one of the payload, and stands j above the signal's lowest
+pub bit-place : (big : Bool) (k s w j : ℕ) → Inside big k s w → j < w
+    → (bitOf big s w j < 8 * k) × (place big k (bitOf big s w j) ≡ lowest big k s w + j)
+bit-place false k s w j hi hj = (omega arith, omega arith)
+bit-place true k s w j hi hj =
+    let p = place true k s in
+    let r = walked k s (w - 1 - j) (hi .0) (top-in p w j (hi .1) hj) in
+    (r .0, from-top p (place true k (walk s (w - 1 - j))) w j (hi .1) hj (r .1))
+
+-- so bit j of a signal is the payload's bit that the papers name
+pub signal-bit : (big : Bool) (bs : List ℕ) (s w j : ℕ) → Bytes bs → Inside big (length bs) s w → j < w
+    → getBits (getBits (numberOf big bs) (lowest big (length bs) s w) w) j 1 ≡ bitAt bs (bitOf big s w j)
+signal-bit big bs s w j hb hi hj =
+    let r = bit-place big (length bs) s w j hi hj in
+    get-get (numberOf big bs) (lowest big (length bs) s w) w j 1 (omega arith)
+    ∙ ap (λ (x : ℕ). getBits (numberOf big bs) x 1) (sym (r .1))
+    ∙ bit-of big bs (bitOf big s w j) hb (r .0)

@@ -1,4 +1,5 @@
 pub mod Signal
 pub mod Payload
+pub mod Order
 pub mod Twos
 pub mod Raw

@@ -10,26 +10,50 @@ use Rattle.messages.proofs.control_in.Tie as tie
 raw-of-requires : tie.Need-raw-of-requires
 raw-of-requires c κs = search needs
 
+array-set-from-f : tie.Need-array-set-from-f
+array-set-from-f c = search needs
+
 raw-of-requires-2 : tie.Need-raw-of-requires-2
 raw-of-requires-2 c κs = search needs
+
+array-set-from-f-2 : tie.Need-array-set-from-f-2
+array-set-from-f-2 c = search needs
 
 raw-of-requires-3 : tie.Need-raw-of-requires-3
 raw-of-requires-3 c κs = search needs
 
+array-set-from-f-3 : tie.Need-array-set-from-f-3
+array-set-from-f-3 c = search needs
+
 raw-of-requires-4 : tie.Need-raw-of-requires-4
 raw-of-requires-4 c κs = search needs
+
+array-set-from-f-4 : tie.Need-array-set-from-f-4
+array-set-from-f-4 c = search needs
 
 raw-of-requires-5 : tie.Need-raw-of-requires-5
 raw-of-requires-5 c κs = search needs
 
+array-set-from-f-5 : tie.Need-array-set-from-f-5
+array-set-from-f-5 c = search needs
+
 raw-of-requires-6 : tie.Need-raw-of-requires-6
 raw-of-requires-6 c κs = search needs
+
+array-set-from-f-6 : tie.Need-array-set-from-f-6
+array-set-from-f-6 c = search needs
 
 raw-of-requires-7 : tie.Need-raw-of-requires-7
 raw-of-requires-7 c κs = search needs
 
+array-set-from-f-7 : tie.Need-array-set-from-f-7
+array-set-from-f-7 c = search needs
+
 raw-of-requires-8 : tie.Need-raw-of-requires-8
 raw-of-requires-8 c κs = search needs
+
+array-set-from-f-8 : tie.Need-array-set-from-f-8
+array-set-from-f-8 c = search needs
 
 control-requires : tie.Need-control-requires
 control-requires c κs = search needs
@@ -59,4 +83,23 @@ returns c =
 
 pub control-in-spec : {M : Type 1} → statement M
 control-in-spec =
-    tie.close (tie.spec raw-of-requires raw-of-requires-2 raw-of-requires-3 raw-of-requires-4 raw-of-requires-5 raw-of-requires-6 raw-of-requires-7 raw-of-requires-8 control-requires returns)
+    tie.close
+    (tie.spec
+    raw-of-requires
+    array-set-from-f
+    raw-of-requires-2
+    array-set-from-f-2
+    raw-of-requires-3
+    array-set-from-f-3
+    raw-of-requires-4
+    array-set-from-f-4
+    raw-of-requires-5
+    array-set-from-f-5
+    raw-of-requires-6
+    array-set-from-f-6
+    raw-of-requires-7
+    array-set-from-f-7
+    raw-of-requires-8
+    array-set-from-f-8
+    control-requires
+    returns)

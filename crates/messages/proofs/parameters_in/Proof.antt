@@ -10,14 +10,26 @@ use Rattle.messages.proofs.parameters_in.Tie as tie
 raw-of-requires : tie.Need-raw-of-requires
 raw-of-requires c κs = search needs
 
+array-set-from-f : tie.Need-array-set-from-f
+array-set-from-f c = search needs
+
 raw-of-requires-2 : tie.Need-raw-of-requires-2
 raw-of-requires-2 c κs = search needs
+
+array-set-from-f-2 : tie.Need-array-set-from-f-2
+array-set-from-f-2 c = search needs
 
 raw-of-requires-3 : tie.Need-raw-of-requires-3
 raw-of-requires-3 c κs = search needs
 
+array-set-from-f-3 : tie.Need-array-set-from-f-3
+array-set-from-f-3 c = search needs
+
 raw-of-requires-4 : tie.Need-raw-of-requires-4
 raw-of-requires-4 c κs = search needs
+
+array-set-from-f-4 : tie.Need-array-set-from-f-4
+array-set-from-f-4 c = search needs
 
 parameters-requires : tie.Need-parameters-requires
 parameters-requires c κs = search needs
@@ -39,4 +51,15 @@ returns c =
 
 pub parameters-in-spec : {M : Type 1} → statement M
 parameters-in-spec =
-    tie.close (tie.spec raw-of-requires raw-of-requires-2 raw-of-requires-3 raw-of-requires-4 parameters-requires returns)
+    tie.close
+    (tie.spec
+    raw-of-requires
+    array-set-from-f
+    raw-of-requires-2
+    array-set-from-f-2
+    raw-of-requires-3
+    array-set-from-f-3
+    raw-of-requires-4
+    array-set-from-f-4
+    parameters-requires
+    returns)

@@ -10,8 +10,14 @@ use Rattle.messages.proofs.session_in.Tie as tie
 raw-of-requires : tie.Need-raw-of-requires
 raw-of-requires c κs = search needs
 
+array-set-from-f : tie.Need-array-set-from-f
+array-set-from-f c = search needs
+
 raw-of-requires-2 : tie.Need-raw-of-requires-2
 raw-of-requires-2 c κs = search needs
+
+array-set-from-f-2 : tie.Need-array-set-from-f-2
+array-set-from-f-2 c = search needs
 
 session-requires : tie.Need-session-requires
 session-requires c κs = search needs
@@ -29,4 +35,11 @@ returns c =
 
 pub session-in-spec : {M : Type 1} → statement M
 session-in-spec =
-    tie.close (tie.spec raw-of-requires raw-of-requires-2 session-requires returns)
+    tie.close
+    (tie.spec
+    raw-of-requires
+    array-set-from-f
+    raw-of-requires-2
+    array-set-from-f-2
+    session-requires
+    returns)

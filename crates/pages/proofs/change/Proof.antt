@@ -1,13 +1,13 @@
 -- `pages::change` meets its contract: the reader's refusal is handed on, then the row's, and the changed number's bytes are stored.
 use borrow.Author.Needs.{needs}
-use mathlib.Core.Path.{_≡_, refl, sym, ap, ap₂, _∙_}
+use mathlib.Core.Path.{_≡_, sym, ap, _∙_}
 use mathlib.Core.Bool.{Bool}
 use mathlib.Core.List.{List}
 use Prim.Native.Nat.{ℕ}
 use lib.IntN.{ℤ}
 use lib.ListN.{length}
 use mir.Facts.{toZ-ofZ}
-use Rattle.signal.specs.Payload.{bytesOf, storedIn}
+use Rattle.signal.specs.Payload.{bytesOf}
 use Rattle.signal.proofs.Totals.{stored-all}
 use Rattle.pages.specs.declared.Judged.{Judged}
 use Rattle.pages.specs.declared.Judged.the-variants.{Frame, Refused}
@@ -84,6 +84,9 @@ returns-2 c =
     let d = c .before .before in
     (changed d, sym (ap (bytesAfter (start d .args .bytes .now)) (sym (changed d) ∙ c .enum-told2 .given .1)))
 
+is-big-requires : tie.Need-is-big-requires
+is-big-requires c κs = search needs
+
 store-requires : tie.Need-store-requires
 store-requires c κs = search needs
 
@@ -93,10 +96,14 @@ same-length-3 c = search needs
 returns-3 : tie.Need-returns-3
 unfolding start
 returns-3 c =
-    let g = c .before .before .before .before .before in
+    let st = c .before .before in
+    let b = st .before .before in
+    let g = b .before .before in
     let d = g .before .before in
+    let bs = start d .args .bytes .now in
+    let n = g .changed .given .0 .1 .0 in
     let e = sym (g .changed .given .1) ∙ changed d in
-    (e, c .before .before .store .ensures ∙ stored-all (start d .args .bytes .now) _ ∙ ap (bytesAfter (start d .args .bytes .now)) e)
+    (e, st .store .ensures ∙ stored-all (b .is-big .result) bs n ∙ ap (λ (x : Bool). bytesOf x (length bs) n) (b .is-big .ensures) ∙ ap (bytesAfter bs) e)
 
 pub change-spec : {M : Type 1} → statement M
 change-spec =
@@ -112,6 +119,7 @@ change-spec =
     enum-told-2
     same-length-2
     returns-2
+    is-big-requires
     store-requires
     same-length-3
     returns-3)

@@ -1,10 +1,8 @@
 -- `pages::head_row` meets its contract: the first row of a kind is the head of its rows.
 use borrow.Author.Needs.{needs}
 use mathlib.Core.Path.{_≡_, sym, ap, _∙_}
-use mathlib.Core.List.{List}
-use Rattle.pages.specs.declared.Row.{Row}
 use Rattle.pages.specs.Table.{headRow}
-use Rattle.pages.proofs.Rules.{first-kind, none-kind}
+use Rattle.pages.proofs.Firsts.{first-kind, none-kind}
 use Rattle.pages.proofs.head_row.Statement.{statement}
 use Rattle.pages.proofs.head_row.Tie as tie
 

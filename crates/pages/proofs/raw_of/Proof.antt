@@ -10,7 +10,7 @@ use borrow.Author.Tests.{eqb-true}
 use Rattle.pages.specs.declared.Row.{Row}
 use Rattle.pages.specs.Table.{rows, noRow, rowsOf, hasKind}
 use Rattle.pages.specs.Raws.{signalCount, wholesOf, pad, rawsOf}
-use Rattle.pages.proofs.Rules.{first-kind, none-kind, found-in}
+use Rattle.pages.proofs.Firsts.{first-kind, none-kind, found-in}
 use Rattle.pages.proofs.Places.{pad-at, pad-past, pad-none}
 use Rattle.pages.proofs.raw_of.Statement.{statement}
 use Rattle.pages.proofs.raw_of.Tie as tie

@@ -4,7 +4,7 @@ use mathlib.Core.Path.{_≡_, sym, ap, _∙_}
 use mathlib.Core.List.{List}
 use Rattle.pages.specs.declared.Row.{Row}
 use Rattle.pages.specs.Raws.{signalCount, wholesOf, pad, rawsOf}
-use Rattle.pages.proofs.Rules.{first-kind, none-kind}
+use Rattle.pages.proofs.Firsts.{first-kind, none-kind}
 use Rattle.pages.proofs.raws_of.Statement.{statement}
 use Rattle.pages.proofs.raws_of.Tie as tie
 

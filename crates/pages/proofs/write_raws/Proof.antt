@@ -8,7 +8,7 @@ use mathlib.Core.List.{List}
 use Prim.Native.Nat.{ℕ, _≤_, _<_}
 use lib.Dec.{leb}
 use lib.IntN.{ℤ}
-use lib.ListN.{length, drop}
+use lib.ListN.{length}
 use Rattle.signal.specs.Payload.{storedIn}
 use Rattle.signal.proofs.Totals.{stored-not}
 use Rattle.pages.specs.declared.Row.{Row}
@@ -17,10 +17,10 @@ use Rattle.pages.specs.declared.Written.{Written}
 use Rattle.pages.specs.declared.Written.the-variants.{Wrote, Refused}
 use Rattle.pages.specs.declared.Packed.{Packed}
 use Rattle.pages.specs.declared.Packed.the-variants as packed
-use Rattle.pages.specs.Table.{rowsOf, identifierOf, lengthOf}
+use Rattle.pages.specs.Table.{rowsOf, identifierOf, lengthOf, bigOf}
 use Rattle.pages.specs.Raws.{allTake, packedOn, canWrite, writeRawsOf, bufferAfter}
 use Rattle.pages.specs.Steps.{packOf}
-use Rattle.pages.proofs.Rules.{first-kind, none-kind}
+use Rattle.pages.proofs.Firsts.{first-kind, none-kind}
 use Rattle.pages.proofs.write_raws.Statement.{statement}
 use Rattle.pages.proofs.write_raws.Tie as tie
 
@@ -32,15 +32,15 @@ cannot : (k : ℕ) (zs : List ℤ) (buf : List ℕ) → canWrite k zs ≡ false 
 unfolding writeRawsOf bufferAfter
 cannot k zs buf e = (
   sym (ap (λ (b : Bool). cond b (cond (leb (lengthOf k) (length buf)) (Wrote (identifierOf k) (lengthOf k)) (Refused ShortBuffer)) (Refused NoRawNumber)) e),
-  sym (ap (λ (b : Bool). cond b (storedIn (lengthOf k) (packedOn 0 (rowsOf k) zs) buf) buf) e),
+  sym (ap (λ (b : Bool). cond b (storedIn (bigOf k) (lengthOf k) (packedOn 0 (rowsOf k) zs) buf) buf) e),
 )
 
 can : (k : ℕ) (zs : List ℤ) (buf : List ℕ) (b : Bool) → canWrite k zs ≡ true → leb (lengthOf k) (length buf) ≡ b
-    → Ends k zs buf (cond b (Wrote (identifierOf k) (lengthOf k)) (Refused ShortBuffer)) (storedIn (lengthOf k) (packedOn 0 (rowsOf k) zs) buf)
+    → Ends k zs buf (cond b (Wrote (identifierOf k) (lengthOf k)) (Refused ShortBuffer)) (storedIn (bigOf k) (lengthOf k) (packedOn 0 (rowsOf k) zs) buf)
 unfolding writeRawsOf bufferAfter
 can k zs buf b e f = (
   sym (ap₂ (λ (x y : Bool). cond x (cond y (Wrote (identifierOf k) (lengthOf k)) (Refused ShortBuffer)) (Refused NoRawNumber)) e f),
-  sym (ap (λ (x : Bool). cond x (storedIn (lengthOf k) (packedOn 0 (rowsOf k) zs) buf) buf) e),
+  sym (ap (λ (x : Bool). cond x (storedIn (bigOf k) (lengthOf k) (packedOn 0 (rowsOf k) zs) buf) buf) e),
 )
 
 -- what packing answered
@@ -101,13 +101,14 @@ known : (c : tie.After-pack) → (c .pack .result ≡ packOf (rowsOf (start c .a
     × (1 ≤ length (rowsOf (start c .args .kind)))
     × (c .before .row-at .result .id ≡ identifierOf (start c .args .kind))
     × (c .before .row-at .result .bytes ≡ lengthOf (start c .args .kind))
-unfolding start identifierOf lengthOf
+    × (c .before .row-at .result .big ≡ bigOf (start c .args .kind))
+unfolding start identifierOf lengthOf bigOf
 known c =
     let r = c .before in
     let i = r .before .before in
     let k = first-kind (start c .args .kind) _ (sym (i .before .before .first-of-kind .ensures) ∙ i .i .given .1) in
     let head = r .row-at .ensures .0 ∙ k .2 in
-    (c .pack .ensures ∙ ap (λ (l : List Row). packOf l (start c .args .raws)) (k .1), k .3, ap (λ (x : Row). x .id) head, ap (λ (x : Row). x .bytes) head)
+    (c .pack .ensures ∙ ap (λ (l : List Row). packOf l (start c .args .raws)) (k .1), k .3, ap (λ (x : Row). x .id) head, ap (λ (x : Row). x .bytes) head, ap (λ (x : Row). x .big) head)
 
 returns-2 : tie.Need-returns-2
 unfolding start
@@ -128,7 +129,7 @@ returns-3 c =
     let p = packs (rowsOf (a .kind)) (a .raws) (allTake (rowsOf (a .kind)) (a .raws)) (d .pack .result) _ refl (k .0) (n .n .given .1) in
     let short : length (a .buf .now) < lengthOf (a .kind) = subst (λ (x : ℕ). length (a .buf .now) < x) (k .3) (c .if1 .taken) in
     let e = can (a .kind) (a .raws) (a .buf .now) false (some (a .kind) (a .raws) true (k .1) (p .0)) (lt-leb _ _ short) in
-    (e .0, sym (stored-not (lengthOf (a .kind)) (packedOn 0 (rowsOf (a .kind)) (a .raws)) (a .buf .now) short) ∙ e .1)
+    (e .0, sym (stored-not (bigOf (a .kind)) (lengthOf (a .kind)) (packedOn 0 (rowsOf (a .kind)) (a .raws)) (a .buf .now) short) ∙ e .1)
 
 store-requires : tie.Need-store-requires
 store-requires c κs = search needs
@@ -148,7 +149,7 @@ returns-4 c =
     let p = packs (rowsOf (a .kind)) (a .raws) (allTake (rowsOf (a .kind)) (a .raws)) (d .pack .result) _ refl (k .0) (n .n .given .1) in
     let room : lengthOf (a .kind) ≤ length (a .buf .now) = subst (λ (x : ℕ). x ≤ length (a .buf .now)) (k .3) (l .if1 .left) in
     let e = can (a .kind) (a .raws) (a .buf .now) true (some (a .kind) (a .raws) true (k .1) (p .0)) (le-leb _ _ room) in
-    (ap₂ (λ (x y : ℕ). Wrote x y) (k .2) (k .3) ∙ e .0, st .store .ensures ∙ ap₂ (λ (x y : ℕ). storedIn x y (a .buf .now)) (k .3) (p .1) ∙ e .1)
+    (ap₂ (λ (x y : ℕ). Wrote x y) (k .2) (k .3) ∙ e .0, st .store .ensures ∙ ap (λ (x : Bool). storedIn x (d .before .row-at .result .bytes) (n .n .given .0 .0) (a .buf .now)) (k .4) ∙ ap₂ (λ (x y : ℕ). storedIn (bigOf (a .kind)) x y (a .buf .now)) (k .3) (p .1) ∙ e .1)
 
 pub write-raws-spec : {M : Type 1} → statement M
 write-raws-spec =

@@ -58,6 +58,15 @@ origin-of-requires c κs = search needs
 ev-id-requires : tie.Need-ev-id-requires
 ev-id-requires c κs = search needs
 
+safety-control-requires : tie.Need-safety-control-requires
+safety-control-requires c κs = search needs
+
+safety-state-requires : tie.Need-safety-state-requires
+safety-state-requires c κs = search needs
+
+probes-requires : tie.Need-probes-requires
+probes-requires c κs = search needs
+
 returns : tie.Need-returns
 unfolding builtOf
 returns c = rw (c .before .match .keys1, c .status .ensures)
@@ -96,7 +105,19 @@ returns-8 c =
 
 returns-9 : tie.Need-returns-9
 unfolding builtOf
-returns-9 c = rw (c .ev-id .ensures) (search past depth 12)
+returns-9 c = rw (c .before .match .keys9, c .ev-id .ensures)
+
+returns-10 : tie.Need-returns-10
+unfolding builtOf
+returns-10 c = rw (c .before .match .keys10, c .safety-control .ensures)
+
+returns-11 : tie.Need-returns-11
+unfolding builtOf
+returns-11 c = rw (c .before .match .keys11, c .safety-state .ensures)
+
+returns-12 : tie.Need-returns-12
+unfolding builtOf
+returns-12 c = rw (c .probes .ensures) (search past depth 15)
 
 pub built-spec : {M : Type 1} → statement M
 built-spec =
@@ -119,6 +140,9 @@ built-spec =
     natural-requires-4
     origin-of-requires
     ev-id-requires
+    safety-control-requires
+    safety-state-requires
+    probes-requires
     returns
     returns-2
     returns-3
@@ -127,4 +151,7 @@ built-spec =
     returns-6
     returns-7
     returns-8
-    returns-9)
+    returns-9
+    returns-10
+    returns-11
+    returns-12)

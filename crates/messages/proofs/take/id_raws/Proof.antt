@@ -8,20 +8,38 @@ use Rattle.messages.proofs.take.id_raws.Tie as tie
 byte-raw-requires : tie.Need-byte-raw-requires
 byte-raw-requires c κs = search needs
 
+array-set-from-f : tie.Need-array-set-from-f
+array-set-from-f c = search needs
+
 byte-raw-requires-2 : tie.Need-byte-raw-requires-2
 byte-raw-requires-2 c κs = search needs
+
+array-set-from-f-2 : tie.Need-array-set-from-f-2
+array-set-from-f-2 c = search needs
 
 byte-raw-requires-3 : tie.Need-byte-raw-requires-3
 byte-raw-requires-3 c κs = search needs
 
+array-set-from-f-3 : tie.Need-array-set-from-f-3
+array-set-from-f-3 c = search needs
+
 byte-raw-requires-4 : tie.Need-byte-raw-requires-4
 byte-raw-requires-4 c κs = search needs
+
+array-set-from-f-4 : tie.Need-array-set-from-f-4
+array-set-from-f-4 c = search needs
 
 byte-raw-requires-5 : tie.Need-byte-raw-requires-5
 byte-raw-requires-5 c κs = search needs
 
+array-set-from-f-5 : tie.Need-array-set-from-f-5
+array-set-from-f-5 c = search needs
+
 byte-raw-requires-6 : tie.Need-byte-raw-requires-6
 byte-raw-requires-6 c κs = search needs
+
+array-set-from-f-6 : tie.Need-array-set-from-f-6
+array-set-from-f-6 c = search needs
 
 returns : tie.Need-returns
 unfolding pad
@@ -39,9 +57,15 @@ id-raws-spec =
     tie.close
     (tie.spec
     byte-raw-requires
+    array-set-from-f
     byte-raw-requires-2
+    array-set-from-f-2
     byte-raw-requires-3
+    array-set-from-f-3
     byte-raw-requires-4
+    array-set-from-f-4
     byte-raw-requires-5
+    array-set-from-f-5
     byte-raw-requires-6
+    array-set-from-f-6
     returns)

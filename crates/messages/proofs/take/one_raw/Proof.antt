@@ -1,12 +1,16 @@
 -- `messages::take::one_raw` meets its contract. Assumes nothing.
 use mir.Facts.{toZ-ofZ}
+use borrow.Author.Needs.{needs}
 use Rattle.pages.specs.Raws.{pad}
 use Rattle.messages.proofs.take.one_raw.Statement.{statement}
 use Rattle.messages.proofs.take.one_raw.Tie as tie
+
+array-set-from-f : tie.Need-array-set-from-f
+array-set-from-f c = search needs
 
 returns : tie.Need-returns
 unfolding pad
 returns c = rw (toZ-ofZ (c .fits .z))
 
 pub one-raw-spec : {M : Type 1} → statement M
-one-raw-spec = tie.close (tie.spec returns)
+one-raw-spec = tie.close (tie.spec array-set-from-f returns)

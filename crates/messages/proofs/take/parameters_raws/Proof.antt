@@ -8,14 +8,26 @@ use Rattle.messages.proofs.take.parameters_raws.Tie as tie
 word-raw-requires : tie.Need-word-raw-requires
 word-raw-requires c κs = search needs
 
+array-set-from-f : tie.Need-array-set-from-f
+array-set-from-f c = search needs
+
 word-raw-requires-2 : tie.Need-word-raw-requires-2
 word-raw-requires-2 c κs = search needs
+
+array-set-from-f-2 : tie.Need-array-set-from-f-2
+array-set-from-f-2 c = search needs
 
 word-raw-requires-3 : tie.Need-word-raw-requires-3
 word-raw-requires-3 c κs = search needs
 
+array-set-from-f-3 : tie.Need-array-set-from-f-3
+array-set-from-f-3 c = search needs
+
 short-raw-requires : tie.Need-short-raw-requires
 short-raw-requires c κs = search needs
+
+array-set-from-f-4 : tie.Need-array-set-from-f-4
+array-set-from-f-4 c = search needs
 
 returns : tie.Need-returns
 unfolding pad
@@ -29,4 +41,13 @@ returns c =
 pub parameters-raws-spec : {M : Type 1} → statement M
 parameters-raws-spec =
     tie.close
-    (tie.spec word-raw-requires word-raw-requires-2 word-raw-requires-3 short-raw-requires returns)
+    (tie.spec
+    word-raw-requires
+    array-set-from-f
+    word-raw-requires-2
+    array-set-from-f-2
+    word-raw-requires-3
+    array-set-from-f-3
+    short-raw-requires
+    array-set-from-f-4
+    returns)

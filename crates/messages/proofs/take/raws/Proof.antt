@@ -58,6 +58,24 @@ enum-known-m-9 c = search needs
 id-raws-requires : tie.Need-id-raws-requires
 id-raws-requires c κs = search needs
 
+enum-known-m-10 : tie.Need-enum-known-m-10
+enum-known-m-10 c = search needs
+
+safety-control-raws-requires : tie.Need-safety-control-raws-requires
+safety-control-raws-requires c κs = search needs
+
+enum-known-m-11 : tie.Need-enum-known-m-11
+enum-known-m-11 c = search needs
+
+safety-state-raws-requires : tie.Need-safety-state-raws-requires
+safety-state-raws-requires c κs = search needs
+
+enum-known-m-12 : tie.Need-enum-known-m-12
+enum-known-m-12 c = search needs
+
+probes-raws-requires : tie.Need-probes-raws-requires
+probes-raws-requires c κs = search needs
+
 returns : tie.Need-returns
 unfolding rawsOf
 returns c = rw (c .before .before .m .given .1) (c .status-raws .ensures)
@@ -94,6 +112,18 @@ returns-9 : tie.Need-returns-9
 unfolding rawsOf
 returns-9 c = rw (c .before .before .m9 .given .1) (c .id-raws .ensures)
 
+returns-10 : tie.Need-returns-10
+unfolding rawsOf
+returns-10 c = rw (c .before .before .m10 .given .1) (c .safety-control-raws .ensures)
+
+returns-11 : tie.Need-returns-11
+unfolding rawsOf
+returns-11 c = rw (c .before .before .m11 .given .1) (c .safety-state-raws .ensures)
+
+returns-12 : tie.Need-returns-12
+unfolding rawsOf
+returns-12 c = rw (c .before .before .m12 .given .1) (c .probes-raws .ensures)
+
 pub raws-spec : {M : Type 1} → statement M
 raws-spec =
     tie.close
@@ -116,6 +146,12 @@ raws-spec =
     stop-raws-requires
     enum-known-m-9
     id-raws-requires
+    enum-known-m-10
+    safety-control-raws-requires
+    enum-known-m-11
+    safety-state-raws-requires
+    enum-known-m-12
+    probes-raws-requires
     returns
     returns-2
     returns-3
@@ -124,4 +160,7 @@ raws-spec =
     returns-6
     returns-7
     returns-8
-    returns-9)
+    returns-9
+    returns-10
+    returns-11
+    returns-12)

@@ -11,11 +11,17 @@ protocol-number-requires c κs = search needs
 byte-raw-requires : tie.Need-byte-raw-requires
 byte-raw-requires c κs = search needs
 
+array-set-from-f : tie.Need-array-set-from-f
+array-set-from-f c = search needs
+
 plug-number-requires : tie.Need-plug-number-requires
 plug-number-requires c κs = search needs
 
 byte-raw-requires-2 : tie.Need-byte-raw-requires-2
 byte-raw-requires-2 c κs = search needs
+
+array-set-from-f-2 : tie.Need-array-set-from-f-2
+array-set-from-f-2 c = search needs
 
 returns : tie.Need-returns
 unfolding pad
@@ -31,6 +37,8 @@ session-raws-spec =
     (tie.spec
     protocol-number-requires
     byte-raw-requires
+    array-set-from-f
     plug-number-requires
     byte-raw-requires-2
+    array-set-from-f-2
     returns)

@@ -8,14 +8,26 @@ use Rattle.messages.proofs.take.status_raws.Tie as tie
 word-raw-requires : tie.Need-word-raw-requires
 word-raw-requires c κs = search needs
 
+array-set-from-f : tie.Need-array-set-from-f
+array-set-from-f c = search needs
+
 short-raw-requires : tie.Need-short-raw-requires
 short-raw-requires c κs = search needs
+
+array-set-from-f-2 : tie.Need-array-set-from-f-2
+array-set-from-f-2 c = search needs
 
 celsius-raw-requires : tie.Need-celsius-raw-requires
 celsius-raw-requires c κs = search needs
 
+array-set-from-f-3 : tie.Need-array-set-from-f-3
+array-set-from-f-3 c = search needs
+
 celsius-raw-requires-2 : tie.Need-celsius-raw-requires-2
 celsius-raw-requires-2 c κs = search needs
+
+array-set-from-f-4 : tie.Need-array-set-from-f-4
+array-set-from-f-4 c = search needs
 
 enable-number-requires : tie.Need-enable-number-requires
 enable-number-requires c κs = search needs
@@ -23,8 +35,14 @@ enable-number-requires c κs = search needs
 byte-raw-requires : tie.Need-byte-raw-requires
 byte-raw-requires c κs = search needs
 
+array-set-from-f-5 : tie.Need-array-set-from-f-5
+array-set-from-f-5 c = search needs
+
 kilohms-raw-requires : tie.Need-kilohms-raw-requires
 kilohms-raw-requires c κs = search needs
+
+array-set-from-f-6 : tie.Need-array-set-from-f-6
+array-set-from-f-6 c = search needs
 
 returns : tie.Need-returns
 unfolding pad
@@ -58,10 +76,16 @@ status-raws-spec =
     tie.close
     (tie.spec
     word-raw-requires
+    array-set-from-f
     short-raw-requires
+    array-set-from-f-2
     celsius-raw-requires
+    array-set-from-f-3
     celsius-raw-requires-2
+    array-set-from-f-4
     enable-number-requires
     byte-raw-requires
+    array-set-from-f-5
     kilohms-raw-requires
+    array-set-from-f-6
     returns)

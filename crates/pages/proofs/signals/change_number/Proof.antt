@@ -6,7 +6,7 @@ use borrow.Author.Needs.{needs}
 use Rattle.pages.specs.declared.Row.{Row}
 use Rattle.pages.specs.Table.{isSignal}
 use Rattle.pages.specs.Change.{changedRow, changedAt}
-use Rattle.pages.proofs.Rules.{found-in}
+use Rattle.pages.proofs.Firsts.{found-in}
 use Rattle.pages.proofs.signals.change_number.Statement.{statement}
 use Rattle.pages.proofs.signals.change_number.Tie as tie
 

@@ -5,9 +5,6 @@ use Rattle.pages.proofs.AtRow.{put-raw-row}
 use Rattle.pages.proofs.signals.put_raw.Statement.{statement}
 use Rattle.pages.proofs.signals.put_raw.Tie as tie
 
-lowest-bit-requires : tie.Need-lowest-bit-requires
-lowest-bit-requires c κs = search needs
-
 bits-requires : tie.Need-bits-requires
 bits-requires c κs = search needs
 
@@ -17,11 +14,10 @@ put-requires c κs = search needs
 returns : tie.Need-returns
 returns c =
     let b = c .before in
-    let l = b .before in
-    let s = l .before in
+    let s = b .before in
     c .put .ensures
-    ∙ put-raw-row (s .args .r) (s .pre .0) (s .args .z) (s .fits .z) (s .args .n) (l .lowest-bit .result) (b .bits .result)
-    (l .lowest-bit .ensures) (b .bits .ensures) (s .pre .1)
+    ∙ put-raw-row (s .args .r) (s .pre .0) (s .args .z) (s .fits .z) (s .args .n) (b .bits .result)
+    (b .bits .ensures) (s .pre .1)
 
 pub put-raw-spec : {M : Type 1} → statement M
-put-raw-spec = tie.close (tie.spec lowest-bit-requires bits-requires put-requires returns)
+put-raw-spec = tie.close (tie.spec bits-requires put-requires returns)

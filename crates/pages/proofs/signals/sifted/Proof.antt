@@ -8,7 +8,6 @@ use lib.ListN.{drop}
 use lib.Pow.{pow-pos}
 use borrow.Author.Tests.{not-true, not-false}
 use borrow.Author.Needs.{needs}
-use Rattle.signal.specs.Signal.{putOf}
 use Rattle.signal.proofs.Totals.{put-in}
 use Rattle.pages.specs.declared.Row.{Row}
 use Rattle.pages.specs.declared.Offence.{Offence}
@@ -42,9 +41,6 @@ label-holds-requires c κs = search needs
 start-bit-requires : tie.Need-start-bit-requires Inv-rows μ-rows
 start-bit-requires c κs = c .before .before .before .before .before .row-at .ensures .1
 
-lowest-bit-requires : tie.Need-lowest-bit-requires Inv-rows μ-rows
-lowest-bit-requires c κs = search needs
-
 put-requires : tie.Need-put-requires Inv-rows μ-rows
 put-requires c κs = search needs
 
@@ -64,7 +60,7 @@ held c =
 rows-again : tie.Need-rows-again Inv-rows μ-rows
 unfolding offenceOf cleared
 rows-again c =
-    let x = c .before .before in
+    let x = c .before in
     let t = x .before in
     let q = t .before .before in
     let k = q .before .before in
@@ -76,7 +72,6 @@ rows-again c =
       sym (ap (offenceOf (g .n)) e ∙ rw (held t, not-false (t .label-holds .result) (x .if3 .left))) ∙ a .rows .inv .0,
       ap (cleared (block (g .kind) (drop (a .rows .i + 1) rows)))
           (c .put .ensures
-          ∙ ap (λ (s : ℕ). putOf (a .rows .rest) s (r .width) 0) (c .before .lowest-bit .ensures)
           ∙ put-in (a .rows .rest) (lowest r) (r .width) 0 (f .0) (f .2) (pow-pos (r .width)))
           ∙ sym (ap (λ (l : List Row). cleared l (a .rows .rest)) e)
           ∙ a .rows .inv .1,
@@ -130,7 +125,6 @@ sifted-spec =
     signal-bits-requires
     label-holds-requires
     start-bit-requires
-    lowest-bit-requires
     put-requires
     add-i
     rows-less

@@ -1,0 +1,48 @@
+-- `pages::safety::row_at` meets its contract: arm k hands out row k.
+use mathlib.Core.Path.{_≡_}
+use Prim.Native.Nat.{ℕ, _≤_, _<_}
+use native.Mathlib.Omega.{arith}
+use Rattle.pages.specs.Safety.{safetyCount, safetyRows}
+use Rattle.pages.proofs.Keys.{at-key, past-keys}
+use Rattle.pages.proofs.safety.row_at.Statement.{statement}
+use Rattle.pages.proofs.safety.row_at.Tie as tie
+
+last : (i : ℕ) → 30 ≤ i → i < safetyCount → i ≡ 30
+last i low high = omega arith
+
+pub row-at-spec : {M : Type 1} → statement M
+unfolding safetyRows
+row-at-spec =
+    tie.close
+    (tie.spec
+    (λ c. at-key safetyRows 0 (c .match .keys1))
+    (λ c. at-key safetyRows 1 (c .match .keys2))
+    (λ c. at-key safetyRows 2 (c .match .keys3))
+    (λ c. at-key safetyRows 3 (c .match .keys4))
+    (λ c. at-key safetyRows 4 (c .match .keys5))
+    (λ c. at-key safetyRows 5 (c .match .keys6))
+    (λ c. at-key safetyRows 6 (c .match .keys7))
+    (λ c. at-key safetyRows 7 (c .match .keys8))
+    (λ c. at-key safetyRows 8 (c .match .keys9))
+    (λ c. at-key safetyRows 9 (c .match .keys10))
+    (λ c. at-key safetyRows 10 (c .match .keys11))
+    (λ c. at-key safetyRows 11 (c .match .keys12))
+    (λ c. at-key safetyRows 12 (c .match .keys13))
+    (λ c. at-key safetyRows 13 (c .match .keys14))
+    (λ c. at-key safetyRows 14 (c .match .keys15))
+    (λ c. at-key safetyRows 15 (c .match .keys16))
+    (λ c. at-key safetyRows 16 (c .match .keys17))
+    (λ c. at-key safetyRows 17 (c .match .keys18))
+    (λ c. at-key safetyRows 18 (c .match .keys19))
+    (λ c. at-key safetyRows 19 (c .match .keys20))
+    (λ c. at-key safetyRows 20 (c .match .keys21))
+    (λ c. at-key safetyRows 21 (c .match .keys22))
+    (λ c. at-key safetyRows 22 (c .match .keys23))
+    (λ c. at-key safetyRows 23 (c .match .keys24))
+    (λ c. at-key safetyRows 24 (c .match .keys25))
+    (λ c. at-key safetyRows 25 (c .match .keys26))
+    (λ c. at-key safetyRows 26 (c .match .keys27))
+    (λ c. at-key safetyRows 27 (c .match .keys28))
+    (λ c. at-key safetyRows 28 (c .match .keys29))
+    (λ c. at-key safetyRows 29 (c .match .keys30))
+    (λ c. let i = c .before .args .i in at-key safetyRows 30 (last i (past-keys 30 i (c .match .rest)) (c .before .pre))))
