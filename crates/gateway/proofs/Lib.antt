@@ -20,6 +20,7 @@ pub mod OnePost
 pub mod Params
 pub mod Posts
 pub mod Same
+pub mod Screens
 pub mod Thin
 pub mod Ways
 pub mod WordLaws

@@ -10,11 +10,13 @@ use lib.ListN.{length, getD, drop, replicate, getD-replicate}
 use lib.Seq.{drop-at}
 use borrow.Author.Tests.{leb-true}
 use Rattle.signal.specs.Payload.{Bytes, bytesOf}
-use Rattle.signal.proofs.Bytes.{length-bytes}
+use Rattle.signal.proofs.Orders.{length-of}
 use Rattle.pages.specs.declared.Judged.the-variants.{Frame}
 use Rattle.pages.specs.declared.Refusal.the-variants.{UnknownIdentifier, ShortBuffer}
 use Rattle.pages.specs.Judge.{judgeOf}
-use Rattle.pages.specs.Table.{rows, ofKind, lengthOf}
+use Rattle.pages.specs.Charger.{chargerRows}
+use Rattle.pages.specs.Safety.{safetyRows}
+use Rattle.pages.specs.Table.{rows, ofKind, lengthOf, bigOf}
 use Rattle.pages.proofs.Rules.{short-length}
 use Rattle.pages.proofs.Trips.{accepted, raws-back}
 use Rattle.post.specs.declared.Dated.the-variants as dated
@@ -93,7 +95,7 @@ latest-refused t i k times buf l =
     (rw e, rw e)
 
 handed-behind : (b : Bool) (k : ℕ) (l : Slot) (times buf : List ℕ) → (drop 1 (timeLeft b l times) ≡ drop 1 times) × (drop (lengthOf k) (bytesLeft b k l buf) ≡ drop (lengthOf k) buf)
-handed-behind true k l times buf = (refl, drop-at (bytesOf (lengthOf k) (l .raw)) (drop (lengthOf k) buf) (lengthOf k) (length-bytes (lengthOf k) (l .raw)))
+handed-behind true k l times buf = (refl, drop-at (bytesOf (bigOf k) (lengthOf k) (l .raw)) (drop (lengthOf k) buf) (lengthOf k) (length-of (bigOf k) (lengthOf k) (l .raw)))
 handed-behind false k l times buf = (refl, refl)
 
 pub latest-kept : (t : Table) (i k : ℕ) (times buf : List ℕ)
@@ -103,7 +105,7 @@ latest-kept t i k times buf = handed-behind (handsOut t i k times buf) k (keptOf
 
 -- a kind has bytes, so that 0 says that no frame was accepted
 lengths : map (λ k. leb 1 (lengthOf k)) (countFrom 0 kindCount) ≡ replicate kindCount true
-unfolding lengthOf ofKind rows
+unfolding lengthOf ofKind rows chargerRows safetyRows
 lengths = refl
 
 pub some-bytes : (k : ℕ) → k < kindCount → 1 ≤ lengthOf k

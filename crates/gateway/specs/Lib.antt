@@ -4,3 +4,4 @@ pub mod One
 pub mod Plain
 pub mod LookUp
 pub mod Night
+pub mod Screen

@@ -6,7 +6,7 @@ use lib.Dec.{ltb, leb}
 use lib.ListN.{length, getD, drop}
 use Rattle.signal.specs.Payload.{bytesOf}
 use Rattle.pages.specs.declared.Refusal.the-variants.{UnknownIdentifier, ShortBuffer}
-use Rattle.pages.specs.Table.{lengthOf}
+use Rattle.pages.specs.Table.{lengthOf, bigOf}
 use Rattle.messages.specs.Labels.{protocolNumber, plugNumber}
 use Rattle.post.specs.declared.LastTime.{LastTime}
 use Rattle.post.specs.declared.LastTime.the-variants as last
@@ -58,7 +58,7 @@ lookUpWord t i ns = lookedWord (lookUpOf t i .answer) (length ns)
 unfoldable pub numbersAfter : Table → ℕ → List ℕ → List ℕ
 numbersAfter t i ns = numbersLeft (lookUpOf t i .answer) (lookUpOf t i .shown) ns
 
--- ---- the latest frame of a kind: its time, and its bytes as they came
+-- ---- the latest frame of a kind: its time, and its bytes as they came, in the message's byte order
 
 -- what the post i keeps of the kind k
 abbrev pub keptOf : Table → ℕ → ℕ → Slot
@@ -86,7 +86,7 @@ abbrev pub timeLeft : Bool → Slot → List ℕ → List ℕ
 timeLeft b l times = cond b (l .time ∷ drop 1 times) times
 
 abbrev pub bytesLeft : Bool → ℕ → Slot → List ℕ → List ℕ
-bytesLeft b k l buf = cond b (bytesOf (lengthOf k) (l .raw) ++ drop (lengthOf k) buf) buf
+bytesLeft b k l buf = cond b (bytesOf (bigOf k) (lengthOf k) (l .raw) ++ drop (lengthOf k) buf) buf
 
 abbrev pub handsOut : Table → ℕ → ℕ → List ℕ → List ℕ → Bool
 handsOut t i k times buf = hands (lookUpOf t i .answer) k (keptOf t i k) (length times) (length buf)

@@ -13,6 +13,7 @@ ghost use Rattle.gateway.specs.One.{somePlace, frameOn, tickOn};
 pub mod plain; // plain.rt: reading, writing and changing frames in numbers and bytes
 pub mod look; // look.rt: a post's numbers, and the latest frame of a kind
 pub mod night; // night.rt: records of the night log, written and read
+pub mod screen; // screen.rt: probes and a duty for the service screen
 
 use pages::Judged;
 use pages::Refusal;

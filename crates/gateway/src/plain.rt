@@ -11,31 +11,34 @@ use pages::Judged;
 use pages::Refusal;
 use pages::Written;
 
-fn store_raws(raws: &mut [i64], zs: [i64; 8])
+// The places that a message's raw numbers have, as in `pages::raws_of`.
+const SIGNALS: usize = 16;
+
+fn store_raws(raws: &mut [i64], zs: [i64; SIGNALS])
     requires { ⌜ signalCount ≤ length (now raws) ⌝ }
     ensures { λ _. ⌜ now (raws .exit) ≡ zs ++ drop signalCount (now (raws .entry)) ⌝ }
 {
     let mut j: usize = 0;
-    while j < 8 {
+    while j < SIGNALS {
         raws[j] = zs[j];
         j += 1;
     }
 }
 
-fn load_raws(raws: &[i64]) -> [i64; 8]
+fn load_raws(raws: &[i64]) -> [i64; SIGNALS]
     requires { ⌜ signalCount ≤ length (now raws) ⌝ }
     ensures { λ r. ⌜ r ≡ take signalCount (now (raws .entry)) ⌝ }
 {
-    let mut zs = [0i64; 8];
+    let mut zs = [0i64; SIGNALS];
     let mut j: usize = 0;
-    while j < 8 {
+    while j < SIGNALS {
         zs[j] = raws[j];
         j += 1;
     }
     zs
 }
 
-// The kind of a frame, and its signals' raw numbers in the first 8 places of raws, zeros behind them.
+// The kind of a frame, and its signals' raw numbers in the first 16 places of raws, zeros behind them.
 #[no_mangle]
 pub extern "C" fn rokemaipu_read(id: u32, extended: bool, payload: &[u8], raws: &mut [i64]) -> u32
     ensures { λ r. ⌜ (r ≡ readWord id extended (now (payload .entry)) (now (raws .entry)))
@@ -44,7 +47,7 @@ pub extern "C" fn rokemaipu_read(id: u32, extended: bool, payload: &[u8], raws: 
     let j = pages::judge(id, extended, payload);
     match j {
         Judged::Frame(kind, n) => {
-            if raws.len() < 8 {
+            if raws.len() < SIGNALS {
                 return refusal_word(Refusal::ShortBuffer);
             }
             store_raws(raws, pages::raws_of(kind, n));
@@ -60,7 +63,7 @@ pub extern "C" fn rokemaipu_write(kind: u32, raws: &[i64], buf: &mut [u8]) -> u3
     ensures { λ r. ⌜ (r ≡ writeWord kind (now (raws .entry)) (now (buf .entry)))
         × (now (buf .exit) ≡ bufferLeft kind (now (raws .entry)) (now (buf .entry))) ⌝ }
 {
-    if raws.len() < 8 {
+    if raws.len() < SIGNALS {
         return refusal_word(Refusal::NoRawNumber);
     }
     let zs = load_raws(raws);

@@ -6,7 +6,7 @@ use mathlib.Core.Bool.{false}
 use mathlib.Core.Option.{none}
 use borrow.Author.Tests.{ne-eqb}
 use lib.Dec.{eqb}
-use Rattle.messages.specs.Parts.{statusKind, sessionKind, controlKind, finishedKind}
+use Rattle.messages.specs.KindNumbers.{statusKind, sessionKind, controlKind, finishedKind, safetyControlKind}
 use Rattle.post.specs.declared.PlainLimits.{PlainLimits}
 use Rattle.post.specs.History.{Event, frame, History, ofKind}
 use Rattle.post.specs.Judgements.{bit}
@@ -37,15 +37,15 @@ module _ (lim : PlainLimits) (h : History) (e : Event) (un : Unasked e) where
   unfolding findings01
   only-f1-f2 = omega (arith, no-bits)
 
--- the kinds behind the nine of the base: 9 ChargeControl1, 10 ChargeState1, 11 PT1000State
-pub behind-the-base : (t k raw : ℕ) → 9 ≤ k → Unasked (frame t k raw)
-behind-the-base t k raw l =
+-- the kinds behind those of the charger: ChargeControl1, ChargeState1 and PT1000State
+pub behind-the-charger : (t k raw : ℕ) → safetyControlKind ≤ k → Unasked (frame t k raw)
+behind-the-charger t k raw l =
     unasked-frame t k raw
     (ne-eqb k statusKind (λ e. omega arith))
     (ne-eqb k sessionKind (λ e. omega arith))
     (ne-eqb k controlKind (λ e. omega arith))
     (ne-eqb k finishedKind (λ e. omega arith))
 
-pub safety-frames : (lim : PlainLimits) (h : History) (t k raw : ℕ) → 9 ≤ k
+pub safety-frames : (lim : PlainLimits) (h : History) (t k raw : ℕ) → safetyControlKind ≤ k
     → findings01 lim h (frame t k raw) ≡ bit (f1 lim h (frame t k raw)) 1 + bit (f2 h (frame t k raw)) 2
-safety-frames lim h t k raw l = only-f1-f2 lim h (frame t k raw) (behind-the-base t k raw l)
+safety-frames lim h t k raw l = only-f1-f2 lim h (frame t k raw) (behind-the-charger t k raw l)

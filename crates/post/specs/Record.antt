@@ -5,6 +5,7 @@ use Prim.Native.Nat.{ℕ}
 use mathlib.Core.List.{List, [], _∷_, map}
 use mathlib.Core.Bool.{Bool, true, false}
 use mathlib.Core.Option.{Option, none, some}
+pub use Rattle.messages.specs.KindNumbers.{kindCount}
 use Rattle.messages.specs.Parts.{statusKind, controlKind, sessionIn}
 use Rattle.messages.specs.Read.{messageOf}
 use Rattle.post.specs.declared.Slot.{Slot}
@@ -22,9 +23,6 @@ use Rattle.post.specs.declared.Record.{Record}
 use Rattle.post.specs.History.{History, timeOf, newest, ofKind, opening, countFrom}
 use Rattle.post.specs.Sensor.{limitsOf}
 use Rattle.post.specs.Rules.{sessionStatus, sessionControl}
-
-abbrev pub kindCount : ℕ
-kindCount = 12
 
 -- ---- as it is handed out
 

@@ -4,6 +4,7 @@ use mathlib.Core.Bool.{Bool, true, false, cond}
 use lib.Dec.{eqb}
 use lib.IntN.{ℤ, pos, negsuc}
 use lib.Ieee.{Float, binary32, round}
+use Rattle.messages.specs.declared.Pt1000State.{Pt1000State}
 use Rattle.service.specs.declared.Probe.{Probe}
 use Rattle.service.specs.declared.Probe.the-variants.{NotUsed, Degrees}
 use Rattle.service.specs.declared.Screen.{Screen}
@@ -22,5 +23,6 @@ isUnused (negsuc n) = false
 unfoldable pub probeOf : ℤ → Probe
 probeOf z = cond (isUnused z) NotUsed (Degrees (degreesOf z))
 
-abbrev pub screenOf : ℤ → ℤ → ℤ → ℤ → Screen
-screenOf a b c d = record { probe1 = probeOf a; probe2 = probeOf b; probe3 = probeOf c; probe4 = probeOf d }
+abbrev pub screenOf : Pt1000State → Screen
+screenOf s =
+    record { probe1 = probeOf (s .temperature1); probe2 = probeOf (s .temperature2); probe3 = probeOf (s .temperature3); probe4 = probeOf (s .temperature4) }

@@ -3,6 +3,7 @@ ghost use mathlib.Core.Path.{_≡_};
 ghost use lib.Ieee.{binary32, toBits};
 ghost use Rattle.service.specs.Probes.{degreesOf, probeOf, screenOf};
 ghost use Rattle.service.specs.Duty.{limitedDuty};
+use messages::Pt1000State;
 
 // One of 004's four PT1000 channels. 02: "a probe reading is either degrees as a float or not used"
 pub enum Probe {
@@ -33,13 +34,13 @@ pub fn probe_of(raw: i16) -> Probe
     Probe::Degrees(degrees(raw))
 }
 
-pub fn screen_of(t1: i16, t2: i16, t3: i16, t4: i16) -> Screen
-    ensures { λ r. ⌜ r ≡ screenOf t1 t2 t3 t4 ⌝ }
+pub fn screen_of(s: Pt1000State) -> Screen
+    ensures { λ r. ⌜ r ≡ screenOf s ⌝ }
 {
-    let probe1 = probe_of(t1);
-    let probe2 = probe_of(t2);
-    let probe3 = probe_of(t3);
-    let probe4 = probe_of(t4);
+    let probe1 = probe_of(s.temperature1);
+    let probe2 = probe_of(s.temperature2);
+    let probe3 = probe_of(s.temperature3);
+    let probe4 = probe_of(s.temperature4);
     Screen {
         probe1,
         probe2,

@@ -1,20 +1,31 @@
--- 01, "Readings from both sides of each edge": E1* to E13*, and 02, Req 02 and 03: one table under one statement, closed by computing the definitions. What the watch answers is read by looking back.
+-- 01, "Readings from both sides of each edge": E1* to E13*, and 02, Req 02 to 04: one table under one statement, closed by computing the definitions. What the watch answers is read by looking back.
 use Prim.Native.Nat.{ℕ}
 use mathlib.Core.Path.{_≡_, refl}
 use mathlib.Core.Bool.{Bool, true, false}
 use mathlib.Core.List.{List, [], _∷_}
-use Rattle.pages.specs.declared.Refusal.the-variants.{TooShort, TooLong, NoLabel, ChannelTaken, LimitOutside}
+use lib.IntN.{pos, negsuc}
+use lib.ListN.{getD}
+use Rattle.pages.specs.declared.Refusal.the-variants.{UnknownIdentifier, TooShort, TooLong, NoLabel, UncoveredBit, ChannelTaken, LimitOutside}
+use Rattle.pages.specs.Charger.{chargerRows}
+use Rattle.pages.specs.Safety.{safetyRows}
 use Rattle.pages.specs.Table.{rows, ofKind, firstAt, covered}
 use Rattle.pages.specs.Judge.{unlabelled, offender, strayBelow, judgedNumber, judgeOf}
 use Rattle.pages.specs.Raws.{wholesOf, pad, rawsOf}
 use Rattle.signal.specs.Signal.{getBits}
-use Rattle.signal.specs.Payload.{numberOf}
+use Rattle.signal.specs.Payload.{leNumber, beNumber}
 use Rattle.signal.specs.Twos.{toSigned}
+use Rattle.messages.specs.declared.CpState.the-variants as cp
+use Rattle.messages.specs.declared.PpState.the-variants as pp
+use Rattle.messages.specs.declared.Message.the-variants.{SafetyState, Probes}
+use Rattle.messages.specs.KindNumbers.{safetyStateKind, probesKind}
 use Rattle.messages.specs.Parts.{statusIn, parametersIn, sessionIn, controlIn}
+use Rattle.messages.specs.Read.{messageOf, builtOf}
 use Rattle.messages.specs.Readings as messages
 use Rattle.post.specs.declared.PlainLimits.{PlainLimits}
 use Rattle.post.specs.declared.Sensor.{Sensor}
 use Rattle.post.specs.declared.Sensor.the-variants.{Measuring, YesNo}
+use Rattle.post.specs.declared.Dated.{Dated}
+use Rattle.post.specs.declared.Dated.the-variants as dated
 use Rattle.post.specs.History.{sinceFinished, opening, inSession, earlierIn}
 use Rattle.post.specs.Judgements.{lowersBadly, outside, leaking, badInsulation, differs}
 use Rattle.post.specs.Rules.{sessionStatus, sessionControl, limitOf, f1, f2, f3, f4, f5, f6, f7, f8, f9, f10, f11, findings01}
@@ -26,18 +37,20 @@ use Rattle.watch.specs.Table.{limitsFit}
 use Rattle.watch.specs.Steps.{standing, findFrom, holder, otherHolds, feed01, setUp01, release01, lookUp01, feedSteps, setUpSteps, releaseSteps}
 use Rattle.watch.specs.Run.{Request, setUp, release, frame, tick, Reply, set, fed, acceptedFrom, replies01From}
 
--- a reading of frames and messages (E1 to E7); requests to the empty table in order of arrival, with their replies; such requests, and a post's record after them, or the sensor kind in it
+-- a reading of frames and messages (E1 to E7); requests to the empty table in order of arrival, with their replies; such requests, and a post's record after them, or the sensor kind in it, or its latest message of a kind
 pub data Case : Type 0 where
   codec : messages.Case → Case
   answers : List Request → List Reply → Case
   shows : List Request → ℕ → LookedUp → Case
   senses : List Request → ℕ → Sensor → Case
+  keeps : List Request → ℕ → ℕ → Dated → Case
 
 abbrev pub Holds : Case → Type 0
 Holds (codec c) = messages.Holds c
 Holds (answers asked replies) = replies01From [] asked ≡ replies
 Holds (shows asked post shown) = lookUp01 (acceptedFrom [] asked) post ≡ shown
 Holds (senses asked post sensor) = lookUp01 (acceptedFrom [] asked) post .shown .limits .sensor ≡ sensor
+Holds (keeps asked post kind latest) = getD (lookUp01 (acceptedFrom [] asked) post .shown .latest) kind (record { message = dated.Nothing }) .message ≡ latest
 
 abbrev pub All : List Case → Type 0
 All [] = Unit {0}
@@ -72,6 +85,16 @@ session t = frame 4 t 0x6b001 true (2 ∷ 1 ∷ [])
 
 abbrev control : ℕ → ℕ → ℕ → ℕ → Request
 control t low high last = frame 4 t 0x6b003 true (low ∷ high ∷ 0 ∷ 0 ∷ 0 ∷ 0 ∷ last ∷ [])
+
+-- frames of the safety controller on channel 4, each with 53.3 % and PWM active or -10.0 °C: ChargeControl1 and ChargeState1 with both contactors closed, PT1000State
+abbrev safetyControl : ℕ → Request
+safetyControl t = frame 4 t 6 false (0x82 ∷ 0x15 ∷ 3 ∷ 0 ∷ 0 ∷ 0 ∷ 0 ∷ 0 ∷ [])
+
+abbrev safetyState : ℕ → Request
+safetyState t = frame 4 t 7 false (0x82 ∷ 0x15 ∷ 3 ∷ 3 ∷ 3 ∷ 0 ∷ 0 ∷ 0 ∷ [])
+
+abbrev probes : ℕ → Request
+probes t = frame 4 t 8 false (0xFE ∷ 0x70 ∷ 0x7F ∷ 0xFC ∷ 0 ∷ 0 ∷ 0 ∷ 0 ∷ [])
 
 abbrev set-up : Request
 set-up = setUp 0 4 limits
@@ -118,6 +141,51 @@ e8to13 =
     -- the record shows the kind of the latest set-up
     ∷ senses (sensing 0 ∷ sensing 1 ∷ []) 0 YesNo
     ∷ senses (sensing 1 ∷ sensing 0 ∷ []) 0 Measuring
+    -- 02, Req 04: the safety controller's frames "raise only F1 and F2": nothing with no session open, though contactors are closed; F2 with a late controller; F1 in a silent session
+    ∷ answers (set-up ∷ safetyControl 0 ∷ safetyState 10 ∷ probes 20 ∷ []) (done ∷ found 0 ∷ found 0 ∷ found 0 ∷ [])
+    ∷ answers (set-up ∷ controller 1000 ∷ safetyState 1200 ∷ safetyControl 1201 ∷ safetyState 1201 ∷ probes 1201 ∷ []) (done ∷ found 0 ∷ found 0 ∷ found 2 ∷ found 2 ∷ found 2 ∷ [])
+    ∷ answers (set-up ∷ session 0 ∷ safetyState 500 ∷ safetyControl 501 ∷ safetyState 501 ∷ probes 501 ∷ []) (done ∷ found 0 ∷ found 0 ∷ found 1 ∷ found 1 ∷ found 1 ∷ [])
+    -- a standard 9 and an extended 7 get 3, a bit that no signal covers 6
+    ∷ answers (set-up ∷ frame 4 0 9 false (0x82 ∷ 0x15 ∷ 0 ∷ 0 ∷ 0 ∷ 0 ∷ 0 ∷ 0 ∷ []) ∷ frame 4 0 7 true (0x82 ∷ 0x15 ∷ 3 ∷ 3 ∷ 3 ∷ 0 ∷ 0 ∷ 0 ∷ []) ∷ frame 4 0 7 false (0x82 ∷ 0x15 ∷ 3 ∷ 3 ∷ 3 ∷ 0 ∷ 0 ∷ 1 ∷ []) ∷ [])
+    (done ∷ fed (Refused UnknownIdentifier) ∷ fed (Refused UnknownIdentifier) ∷ fed (Refused UncoveredBit) ∷ [])
+    -- the record shows each under its kind
+    ∷ keeps (set-up ∷ safetyState 10 ∷ probes 20 ∷ []) 0 safetyStateKind
+    (dated.At 10
+    (SafetyState
+    (record {
+      duty = 533;
+      pwm = true;
+      cp = cp.C;
+      short = false;
+      diode = false;
+      pp = pp.Amps32;
+      contactor1 = true;
+      contactor2 = true;
+      error1 = false;
+      error2 = false;
+      estop1 = false;
+      estop2 = false;
+      estop3 = false;
+      imdabort = false;
+      imdfailure = false;
+    })))
+    ∷ keeps (set-up ∷ safetyState 10 ∷ probes 20 ∷ []) 0 probesKind
+    (dated.At 20
+    (Probes
+    (record {
+      temperature1 = negsuc 99;
+      stopped1 = false;
+      failed1 = false;
+      temperature2 = pos 0x1FFF;
+      stopped2 = false;
+      failed2 = false;
+      temperature3 = pos 0;
+      stopped3 = false;
+      failed3 = false;
+      temperature4 = pos 0;
+      stopped4 = false;
+      failed4 = false;
+    })))
     ∷ []
 
 abbrev pub table : List Case
@@ -129,5 +197,5 @@ joined [] rest a b = b
 joined (c ∷ cs) rest a b = (a .0, joined cs rest (a .1) b)
 
 pub readings : All table
-unfolding standing findFrom holder otherHolds feed01 setUp01 release01 lookUp01 feedSteps setUpSteps releaseSteps limitsFit sinceFinished opening inSession earlierIn lowersBadly outside leaking badInsulation differs sessionStatus sessionControl limitOf f1 f2 f3 f4 f5 f6 f7 f8 f9 f10 f11 findings01 recordOf statusIn parametersIn sessionIn controlIn rows ofKind firstAt covered unlabelled offender strayBelow judgedNumber judgeOf wholesOf pad rawsOf getBits numberOf toSigned
-readings = joined messages.table e8to13 messages.readings (refl, (refl, (refl, (refl, (refl, (refl, (refl, (refl, (refl, (refl, (refl, (refl, (refl, (refl, (refl, (refl, tt))))))))))))))))
+unfolding standing findFrom holder otherHolds feed01 setUp01 release01 lookUp01 feedSteps setUpSteps releaseSteps limitsFit sinceFinished opening inSession earlierIn lowersBadly outside leaking badInsulation differs sessionStatus sessionControl limitOf f1 f2 f3 f4 f5 f6 f7 f8 f9 f10 f11 findings01 recordOf messageOf builtOf statusIn parametersIn sessionIn controlIn rows chargerRows safetyRows ofKind firstAt covered unlabelled offender strayBelow judgedNumber judgeOf wholesOf pad rawsOf getBits leNumber beNumber toSigned
+readings = joined messages.table e8to13 messages.readings (refl, (refl, (refl, (refl, (refl, (refl, (refl, (refl, (refl, (refl, (refl, (refl, (refl, (refl, (refl, (refl, (refl, (refl, (refl, (refl, (refl, (refl, tt))))))))))))))))))))))

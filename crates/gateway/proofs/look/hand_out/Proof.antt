@@ -3,15 +3,16 @@ use borrow.Author.Needs.{needs}
 use borrow.Author.Tests.{not-true, not-false, le-leb, lt-leb}
 use native.Mathlib.Omega.{arith}
 use native.Mathlib.Nat.{not-suc-le-zero}
-use mathlib.Core.Path.{_≡_, refl, ap, _∙_}
+use mathlib.Core.Path.{_≡_, refl, ap₂, _∙_}
 use mathlib.Core.Bool.{Bool, true, false, cond, _&&_}
-use mathlib.Core.List.{List, [], _∷_, _++_}
+use mathlib.Core.List.{List, [], _∷_}
 use Prim.Native.Nat.{ℕ, _≤_}
 use lib.Dec.{leb}
 use lib.ListN.{length, drop, set}
-use Rattle.signal.specs.Payload.{bytesOf, storedIn}
+use Rattle.signal.specs.Payload.{storedIn}
+use Rattle.signal.proofs.Totals.{stored-in}
 use Rattle.pages.specs.declared.Refusal.the-variants.{ShortBuffer}
-use Rattle.pages.specs.Table.{lengthOf}
+use Rattle.pages.specs.Table.{lengthOf, bigOf}
 use Rattle.pages.proofs.Rules.{short-length}
 use Rattle.post.specs.declared.Slot.{Slot}
 use Rattle.gateway.specs.Words.{refusalWord}
@@ -34,11 +35,6 @@ ends l k times buf b p q e f g = (rw (e, f, g), rw (e, f, g), rw (e, f, g))
 set-first : (xs : List ℕ) (x : ℕ) → 1 ≤ length xs → set xs 0 x ≡ x ∷ drop 1 xs
 set-first [] x l = absurd (not-suc-le-zero l)
 set-first (y ∷ ys) x l = refl
-
--- stored where there is room
-stored : (k n : ℕ) (buf : List ℕ) → k ≤ length buf → storedIn k n buf ≡ bytesOf k n ++ drop k buf
-unfolding storedIn
-stored k n buf l = rw (le-leb k (length buf) l)
 
 returns : tie.Need-returns
 returns c =
@@ -73,12 +69,15 @@ returns-3 c =
 slice-write-time : tie.Need-slice-write-time
 slice-write-time c = search needs
 
+is-big-requires : tie.Need-is-big-requires
+is-big-requires c κs = search needs
+
 store-requires : tie.Need-store-requires
 store-requires c κs = search needs
 
 cast-result : tie.Need-cast-result
 cast-result c =
-    let n = c .before .before .before .before .before in
+    let n = c .before .before .before .before .before .before in
     record { fits = omega (arith, n .length-of .ensures, short-length (n .before .before .before .before .before .before .args .kind)) }
 
 same-length : tie.Need-same-length
@@ -90,7 +89,8 @@ same-length-2 c = search needs
 returns-4 : tie.Need-returns-4
 returns-4 c =
     let w = c .before .before in
-    let room = w .before .before in
+    let big = w .before .before in
+    let room = big .before in
     let n = room .before in
     let r = n .before in
     let s = r .before in
@@ -99,7 +99,10 @@ returns-4 c =
     let e = ends (a .l) (a .kind) (a .time .now) (a .buf .now) true true true (not-false (a .l .known) (s .if1 .left)) (le-leb _ _ (r .if2 .left)) (le-leb _ _ long) in (
       n .length-of .ensures ∙ e .0,
       set-first (a .time .now) (a .l .time) (r .if2 .left) ∙ e .1,
-      w .store .ensures ∙ ap (λ (len : ℕ). storedIn len (a .l .raw) (a .buf .now)) (n .length-of .ensures) ∙ stored (lengthOf (a .kind)) (a .l .raw) (a .buf .now) long ∙ e .2,
+      w .store .ensures
+          ∙ ap₂ (λ (b : Bool) (len : ℕ). storedIn b len (a .l .raw) (a .buf .now)) (big .is-big .ensures) (n .length-of .ensures)
+          ∙ stored-in (bigOf (a .kind)) (lengthOf (a .kind)) (a .l .raw) (a .buf .now) long
+          ∙ e .2,
     )
 
 pub hand-out-spec : {M : Type 1} → statement M
@@ -113,6 +116,7 @@ hand-out-spec =
     refusal-word-requires-2
     returns-3
     slice-write-time
+    is-big-requires
     store-requires
     cast-result
     same-length
