@@ -1,5 +1,6 @@
 // The steps on a frame by itself: read, change, write.
 use crate::message;
+use crate::message::MOST;
 use crate::message::Values;
 use crate::values;
 use crate::values::Made;
@@ -11,6 +12,7 @@ use notation::fields::Head;
 use pages::Judged;
 use pages::Refusal;
 use pages::Written;
+use post::KINDS;
 use text::Bytes;
 use text::Field;
 use text::Pen;
@@ -125,7 +127,7 @@ fn no_order() -> Order {
         extended: false,
         values: Values {
             count: 0,
-            all: [0; 8],
+            all: [0; MOST],
         },
         length: 0,
     }
@@ -167,7 +169,7 @@ pub fn write(s: &[u8], at: usize, room: &mut [u8], out: &mut [u8], pen: Pen) -> 
 }
 
 fn ordered(kind: usize, v: Values, buf: &mut [u8], out: &mut [u8], pen: Pen) -> Pen {
-    if 9 <= kind {
+    if KINDS <= kind {
         return text::put(out, pen, b"X\n");
     }
     if v.count != values::count_of(kind) {

@@ -8,6 +8,7 @@ mod words; // words.rt: findings and refusals in words
 mod watching; // watching.rt: the steps on the table
 mod codec; // codec.rt: the steps on a frame by itself
 mod logging; // logging.rt: the steps of the night log
+mod screen; // screen.rt: the steps of the service screen
 mod step; // step.rt: a line and its answer
 mod paper; // paper.rt: the output buffer
 

@@ -6,6 +6,7 @@ use messages::labels::plug_number;
 use messages::labels::protocol_number;
 use notation::answer::named;
 use post::Dated;
+use post::KINDS;
 use post::LastTime;
 use post::Limits;
 use post::OpenSession;
@@ -80,38 +81,59 @@ fn is_known(d: Dated) -> bool {
     }
 }
 
-// The kinds stand in the order of their identifiers.
+// What is listed of the latest messages, and whether there is one.
+struct Listed {
+    pen: Pen,
+    some: bool,
+}
+
+// desk.md: "standard identifiers first, then extended, each ascending by identifier"; so the kinds of each form stand.
 fn put_latest(out: &mut [u8], pen: Pen, r: Record) -> Pen {
-    let mut p = pen;
-    let mut some = false;
+    let none = Listed { pen, some: false };
+    let standard = put_form(out, none, r, false);
+    let all = put_form(out, standard, r, true);
+    put_none(out, all)
+}
+
+fn put_form(out: &mut [u8], listed: Listed, r: Record, extended: bool) -> Listed {
+    let mut l = listed;
     let mut k = 0;
-    while k < 9 {
-        let l = r.latest[k];
-        let d = l.message;
-        p = put_next(out, p, some, d);
-        some = either(some, is_known(d));
+    while k < KINDS {
+        let latest = r.latest[k];
+        let d = latest.message;
+        let is_in = pages::is_extended(k) == extended;
+        l = put_next(out, l, is_in, d);
         k += 1;
     }
-    put_none(out, p, some)
+    l
 }
 
-fn either(a: bool, b: bool) -> bool {
-    if a { true } else { b }
-}
-
-// A known one, with `;` before all but the first.
-fn put_next(out: &mut [u8], pen: Pen, some: bool, d: Dated) -> Pen {
-    if !is_known(d) {
-        return pen;
+// A known one of the form.
+fn put_next(out: &mut [u8], listed: Listed, is_in: bool, d: Dated) -> Listed {
+    if !is_in {
+        return listed;
     }
+    if !is_known(d) {
+        return listed;
+    }
+    let pen = listed.pen;
+    Listed {
+        pen: put_listed(out, pen, listed.some, d),
+        some: true,
+    }
+}
+
+// With `;` before all but the first.
+fn put_listed(out: &mut [u8], pen: Pen, some: bool, d: Dated) -> Pen {
     if some {
         return put_part(out, pen, b";", d);
     }
     put_dated(out, pen, d)
 }
 
-fn put_none(out: &mut [u8], pen: Pen, some: bool) -> Pen {
-    if some {
+fn put_none(out: &mut [u8], listed: Listed) -> Pen {
+    let pen = listed.pen;
+    if listed.some {
         return pen;
     }
     text::put(out, pen, b"-")

@@ -1,6 +1,7 @@
 // A line of a script, and its answer.
 use crate::codec;
 use crate::logging;
+use crate::screen;
 use crate::watching;
 use crate::words;
 use notation::answer;
@@ -77,6 +78,12 @@ fn shown(
     }
     if check::same(word, b"logr") {
         return logging::read(s, at, room, out, pen);
+    }
+    if check::same(word, b"probe") {
+        return screen::probe(s, at, out, pen);
+    }
+    if check::same(word, b"duty") {
+        return screen::duty(s, at, out, pen);
     }
     if check::same(word, b"explain") {
         return words::explain(s, at, out, pen);

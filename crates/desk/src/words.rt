@@ -75,7 +75,11 @@ fn of_frame(out: &mut [u8], pen: Pen, n: u32) -> Pen {
             pen,
             b"time earlier than the post's latest accepted frame or tick\n",
         ),
-        3 => text::put(out, pen, b"identifier not in the table, or standard\n"),
+        3 => text::put(
+            out,
+            pen,
+            b"identifier not in the table, standard and extended ones told apart\n",
+        ),
         4 => text::put(out, pen, b"shorter than the table's length\n"),
         5 => {
             let p = no_label(out, pen);

@@ -7,10 +7,10 @@ use Rattle.desk.proofs.message.put_values.Statement.{statement}
 use Rattle.desk.proofs.message.put_values.Tie as tie
 
 abbrev Inv-loop : tie.InvT-loop
-Inv-loop out₀ all count p₀ i₀ out p i = (length out ≡ length out₀) × (length all ≡ 8)
+Inv-loop out₀ all count p₀ i₀ out p i = (length out ≡ length out₀) × (length all ≡ 16)
 
 abbrev μ-loop : tie.MeasureT-loop
-μ-loop out₀ all count p₀ i₀ out p i = 8 - i
+μ-loop out₀ all count p₀ i₀ out p i = 16 - i
 
 loop-holds : tie.Need-loop-holds Inv-loop μ-loop
 loop-holds c = search needs

@@ -8,19 +8,16 @@ abbrev Inv-loop : tie.InvT-loop
 Inv-loop id extended k₀ k = Unit {0}
 
 abbrev μ-loop : tie.MeasureT-loop
-μ-loop id extended k₀ k = 9 - k
-
-returns : tie.Need-returns Inv-loop μ-loop
-returns c = search needs
+μ-loop id extended k₀ k = 12 - k
 
 loop-holds : tie.Need-loop-holds Inv-loop μ-loop
 loop-holds c = search needs
 
-identifier-of-requires : tie.Need-identifier-of-requires Inv-loop μ-loop
-identifier-of-requires c κs = search needs
+has-identifier-requires : tie.Need-has-identifier-requires Inv-loop μ-loop
+has-identifier-requires c κs = search needs
 
-returns-2 : tie.Need-returns-2 Inv-loop μ-loop
-returns-2 c = search needs
+returns : tie.Need-returns Inv-loop μ-loop
+returns c = search needs
 
 add-k : tie.Need-add-k Inv-loop μ-loop
 add-k c = search needs
@@ -31,8 +28,8 @@ loop-less c = search needs
 loop-again : tie.Need-loop-again Inv-loop μ-loop
 loop-again c = search needs
 
-returns-3 : tie.Need-returns-3 Inv-loop μ-loop
-returns-3 c = search needs
+returns-2 : tie.Need-returns-2 Inv-loop μ-loop
+returns-2 c = search needs
 
 pub kind-with-spec : {M : Type 1} → statement M
 kind-with-spec =
@@ -40,11 +37,10 @@ kind-with-spec =
     (tie.spec
     Inv-loop
     μ-loop
-    returns
     loop-holds
-    identifier-of-requires
-    returns-2
+    has-identifier-requires
+    returns
     add-k
     loop-less
     loop-again
-    returns-3)
+    returns-2)

@@ -7,10 +7,10 @@ use Rattle.desk.proofs.values.same.Statement.{statement}
 use Rattle.desk.proofs.values.same.Tie as tie
 
 abbrev Inv-loop : tie.InvT-loop
-Inv-loop v w i₀ i = (length v ≡ 8) × (length w ≡ 8)
+Inv-loop v w i₀ i = (length v ≡ 16) × (length w ≡ 16)
 
 abbrev μ-loop : tie.MeasureT-loop
-μ-loop v w i₀ i = 8 - i
+μ-loop v w i₀ i = 16 - i
 
 loop-holds : tie.Need-loop-holds Inv-loop μ-loop
 loop-holds c = search needs
