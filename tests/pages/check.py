@@ -103,11 +103,11 @@ def code_rows(text):
 
 
 def code_names(text):
-    """The names of the rows' constants, and their order in ROWS and in row_at."""
+    """The names of the rows' constants, their order in ROWS, and the arms of row_at, key and name."""
     names = re.findall(r'^const (\w+): Row = Row', text, re.M)
     listed = re.search(r'const ROWS: \[Row; \d+\] = \[(.*?)\];', text, re.S).group(1)
     arms = re.search(r'fn row_at.*?match i \{(.*?)\}', text, re.S).group(1)
-    return names, re.findall(r'\w+', listed), re.findall(r'=> (\w+)', arms)
+    return names, re.findall(r'\w+', listed), re.findall(r'(\w+) => (\w+)', arms)
 
 
 def spec_rows(text, helper):
@@ -135,7 +135,7 @@ for document in DOCUMENTS:
                 fault(f'{name}: row {k} is {h}, the document says {s[2]}')
 
     names, listed, arms = code_names(code)
-    if not names == listed == arms:
+    if names != listed or arms != [(str(k), name) for k, name in enumerate(names)] + [('_', 'NO_ROW')]:
         fault(f'{document.code}: the constants, ROWS and row_at do not list the same names in the same order')
     for name, (message, signal, *_) in zip(names, signals):
         if name.replace('_', '') != signal.replace('_', '').upper() and not name.endswith('_' + signal.upper()):

@@ -4,9 +4,13 @@ use mathlib.Core.Bool.{cond}
 use mathlib.Core.List.{List, [], _∷_}
 use lib.Dec.{eqb}
 use lib.IntN.{ℤ}
+use lib.ListN.{getD}
 use Rattle.signal.specs.Signal.{putBits}
 use Rattle.pages.specs.declared.Row.{Row}
 use Rattle.pages.specs.declared.Found.{Found}
+use Rattle.pages.specs.declared.Found.the-variants as found
+use Rattle.pages.specs.declared.FoundRow.{FoundRow}
+use Rattle.pages.specs.declared.FoundRow.the-variants as foundrow
 use Rattle.pages.specs.declared.Judged.{Judged}
 use Rattle.pages.specs.declared.Judged.the-variants.{Frame, Refused}
 use Rattle.pages.specs.declared.Refusal.the-variants.{NoLabel, UncoveredBit}
@@ -14,8 +18,13 @@ use Rattle.pages.specs.declared.Offence.{Offence}
 use Rattle.pages.specs.declared.Offence.the-variants.{Start, Nothing}
 use Rattle.pages.specs.declared.Packed.{Packed}
 use Rattle.pages.specs.declared.Packed.the-variants as packed
-use Rattle.pages.specs.Table.{rows, firstAt, isSignal, lowest, bitsAt, takes}
+use Rattle.pages.specs.Table.{rows, noRow, firstAt, isSignal, lowest, bitsAt, takes}
 use Rattle.pages.specs.Raws.{allTake, packedOn}
+
+-- a place of the table with its row
+abbrev pub withRow : Found → FoundRow
+withRow (found.At i) = foundrow.At i (getD rows i noRow)
+withRow found.Nothing = foundrow.Nothing
 
 -- the first signal that holds a number without a label
 unfoldable pub offenceOf : ℕ → List Row → Offence

@@ -2,11 +2,11 @@
 // their starts.
 ghost use mathlib.Core.Path.{_≡_};
 ghost use mathlib.Core.Bool.{true};
-ghost use Prim.Native.Nat.{_<_};
 ghost use lib.ListN.{getD};
-ghost use Rattle.pages.specs.Charger.{chargerCount, chargerRows};
+ghost use Rattle.pages.specs.Charger.{chargerRows};
 ghost use Rattle.pages.specs.Table.{noRow, firstAt, hasId};
 use crate::Found;
+use crate::NO_ROW;
 use crate::Row;
 
 pub const ROW_COUNT: usize = 30;
@@ -443,9 +443,9 @@ const ROWS: [Row; 30] = [
     BYTE5,
 ];
 
-// A `match` and not `ROWS[i]`: of an index that is not known beforehand the compiler builds the whole array on the stack at each call.
+// A `match` and not `ROWS[i]`: of an index that is not known beforehand the compiler builds the whole array on the stack at each call. Every row has its arm: where the
+// caller has tested the index nothing is left to test.
 pub fn row_at(i: usize) -> Row
-    requires { ⌜ i < chargerCount ⌝ }
     ensures { λ r. ⌜ r ≡ getD chargerRows i noRow ⌝ }
 {
     match i {
@@ -478,7 +478,8 @@ pub fn row_at(i: usize) -> Row
         26 => BYTE2,
         27 => BYTE3,
         28 => BYTE4,
-        _ => BYTE5,
+        29 => BYTE5,
+        _ => NO_ROW,
     }
 }
 

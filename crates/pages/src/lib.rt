@@ -61,8 +61,28 @@ pub struct Row {
     pub labels: u64,
 }
 
+// No signal: what stands past the end of the table.
+const NO_ROW: Row = Row {
+    kind: 0,
+    id: 0,
+    extended: false,
+    bytes: 0,
+    big: false,
+    start: 0,
+    width: 0,
+    low: 0,
+    signed: false,
+    labels: 0,
+};
+
 pub enum Found {
     At(usize),
+    Nothing,
+}
+
+// A row that was searched for: its place, and itself.
+enum FoundRow {
+    At(usize, Row),
     Nothing,
 }
 
@@ -138,18 +158,7 @@ fn head_row(kind: usize) -> Row
     ensures { λ r. ⌜ r ≡ headRow (rowsOf kind) ⌝ }
 {
     let Found::At(i) = table::first_of_kind(kind) else {
-        return Row {
-            kind: 0,
-            id: 0,
-            extended: false,
-            bytes: 0,
-            big: false,
-            start: 0,
-            width: 0,
-            low: 0,
-            signed: false,
-            labels: 0,
-        };
+        return NO_ROW;
     };
     table::row_at(i)
 }
@@ -183,10 +192,9 @@ pub fn is_big(kind: usize) -> bool
 pub fn judge(id: u32, extended: bool, bytes: &[u8]) -> Judged
     ensures { λ r. ⌜ r ≡ judgeOf id extended (now (bytes .entry)) ⌝ }
 {
-    let Found::At(i) = table::first_with_id(id, extended) else {
+    let FoundRow::At(i, r) = table::row_with_id(id, extended) else {
         return Judged::Refused(Refusal::UnknownIdentifier);
     };
-    let r = table::row_at(i);
     if bytes.len() < r.bytes {
         return Judged::Refused(Refusal::TooShort);
     }

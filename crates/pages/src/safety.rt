@@ -2,12 +2,12 @@
 // identifiers and, within a message, of their starts.
 ghost use mathlib.Core.Path.{_≡_};
 ghost use mathlib.Core.Bool.{false};
-ghost use Prim.Native.Nat.{_<_};
 ghost use lib.ListN.{getD};
 ghost use Rattle.pages.specs.Charger.{chargerCount};
-ghost use Rattle.pages.specs.Safety.{safetyCount, safetyRows};
+ghost use Rattle.pages.specs.Safety.{safetyRows};
 ghost use Rattle.pages.specs.Table.{noRow, firstAt, hasId};
 use crate::Found;
+use crate::NO_ROW;
 use crate::Row;
 use crate::charger;
 
@@ -453,9 +453,9 @@ const ROWS: [Row; 31] = [
     PT4_SELFTEST_FAILED,
 ];
 
-// A `match` and not `ROWS[i]`: of an index that is not known beforehand the compiler builds the whole array on the stack at each call.
+// A `match` and not `ROWS[i]`: of an index that is not known beforehand the compiler builds the whole array on the stack at each call. Every row has its arm: where the
+// caller has tested the index nothing is left to test.
 pub fn row_at(i: usize) -> Row
-    requires { ⌜ i < safetyCount ⌝ }
     ensures { λ r. ⌜ r ≡ getD safetyRows i noRow ⌝ }
 {
     match i {
@@ -489,7 +489,8 @@ pub fn row_at(i: usize) -> Row
         27 => PT3_SELFTEST_FAILED,
         28 => PT4_TEMPERATURE,
         29 => PT4_CHARGING_STOPPED,
-        _ => PT4_SELFTEST_FAILED,
+        30 => PT4_SELFTEST_FAILED,
+        _ => NO_ROW,
     }
 }
 

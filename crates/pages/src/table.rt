@@ -3,7 +3,9 @@ ghost use mathlib.Core.Path.{_≡_};
 ghost use Prim.Native.Nat.{_<_};
 ghost use lib.ListN.{getD};
 ghost use Rattle.pages.specs.Table.{rows, noRow, rowCount, Fine, firstAt, hasId, hasKind, isSignal};
+ghost use Rattle.pages.specs.Steps.{withRow};
 use crate::Found;
+use crate::FoundRow;
 use crate::Row;
 use crate::charger;
 use crate::safety;
@@ -52,14 +54,21 @@ pub fn row_to_pack(i: usize) -> Row
     safety::row_at(i - charger::ROW_COUNT)
 }
 
-// All identifiers of a document have one form: the frame's own says which rows to search.
-pub fn first_with_id(id: u32, extended: bool) -> Found
-    ensures { λ r. ⌜ r ≡ firstAt (hasId id extended) 0 rows ⌝ }
+// All identifiers of a document have one form: the frame's own says which rows to search. The row is taken where it was found, so that the
+// compiler makes one jump by identifier of both.
+pub fn row_with_id(id: u32, extended: bool) -> FoundRow
+    ensures { λ r. ⌜ r ≡ withRow (firstAt (hasId id extended) 0 rows) ⌝ }
 {
     if extended {
-        return charger::first_with_id(id);
+        let Found::At(i) = charger::first_with_id(id) else {
+            return FoundRow::Nothing;
+        };
+        return FoundRow::At(i, charger::row_at(i));
     }
-    safety::first_with_id(id)
+    let Found::At(i) = safety::first_with_id(id) else {
+        return FoundRow::Nothing;
+    };
+    FoundRow::At(i, safety::row_at(i - charger::ROW_COUNT))
 }
 
 // A `match` and no search, so that nothing is left of it where the caller knows the kind (`raw_of`).

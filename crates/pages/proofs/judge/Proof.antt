@@ -1,7 +1,7 @@
 -- `pages::judge` meets its contract: refusals 3, 4 and 15 by the first row with the identifier, 5 and 6 by that message's rows.
 use borrow.Author.Needs.{needs}
 use borrow.Author.Tests.{eq-eqb}
-use mathlib.Core.Path.{_≡_, sym, ap, ap₂, _∙_, subst}
+use mathlib.Core.Path.{_≡_, refl, sym, ap, ap₂, _∙_, subst}
 use mathlib.Core.Bool.{Bool, cond}
 use mathlib.Core.List.{List}
 use native.Mathlib.Omega.{arith}
@@ -12,11 +12,12 @@ use Rattle.signal.proofs.Orders.{number-bound}
 use Rattle.signal.proofs.Totals.{number-in}
 use Rattle.pages.specs.declared.Found.{Found}
 use Rattle.pages.specs.declared.Found.the-variants.{At, Nothing}
+use Rattle.pages.specs.declared.FoundRow.the-variants as foundrow
 use Rattle.pages.specs.declared.Row.{Row}
 use Rattle.pages.specs.declared.Judged.the-variants.{Refused}
 use Rattle.pages.specs.Table.{rows, noRow, rowsOf, block, headRow, lengthOf, firstAt, hasId}
 use Rattle.pages.specs.Judge.{judgedNumber, wrongLength, judgedRow, judgedAt, judgeOf}
-use Rattle.pages.specs.Steps.{offenceOf, cleared, judgedBy}
+use Rattle.pages.specs.Steps.{withRow, offenceOf, cleared, judgedBy}
 use Rattle.pages.proofs.Rules.{short-length}
 use Rattle.pages.proofs.Firsts.{first-id}
 use Rattle.pages.proofs.Offenders.{judged-by, row-short, row-long}
@@ -28,8 +29,25 @@ searched : (m : ℕ) (x : Bool) (bs : List ℕ) (f : Found) → firstAt (hasId m
 unfolding judgeOf
 searched m x bs f g = ap (judgedAt bs) (sym g)
 
-first-with-id-requires : tie.Need-first-with-id-requires
-first-with-id-requires c κs = search needs
+-- the row that was found, and what it decides
+row-found : (i : ℕ) (r : Row) (f : Found) → withRow f ≡ foundrow.At i r → (f ≡ At i) × (r ≡ getD rows i noRow)
+row-found i r (At j) e =
+    let p : j ≡ i = cc in
+    let q : getD rows j noRow ≡ r = cc in
+    (ap At p, sym q ∙ ap (λ (x : ℕ). getD rows x noRow) p)
+row-found i r Nothing e = absurd (let z : _≡_ {A = ℕ} 0 1 = cc in omega arith)
+
+none-found : (f : Found) → withRow f ≡ foundrow.Nothing → f ≡ Nothing
+none-found (At j) e = absurd (let z : _≡_ {A = ℕ} 0 1 = cc in omega arith)
+none-found Nothing e = refl
+
+at-row : (m : ℕ) (x : Bool) (i : ℕ) (bs : List ℕ) (r : Row) → withRow (firstAt (hasId m x) 0 rows) ≡ foundrow.At i r → judgedRow r bs ≡ judgeOf m x bs
+at-row m x i bs r e =
+    let f = row-found i r (firstAt (hasId m x) 0 rows) e in
+    ap (λ (y : Row). judgedRow y bs) (f .1) ∙ searched m x bs (At i) (f .0)
+
+row-with-id-requires : tie.Need-row-with-id-requires
+row-with-id-requires c κs = search needs
 
 enum-known-i : tie.Need-enum-known-i
 enum-known-i c = search needs
@@ -41,34 +59,23 @@ returns : tie.Need-returns
 returns c =
     let f = c .before .before in
     let a = f .before .before .args in
-    searched (a .id) (a .extended) (a .bytes .now) Nothing (sym (f .first-with-id .ensures) ∙ c .enum-told .given .1)
-
-row-at-requires : tie.Need-row-at-requires
-row-at-requires c κs =
-    let f = c .before .before .before in
-    first-id _ (f .before .before .args .extended) _ (sym (f .first-with-id .ensures) ∙ c .before .i .given .1) .0
-
--- the row that was found, and what it decides
-at-row : (m : ℕ) (x : Bool) (i : ℕ) (bs : List ℕ) (r : Row) → firstAt (hasId m x) 0 rows ≡ At i → r ≡ getD rows i noRow → judgedRow r bs ≡ judgeOf m x bs
-at-row m x i bs r g q = ap (λ (y : Row). judgedRow y bs) q ∙ searched m x bs (At i) g
+    searched (a .id) (a .extended) (a .bytes .now) Nothing (none-found _ (sym (f .row-with-id .ensures) ∙ c .enum-told .given .1))
 
 returns-2 : tie.Need-returns-2
 returns-2 c =
-    let r = c .before .before in
-    let k = r .before .before in
+    let k = c .before .before .before in
     let f = k .before .before in
     let a = f .before .before .args in
-    sym (row-short (a .bytes .now) (r .row-at .result) (c .if1 .taken))
-    ∙ at-row (a .id) (a .extended) _ (a .bytes .now) (r .row-at .result) (sym (f .first-with-id .ensures) ∙ k .i .given .1) (r .row-at .ensures .0)
+    let r : Row = k .i .given .0 .1 .0 in
+    sym (row-short (a .bytes .now) r (c .if1 .taken)) ∙ at-row (a .id) (a .extended) _ (a .bytes .now) r (sym (f .row-with-id .ensures) ∙ k .i .given .1)
 
 returns-3 : tie.Need-returns-3
 returns-3 c =
-    let r = c .before .before .before .before in
-    let k = r .before .before in
+    let k = c .before .before .before .before .before in
     let f = k .before .before in
     let a = f .before .before .args in
-    sym (row-long (a .bytes .now) (r .row-at .result) (c .if2 .taken))
-    ∙ at-row (a .id) (a .extended) _ (a .bytes .now) (r .row-at .result) (sym (f .first-with-id .ensures) ∙ k .i .given .1) (r .row-at .ensures .0)
+    let r : Row = k .i .given .0 .1 .0 in
+    sym (row-long (a .bytes .now) r (c .if2 .taken)) ∙ at-row (a .id) (a .extended) _ (a .bytes .now) r (sym (f .row-with-id .ensures) ∙ k .i .given .1)
 
 number-requires : tie.Need-number-requires
 number-requires c κs = search needs
@@ -77,12 +84,14 @@ judge-number-requires : tie.Need-judge-number-requires
 judge-number-requires c κs = search needs
 
 -- 5 and 6, where the length is the row's
-of-length : (m : ℕ) (x : Bool) (i : ℕ) (bs : List ℕ) (r : Row) (n : ℕ) → Bytes bs → firstAt (hasId m x) 0 rows ≡ At i → r ≡ getD rows i noRow → length bs ≡ r .bytes
+of-length : (m : ℕ) (x : Bool) (i : ℕ) (bs : List ℕ) (r : Row) (n : ℕ) → Bytes bs → withRow (firstAt (hasId m x) 0 rows) ≡ foundrow.At i r → length bs ≡ r .bytes
     → n ≡ numberOf (r .big) (take 8 bs)
     → judgedBy (r .kind) n (offenceOf n (block (r .kind) (drop i rows))) (cleared (block (r .kind) (drop i rows)) n) ≡ judgedRow r bs
 unfolding lengthOf
-of-length m x i bs r n hb g q l e =
-    let f = first-id m x i g in
+of-length m x i bs r n hb g l e =
+    let found = row-found i r (firstAt (hasId m x) 0 rows) g in
+    let q = found .1 in
+    let f = first-id m x i (found .0) in
     let same : block (r .kind) (drop i rows) ≡ rowsOf (r .kind) = subst (λ (x : Row). block (x .kind) (drop i rows) ≡ rowsOf (x .kind)) (sym q) (f .2) in
     let size : lengthOf (r .kind) ≡ length bs
     = ap (λ (x : Row). x .bytes) (subst (λ (x : Row). headRow (rowsOf (x .kind)) ≡ x) (sym q) (f .3)) ∙ sym l in
@@ -99,25 +108,24 @@ returns-4 : tie.Need-returns-4
 returns-4 c =
     let n = c .before in
     let s = n .before in
-    let r = s .before .before .before .before in
-    let k = r .before .before in
+    let k = s .before .before .before .before .before in
     let f = k .before .before in
     let a = f .before .before .args in
-    let g : firstAt (hasId (a .id) (a .extended)) 0 rows ≡ At _ = sym (f .first-with-id .ensures) ∙ k .i .given .1 in
+    let r : Row = k .i .given .0 .1 .0 in
+    let g = sym (f .row-with-id .ensures) ∙ k .i .given .1 in
     c .judge-number .ensures
-    ∙ of-length (a .id) (a .extended) _ (a .bytes .now) (r .row-at .result) (n .number .result) (λ j. omega (arith, f .before .shared-slice-known .given j)) g (r .row-at .ensures .0)
+    ∙ of-length (a .id) (a .extended) _ (a .bytes .now) r (n .number .result) (λ j. omega (arith, f .before .shared-slice-known .given j)) g
     (omega (arith, s .before .before .if1 .left, s .if2 .left)) (n .number .ensures)
-    ∙ at-row (a .id) (a .extended) _ (a .bytes .now) (r .row-at .result) g (r .row-at .ensures .0)
+    ∙ at-row (a .id) (a .extended) _ (a .bytes .now) r g
 
 pub judge-spec : {M : Type 1} → statement M
 judge-spec =
     tie.close
     (tie.spec
-    first-with-id-requires
+    row-with-id-requires
     enum-known-i
     enum-told
     returns
-    row-at-requires
     returns-2
     returns-3
     number-requires

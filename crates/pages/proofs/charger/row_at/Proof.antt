@@ -1,14 +1,11 @@
--- `pages::charger::row_at` meets its contract: arm k hands out row k.
-use mathlib.Core.Path.{_≡_}
-use Prim.Native.Nat.{ℕ, _≤_, _<_}
-use native.Mathlib.Omega.{arith}
-use Rattle.pages.specs.Charger.{chargerCount, chargerRows}
+-- `pages::charger::row_at` meets its contract: arm k hands out row k, and the last arm what stands past the end.
+use mathlib.Core.Path.{sym}
+use lib.ListN.{List·getD-eq-default}
+use Rattle.pages.specs.Charger.{chargerRows}
+use Rattle.pages.specs.Table.{noRow}
 use Rattle.pages.proofs.Keys.{at-key, past-keys}
 use Rattle.pages.proofs.charger.row_at.Statement.{statement}
 use Rattle.pages.proofs.charger.row_at.Tie as tie
-
-last : (i : ℕ) → 29 ≤ i → i < chargerCount → i ≡ 29
-last i low high = omega arith
 
 pub row-at-spec : {M : Type 1} → statement M
 unfolding chargerRows
@@ -44,4 +41,5 @@ row-at-spec =
     (λ c. at-key chargerRows 26 (c .match .keys27))
     (λ c. at-key chargerRows 27 (c .match .keys28))
     (λ c. at-key chargerRows 28 (c .match .keys29))
-    (λ c. let i = c .before .args .i in at-key chargerRows 29 (last i (past-keys 29 i (c .match .rest)) (c .before .pre))))
+    (λ c. at-key chargerRows 29 (c .match .keys30))
+    (λ c. sym (List·getD-eq-default chargerRows noRow (past-keys 30 (c .before .args .i) (c .match .rest)))))

@@ -1,14 +1,11 @@
--- `pages::safety::row_at` meets its contract: arm k hands out row k.
-use mathlib.Core.Path.{_≡_}
-use Prim.Native.Nat.{ℕ, _≤_, _<_}
-use native.Mathlib.Omega.{arith}
-use Rattle.pages.specs.Safety.{safetyCount, safetyRows}
+-- `pages::safety::row_at` meets its contract: arm k hands out row k, and the last arm what stands past the end.
+use mathlib.Core.Path.{sym}
+use lib.ListN.{List·getD-eq-default}
+use Rattle.pages.specs.Safety.{safetyRows}
+use Rattle.pages.specs.Table.{noRow}
 use Rattle.pages.proofs.Keys.{at-key, past-keys}
 use Rattle.pages.proofs.safety.row_at.Statement.{statement}
 use Rattle.pages.proofs.safety.row_at.Tie as tie
-
-last : (i : ℕ) → 30 ≤ i → i < safetyCount → i ≡ 30
-last i low high = omega arith
 
 pub row-at-spec : {M : Type 1} → statement M
 unfolding safetyRows
@@ -45,4 +42,5 @@ row-at-spec =
     (λ c. at-key safetyRows 27 (c .match .keys28))
     (λ c. at-key safetyRows 28 (c .match .keys29))
     (λ c. at-key safetyRows 29 (c .match .keys30))
-    (λ c. let i = c .before .args .i in at-key safetyRows 30 (last i (past-keys 30 i (c .match .rest)) (c .before .pre))))
+    (λ c. at-key safetyRows 30 (c .match .keys31))
+    (λ c. sym (List·getD-eq-default safetyRows noRow (past-keys 31 (c .before .args .i) (c .match .rest)))))

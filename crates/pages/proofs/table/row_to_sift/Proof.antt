@@ -1,5 +1,4 @@
 -- `pages::table::row_to_sift` meets its contract: the rows of one document stand behind those of the other.
-use native.Mathlib.Omega.{arith}
 use borrow.Author.Needs.{needs}
 use Rattle.pages.proofs.Searches.{charger-row, safety-row}
 use Rattle.pages.proofs.table.row_to_sift.Statement.{statement}
@@ -12,7 +11,7 @@ returns : tie.Need-returns
 returns c = charger-row (c .before .before .args .i) (c .row-at .result) (c .before .if1 .taken) (c .row-at .ensures)
 
 row-at-requires-2 : tie.Need-row-at-requires-2
-row-at-requires-2 c κs = omega (arith, c .before .pre)
+row-at-requires-2 c κs = search needs
 
 returns-2 : tie.Need-returns-2
 returns-2 c =
