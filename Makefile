@@ -1,19 +1,24 @@
-# make run    the March night through the desk, each finding explained; NIGHT=FILE for another, ALL=1 prints every step
-# make test   what .ci/run runs: the tables against the maker's documents, the layout of the files, the gate, the C tests, nightlog, the desk against the
-#             second program, recordings of candump; its last line is 'N passed, 0 failed'
+# make run    the March night replayed from its night log: a line for each record, the ending, and every number that occurred in words;
+#             NIGHT=NAME for another of nights/, NIGHT=FILE.log POSTS=FILE for a recording of your own
+# make test   what .ci/run runs: the tables against the maker's documents, the layout of the files, the gate, the C tests, nightlog, replay and the desk
+#             against the second program, recordings of candump, the pages of the nights; its last line is 'N passed, 0 failed'
 # make check  the proofs and the programs, without the must-fail edits
 # make lib    target/lib/librokemaipu.a and target/lib/rokemaipu.h, for C and Rust
 # make bench  the library beside plain C in one run
+# make report a night as a page, target/report/NAME.html: NIGHT and POSTS as above; PICTURE=FILE.png takes a picture of it too
 
-NIGHT ?= nights/march.desk
+NIGHT ?= march
+night = $(basename $(notdir $(NIGHT)))
+LOG ?= $(or $(filter %.log,$(NIGHT)),nights/$(night).log)
+POSTS ?= $(basename $(LOG)).posts
 
-.PHONY: run test check lib bench
+.PHONY: run test check lib bench report
 
 run:
-	@[ -x target/bin/desk ] || echo "proving and building the desk: about 10 minutes, once" >&2
-	@rt check desk > run.log 2>&1 || { cat run.log; rm -f run.log; exit 1; }
+	@[ -x target/bin/replay ] || echo "proving and building the replay: about 10 minutes, once" >&2
+	@rt check replay > run.log 2>&1 || { cat run.log; rm -f run.log; exit 1; }
 	@rm -f run.log
-	@tools/night $(NIGHT) $(if $(ALL),--all)
+	@tools/replay $(POSTS) $(LOG)
 
 test:
 	@tests/run
@@ -36,3 +41,11 @@ bench: lib
 	[ -z "$$run" ] || echo "emulated: times and ratios are the emulator's"; \
 	$$run target/lib/bench; \
 	$$run target/lib/copied
+
+report:
+	@rt check replay > report.log 2>&1 || { cat report.log; rm -f report.log; exit 1; }
+	@rm -f report.log
+	@mkdir -p target/report
+	@tools/replay --lines $(POSTS) $(LOG) > target/report/$(night).lines
+	@tools/report $(if $(PICTURE),--screenshot $(PICTURE)) --name $(night) $(POSTS) $(LOG) target/report/$(night).lines target/report/$(night).html
+	@echo target/report/$(night).html

@@ -3,6 +3,7 @@
 from pages import *
 from safety import safety
 from says import told
+from sensor import sensor
 from traffic import Night, Post
 
 
@@ -120,8 +121,7 @@ def march():
 def faults():
     night = Night("faults",
                   "A night of faults. Post 0 on channel 12 has one session after the other, each with its own trouble;",
-                  "post 1 on channel 13 charges and discharges under limits that change; post 2 on channel 14 has an",
-                  "insulation sensor that only knows yes and no.")
+                  "post 1 on channel 13 charges and discharges under limits that change.")
     post = Post(night, 0, 12, 5000)
     other = Post(night, 1, 13, 5000, phase=5)
     post.set_up(silence=300)
@@ -250,64 +250,7 @@ def faults():
     other.close(CLEAN_STOP)
     while other.time < post.time:
         other.idle(1)
-    yes_and_no(night, post.time)
     return night
-
-
-YES_NO, UNKNOWN = 1, 2
-
-
-def yes_and_no(night, end):
-    """02: "One site's sensor gave 0 for invalid at 0 V and F9 stayed silent". That session, and one after the sensor's
-    kind was told."""
-    post = Post(night, 2, 14, 5000, phase=8)
-    precharge = dict(function=PRECHARGE, target=3850, most=20, mode=RANGE_MODE, contactors=CLOSE)
-
-    def dead_cable(notes=None):
-        post.plug_in(vehicle=None)
-        post.insulation_test()
-        post.say("post 2: precharge is commanded; the voltage is still 0 V when the sensor says Invalid")
-        post.volt = 0
-        post.cycle(PRECHARGING, modules=True, control=precharge)
-        post.insulation = INVALID
-        post.cycle(PRECHARGING, modules=True, control=precharge, notes=notes)
-
-    def ending():
-        post.cycle(ENDING, control=dict(function=STANDBY))
-        post.insulation = VALID
-        post.close(RUSHED_STOP)
-
-    def invalid(what):
-        return {"modules": told("F9", f"Post 2, channel 14: {what}", case="yes/no")}
-
-    post.set_up(comments=("# post 2: nobody told that its sensor only knows yes and no",))
-    post.idle(2)
-    dead_cable()
-    post.say("post 2: nothing was found, since 0 times 200 is not below 0; a fitter sees the 0 and stops the session")
-    ending()
-    post.set_up(sensor=UNKNOWN, comments=(told("R12", "Post 2: the fitter takes 2 for the sensor's kind."),))
-    post.record(-49)
-    post.time += 100
-    post.set_up(sensor=YES_NO, comments=("# post 2: set up anew, with the sensor's kind",))
-    post.record(-49)
-    post.idle(2)
-    dead_cable(invalid("Invalid at 0 V, the reading of before."))
-    post.say("post 2: the plug is dried; now the sensor says Valid")
-    post.insulation = VALID
-    post.cycle(PRECHARGING, modules=True, control=precharge)
-    post.precharge()
-    post.start_charge()
-    post.ramp(1000)
-    post.say("post 2: neither Valid nor Invalid, and too little by any measure, but it is not 0")
-    post.insulation = 1
-    post.cycle(CHARGING, modules=True, control=post.wish(1000))
-    post.insulation = INVALID
-    post.cycle(CHARGING, modules=True, control=post.wish(0), notes=invalid("Invalid at 387 V."))
-    post.record()
-    post.amps = 0
-    ending()
-    while post.time < end:
-        post.idle(1)
 
 
 def damaged():
@@ -408,4 +351,4 @@ def damaged():
     return night
 
 
-NIGHTS = (clean, march, faults, damaged, safety)
+NIGHTS = (clean, march, faults, sensor, damaged, safety)

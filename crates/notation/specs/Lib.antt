@@ -1,3 +1,4 @@
 pub mod Answers
 pub mod Fields
 pub mod Heard
+pub mod Setup

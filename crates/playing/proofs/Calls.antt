@@ -1,0 +1,71 @@
+-- What a call and a set-up leave alone. 02, Req 05: "a line buffer under 40 bytes gets 8 first"; "Set-ups come before the first record".
+use Prim.Native.Nat.{ℕ, _<_}
+use mathlib.Core.Path.{_≡_, refl, sym, ap, _∙_}
+use mathlib.Core.Bool.{Bool, true, false, cond, true≢false}
+use mathlib.Core.List.{List}
+use lib.Dec.{ltb}
+use lib.ListN.{length, drop}
+use lib.Seq.{drop-append-seam}
+use Rattle.post.specs.declared.PlainLimits.{PlainLimits}
+use Rattle.log.specs.declared.Found.{Found}
+use Rattle.log.specs.declared.Found.the-variants as found
+use Rattle.log.specs.Reading.{foundAt}
+use Rattle.playing.specs.declared.Course.{Course}
+use Rattle.playing.specs.declared.Course.the-variants.{SetUps, Records, Refused}
+use Rattle.playing.specs.declared.Replay.{Replay}
+use Rattle.playing.specs.declared.Preparing.the-variants.{Late}
+use Rattle.playing.specs.declared.Played.{Played}
+use Rattle.playing.specs.declared.Played.the-variants.{Line, Short}
+use Rattle.playing.specs.Lines.{lineRoom}
+use Rattle.playing.specs.Step.{setUpIn, Call, line, other, nextBy, bufferBy, lineCall, onFound, onCourse, callOf, nextLine, bufferAfter}
+use Rattle.playing.specs.Answers.{isLine}
+use Rattle.playing.proofs.Steps.{call-short, set-up-on}
+
+module _ (r : Replay) (s : List ℕ) (at : ℕ) (out : List ℕ) where
+  -- before all else, also where a set-up was refused or the log is bad
+  pub short-first : length out < lineRoom → (nextLine r s at (length out) ≡ record { replay = r; answer = Short }) × (bufferAfter r s at out ≡ out)
+  short-first h =
+      let e : callOf r s at (length out) ≡ other Short = sym (call-short r s at (length out) h) in
+      (ap (nextBy r) e, ap (bufferBy out) e)
+
+  -- every answer but a line leaves replay and buffer as they were
+  pub no-line : isLine (nextLine r s at (length out) .answer) ≡ false → (nextLine r s at (length out) .replay ≡ r) × (bufferAfter r s at out ≡ out)
+  no-line = go (callOf r s at (length out))
+    where
+      go : (x : Call) → isLine (nextBy r x .answer) ≡ false → (nextBy r x .replay ≡ r) × (bufferBy out x ≡ out)
+      go (line text next q) h = absurd (true≢false h)
+      go (other p) h = (refl, refl)
+
+  module _ (bytes next : ℕ) (told : nextLine r s at (length out) .answer ≡ Line bytes next) where
+    -- behind the line the buffer stays as it was
+    pub behind-line : drop bytes (bufferAfter r s at out) ≡ drop bytes out
+    behind-line = go (callOf r s at (length out)) told
+      where
+        go : (x : Call) → nextBy r x .answer ≡ Line bytes next → drop bytes (bufferBy out x) ≡ drop bytes out
+        go (line text n q) h = let z : length text ≡ bytes = cc in rw (← z) (drop-append-seam text (drop (length text) out))
+        go (other p) h = refl
+
+    -- a line ends the time of set-ups
+    pub after-line : nextLine r s at (length out) .replay .course ≡ Records
+    unfolding callOf lineCall
+    after-line = go (ltb (length out) lineRoom) (r .course) told
+      where
+        never : (p : Played) → isLine p ≡ false → p ≡ Line bytes next → ⊥
+        never p e h = true≢false (sym (ap isLine h) ∙ e)
+
+        by-found : (f : Found) → nextBy r (onFound r s f) .answer ≡ Line bytes next → nextBy r (onFound r s f) .replay .course ≡ Records
+        by-found (found.Record e) h = refl
+        by-found found.End h = absurd (never _ refl h)
+        by-found (found.Cut b) h = absurd (never _ refl h)
+        by-found (found.Refused w b) h = absurd (never _ refl h)
+
+        go : (b : Bool) (k : Course) → nextBy r (cond b (other Short) (onCourse k (onFound r s (foundAt s at)))) .answer ≡ Line bytes next
+            → nextBy r (cond b (other Short) (onCourse k (onFound r s (foundAt s at)))) .replay .course ≡ Records
+        go true k h = absurd (never _ refl h)
+        go false SetUps h = by-found (foundAt s at) h
+        go false Records h = by-found (foundAt s at) h
+        go false (Refused w) h = absurd (never _ refl h)
+
+    -- and then no set-up changes anything
+    pub set-up-late : (i c : ℕ) (lim : PlainLimits) → setUpIn (nextLine r s at (length out) .replay) i c lim ≡ record { replay = nextLine r s at (length out) .replay; answer = Late }
+    set-up-late i c lim = sym (set-up-on (nextLine r s at (length out) .replay) i c lim Records after-line)

@@ -1,0 +1,9 @@
+pub mod Digits
+pub mod Lengths
+pub mod Entries
+pub mod Steps
+pub mod Nights
+pub mod Afresh
+pub mod Counts
+pub mod Calls
+pub mod Shorts

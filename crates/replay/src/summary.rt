@@ -1,0 +1,79 @@
+// How the log ended, and the counts: on standard error, behind the lines.
+use crate::night::Night;
+use crate::piece::Behind;
+use crate::say;
+use crate::tally::Tally;
+use text::Pen;
+
+fn put_at(out: &mut [u8], pen: Pen, at: u64) -> Pen {
+    let p = text::put(out, pen, b"@");
+    text::put_decimal(out, p, at)
+}
+
+// desk.md: `END`, `CUT@BYTE` or `BAD R<n>@BYTE`
+fn put_ending(out: &mut [u8], pen: Pen, behind: Behind, at: u64) -> Pen {
+    match behind {
+        Behind::Going => pen,
+        Behind::End => text::put(out, pen, b"END"),
+        Behind::Cut => {
+            let p = text::put(out, pen, b"CUT");
+            put_at(out, p, at)
+        }
+        Behind::Bad(why) => {
+            let p = notation::answer::named(out, pen, b"BAD R", pages::refusal_number(why));
+            put_at(out, p, at)
+        }
+        Behind::Failed => pen,
+    }
+}
+
+fn put_counted(out: &mut [u8], pen: Pen, n: u64, words: &[u8]) -> Pen {
+    let p = text::put_decimal(out, pen, n);
+    text::put(out, p, words)
+}
+
+// `N records: N accepted, N refused`
+fn put_counts(out: &mut [u8], pen: Pen, records: u64, accepted: u64, refused: u64) -> Pen {
+    let p = put_counted(out, pen, records, b" records: ");
+    let q = put_counted(out, p, accepted, b" accepted, ");
+    put_counted(out, q, refused, b" refused\n")
+}
+
+// `F9: 3`; a number that did not occur has no line.
+fn put_number(out: &mut [u8], pen: Pen, name: &[u8], k: u32, n: u64) -> Pen {
+    if n == 0 {
+        return pen;
+    }
+    let p = notation::answer::named(out, pen, name, k);
+    let q = text::put(out, p, b": ");
+    put_counted(out, q, n, b"\n")
+}
+
+fn put_numbers(out: &mut [u8], pen: Pen, name: &[u8], counts: [u64; 32]) -> Pen {
+    let mut p = pen;
+    let mut k: usize = 0;
+    while k < 32 {
+        p = put_number(out, p, name, k as u32, counts[k]);
+        k += 1;
+    }
+    p
+}
+
+fn put_tally(out: &mut [u8], pen: Pen, records: u64, t: Tally) -> Pen {
+    let refusals = t.refusals;
+    let findings = t.findings;
+    let p = put_counts(out, pen, records, t.accepted, t.refused);
+    let q = put_numbers(out, p, b"R", refusals);
+    put_numbers(out, q, b"F", findings)
+}
+
+pub fn say(w: Night) {
+    let behind = w.behind;
+    let at = w.at;
+    let records = w.replay.count;
+    let mut out = io::large_buffer();
+    let p = put_ending(&mut out, Pen { at: 0, full: false }, behind, at);
+    let q = notation::answer::line_end(&mut out, p);
+    let r = put_tally(&mut out, q, records, w.tally);
+    say::written(r.at, &out);
+}

@@ -1,0 +1,141 @@
+"""night.py COMMAND...: runs the program replay, which COMMAND starts, against the second program. What is not as it should be ends it with status 1."""
+import os
+import pty
+import random
+import subprocess
+import sys
+import tempfile
+from collections import Counter
+from pathlib import Path
+
+TESTS = Path(__file__).resolve().parents[1]
+sys.path += [str(TESTS / 'nightlog'), str(TESTS / 'report')]
+
+from stand_in import lines, replay as second
+from words import record
+
+COMMAND = sys.argv[1:]
+NIGHTS = TESTS.parent / 'nights'
+POSTS = '# two posts\n\nsetup 0 2 5000 2000 500 500\nsetup 7 31 4000 1000 0 60000\n'
+
+
+def same(got, want, what):
+    if got != want:
+        at = max(0, len(os.path.commonprefix([got, want])) - 100)
+        sys.exit(f'tests/replay: {what} | got {got[at:at + 400]!r} | want {want[at:at + 400]!r}')
+
+
+def replay(posts, log, **more):
+    """What the program writes on standard output and on standard error; texts and bytes are put into files first."""
+    files = []
+    for name, held in (('a.posts', posts), ('a.log', log)):
+        if isinstance(held, Path):
+            name = str(held)
+        else:
+            Path(name).write_bytes(held.encode() if isinstance(held, str) else held)
+        files.append(name)
+    done = subprocess.run([*COMMAND, *files], **{'stdout': subprocess.PIPE, 'stderr': subprocess.PIPE, 'timeout': 120, **more})
+    if done.returncode:
+        sys.exit(f'tests/replay: {files}: ended with {done.returncode}')
+    return (done.stdout or b'').decode(), (done.stderr or b'').decode()
+
+
+def joined(lines):
+    return ''.join(f'{line}\n' for line in lines)
+
+
+def summary(ending, lines):
+    answers = [line.split(' ')[2] for line in lines]
+    refused = Counter(int(answer[1:]) for answer in answers if answer[0] == 'R')
+    found = Counter(k for answer in answers if answer[0] == 'A' for k in range(1, 32) if int(answer[1:]) >> (k - 1) & 1)
+    counts = f'{len(answers)} records: {len(answers) - refused.total()} accepted, {refused.total()} refused'
+    return joined([ending, counts, *(f'R{n}: {refused[n]}' for n in sorted(refused)), *(f'F{n}: {found[n]}' for n in sorted(found))])
+
+
+def held(posts, log, ending, lines, what):
+    out, said = replay(posts, log)
+    same(out, joined(lines), f'{what}: the lines')
+    same(said, summary(ending, lines), f'{what}: the summary')
+
+
+def some_steps(seed, count):
+    """Traffic of both posts and of a channel that is nobody's, with frames that are refused."""
+    r = random.Random(seed)
+    for n in range(count):
+        head = f'{r.choice([2, 2, 31, 31, 5])} {n * 7}'
+        yield r.choice([f'tick {head}', f'frame {head} 6b000 x {r.choice(["01", "02", "0b", "0e"])}', f'frame {head} 6b003 x {r.randbytes(7).hex()}',
+                        f'frame {head} 6b00{r.randrange(9)} x {r.randbytes(r.randrange(9)).hex() or "-"}'])
+
+
+def nights():
+    for posts in sorted(NIGHTS.glob('*.posts')):
+        log = posts.with_suffix('.log')
+        held(posts, log, 'END', second(posts.read_text(), log.read_bytes()), posts.stem)
+
+
+def cuts():
+    """02: a log may be cut anywhere; the records wholly before the cut have their lines."""
+    steps = list(some_steps(1, 30))
+    want, bytes_ = lines(POSTS, steps), [record(step) for step in steps]
+    log = b''.join(bytes_)
+    for size in range(len(log) + 1):
+        count = at = 0
+        while count < len(bytes_) and at + len(bytes_[count]) <= size:
+            at += len(bytes_[count])
+            count += 1
+        held(POSTS, log[:size], 'END' if at == size else f'CUT@{at}', want[:count], f'cut after byte {size}')
+
+
+def pieces():
+    """A log of many pieces, whole, cut and with a malformed record behind them: the byte is the file's."""
+    steps = list(some_steps(2, 40_000))
+    want, log = lines(POSTS, steps), b''.join(map(record, steps))
+    held(POSTS, log, 'END', want, 'a long log')
+    held(POSTS, log + record('tick 2 300')[:3], f'CUT@{len(log)}', want, 'a long log that is cut')
+    held(POSTS, log + record('tick 32 300') + log, f'BAD R17@{len(log)}', want, 'a malformed record behind a long log')
+
+
+def setups():
+    log = record('tick 2 300') + record('tick 3 300')
+    held('setup 0 2 5000 2000 500 500', log, 'END', ['1 0 A0', '2 - R1'], "02's example, no line feed at the end")
+    held('', log, 'END', ['1 - R1', '2 - R1'], 'no set-up')
+    held('#' * 65_535, log, 'END', ['1 - R1', '2 - R1'], 'the longest file of posts')
+    same(replay('#' * 65_536, log), ('', 'replay: a.posts: longer than 65,535 bytes\n'), 'a longer one')
+    for line, number in (('8 4 5000 2000 500 500', 9), ('1 32 5000 2000 500 500', 10), ('1 2 5000 2000 500 500', 11), ('1 4 0 2000 500 500', 12)):
+        told = f'replay: a.posts: line 5: the set-up is refused\nSETUP R{number}\n'
+        same(replay(f'{POSTS}setup {line}\nno line\n', log), ('', told), f'setup {line}')
+    for line in ('setup', 'setup 1', 'setup 1 4 5000 2000 500', 'setup 1 4 5000 2000 500 500 0 0', 'setup 01 4 5000 2000 500 500', ' setup 1 4 5000 2000 500 500', 'tick 2 300', 'setup 1 4 5000 2000 500 500\r'):
+        told = 'replay: a.posts: line 5: no setup POST CHANNEL VOLT CHG DIS W [SENSOR]\n'
+        same(replay(f'{POSTS}{line}\n', log), ('', told), f'the line {line!r}')
+
+
+def files():
+    missing, folder = Path('missing'), Path('folder')
+    folder.mkdir()
+    log = record('tick 2 300')
+    same(replay(missing, log), ('', 'replay: missing: No such file or directory\n'), 'no POSTS')
+    same(replay(POSTS, missing), ('', 'replay: missing: No such file or directory\n'), 'no LOG')
+    same(replay(folder, log), ('', 'replay: folder: reading: Is a directory\n'), 'a folder for POSTS')
+    same(replay(POSTS, folder), ('', 'replay: folder: reading: Is a directory\n'), 'a folder for LOG')
+    with open('/dev/full', 'wb') as full:
+        for count in (1, 20_000):
+            same(replay(POSTS, log * count, stdout=full), ('', 'replay: writing standard output: No space left on device\n'), f'{count} lines that cannot be written')
+    done = subprocess.run([*COMMAND, 'a.posts'], capture_output=True, timeout=30)
+    same(done.stderr.decode(), 'usage: replay POSTS LOG\n', 'one argument')
+
+
+def progress():
+    """A progress line of a long log, and only where standard error is a terminal."""
+    for count, shown in ((1000, False), (250_000, True)):
+        master, slave = pty.openpty()
+        replay(POSTS, record('tick 2 300') * count, stdout=subprocess.DEVNULL, stderr=slave)
+        told = os.read(master, 65_536).decode()
+        same(str('\rreplay: 2' in told), str(shown), f'progress over {count} records: {told!r}')
+        same(told[told.rindex('\x1b[K') + 3:], summary('END', [f'{n} 0 A0' for n in range(1, count + 1)]).replace('\n', '\r\n'), 'the summary behind it')
+
+
+with tempfile.TemporaryDirectory() as room:
+    os.chdir(room)
+    for part in (nights, cuts, pieces, setups, files, progress):
+        part()
+print('tests/replay: ok')

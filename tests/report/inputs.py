@@ -1,0 +1,68 @@
+"""What tools/report reads and knows: the night log against 02's bytes and the second program, names against the desk's words and the maker's document."""
+import unittest
+from pathlib import Path
+
+import said
+from stand_in import ROOT, records
+from words import record, some_lines
+from report import messages, nightlog, words
+
+# 02, Req 01: what is refused with each number
+DAMAGED = {16: b'\x80\x00', 17: b'\x01\x20', 18: b'\x01\x01\x80\x20', 19: b'\x01\x01\x81\x80\x80\x80\x04', 20: b'\x01\x01\x00\x0a', 21: b'\x01\x01\x02\x09'}
+
+
+def read(log):
+    """As the second program tells it."""
+    found, ending = nightlog.read(log)
+    told = f'CUT@{ending.byte}' if ending.cut else f'BAD R{ending.refusal}@{ending.byte}' if ending.refusal else 'END'
+    return [each.desk_line() for each in found], told
+
+
+def numbered(label):
+    name, number = label.rsplit('=', 1)
+    return int(number), name
+
+
+class NightLogs(unittest.TestCase):
+    maxDiff = 1000
+
+    def test_there_and_back(self):
+        lines = some_lines(31, 4000)
+        self.assertEqual(read(b''.join(map(record, lines))), (lines, 'END'))
+
+    def test_cut_after_every_byte(self):
+        log = b''.join(map(record, some_lines(32, 25)))
+        for size in range(len(log) + 1):
+            self.assertEqual(read(log[:size]), records(log[:size]), f'cut after byte {size}')
+
+    def test_malformed(self):
+        lines = some_lines(33, 20)
+        log = b''.join(map(record, lines))
+        for number, bytes_ in DAMAGED.items():
+            self.assertEqual(read(log + bytes_ + log), (lines, f'BAD R{number}@{len(log)}'))
+        largest = b'\xff\xff\xff\xff\x0f'
+        for bytes_ in (b'\x80', b'\x80' * 4, b'\x80' * 5, largest, largest + b'\x00', b'\xff\xff\xff\xff\x10', b'\x81\x00', b'\x00\x00\x00\x09'):
+            self.assertEqual(read(bytes_), records(bytes_), bytes_)
+
+
+class Words(unittest.TestCase):
+    def test_findings(self):
+        self.assertEqual({k: rule.name for k, rule in words.FINDINGS.items()}, said.names())
+        for k in said.FINDINGS:
+            self.assertTrue(said.quoted(k), f'F{k}')
+
+    def test_refusals(self):
+        self.assertEqual(words.REFUSALS, said.refusals())
+        self.assertEqual(words.MALFORMED, said.refusals(range(16, 22)))
+
+    def test_messages(self):
+        rows, safety = ([line.split(' ') for line in Path(ROOT / f'tests/pages/{page}.txt').read_text().splitlines()] for page in ('000', '004'))
+        for known, held in ((messages.EXTENDED, rows), (messages.STANDARD, safety)):
+            self.assertEqual(known, {int(row[1], 16): row[0] for row in held})
+        labels = {(row[0], row[3]): dict(numbered(label) for label in row[-1].split(';')) for row in rows if '=' in row[-1]}
+        for message, signal, held in (
+            ('New_Charge_Session', 'Communication_Protocol', messages.PROTOCOLS), ('New_Charge_Session', 'Plug_and_pins', messages.PLUGS),
+            ('Charge_Session_Finished', 'State', messages.STATES), ('Power_Modules_Status', 'System_Enable', messages.ENABLES),
+            ('DC_Power_Control', 'Power_Function', messages.FUNCTIONS), ('DC_Power_Control', 'Output_Contactors', messages.CONTACTORS),
+        ):
+            self.assertEqual(held if isinstance(held, dict) else dict(enumerate(held)), labels[message, signal], signal)

@@ -1,0 +1,71 @@
+"""What a replay tells of a night, from its lines and the records as desk lines: all that must be on the page."""
+import struct
+from typing import NamedTuple, Optional
+
+from stand_in import set_ups
+
+
+class Finding(NamedTuple):
+    post: int
+    number: int
+    time: int
+    count: int
+
+
+class Refusal(NamedTuple):
+    """`came` is the latest accepted time before it."""
+    number: int
+    count: int
+    channel: int
+    post: Optional[int]
+    time: int
+    start: Optional[int]
+    line: str
+    came: Optional[int]
+
+
+class Told:
+    def __init__(self, posts, heard, lines):
+        self.channels = {int(line.split(' ')[1]): int(line.split(' ')[2]) for line in set_ups(posts)}
+        self.records, self.accepted = len(lines), {post: 0 for post in self.channels}
+        self.findings, self.refusals = [], []
+        self.sessions = {post: [] for post in self.channels}
+        self.statuses = {post: [] for post in self.channels}
+        self.times = []
+        for count, (line, step) in enumerate(zip(lines, heard, strict=True), 1):
+            self.take(count, line.split(' '), step.split(' '), step)
+
+    def take(self, count, line, step, heard):
+        post, answer, channel, time = line[1], line[2], int(step[1]), int(step[2])
+        if answer[0] == 'R':
+            self.refusals.append(Refusal(int(answer[1:]), count, channel, None if post == '-' else int(post), time,
+                                         int(line[3]) if line[3:] else None, heard, self.times[-1] if self.times else None))
+            return
+        post, found = int(post), int(answer[1:])
+        self.accepted[post] += 1
+        self.times.append(time)
+        self.findings += [Finding(post, k, time, count) for k in range(1, found.bit_length() + 1) if found >> (k - 1) & 1]
+        if step[0] == 'frame':
+            self.frame(post, time, *step[3:])
+
+    def frame(self, post, time, identifier, form, payload):
+        sessions = self.sessions[post]
+        is_open = bool(sessions) and sessions[-1][1] is None
+        if (identifier, form) == ('6b001', 'x') and not is_open:
+            sessions.append((time, None))
+        elif (identifier, form) == ('6b004', 'x') and is_open:
+            sessions[-1] = (sessions[-1][0], time)
+        elif (identifier, form) == ('63000', 'x'):
+            volt, amps, _, _, _, insulation = struct.unpack('<HhBBBB', bytes.fromhex(payload))
+            self.statuses[post].append((time, volt / 10, amps / 10, 2 * insulation))
+
+
+def clock(time):
+    seconds, ms = divmod(time, 1000)
+    return f'{seconds // 3600}:{seconds % 3600 // 60:02}:{seconds % 60:02}.{ms:03}'
+
+
+def ms(words):
+    """A time on the page, with or without its milliseconds."""
+    hours, minutes, seconds = words.split(':')
+    return round(1000 * (3600 * int(hours) + 60 * int(minutes) + float(seconds)))

@@ -1,0 +1,16 @@
+"""tools/report as it is called."""
+import subprocess
+
+from stand_in import ROOT
+
+
+def called(*words, told='', **more):
+    """Exit status, standard output and standard error."""
+    done = subprocess.run([ROOT / 'tools/report', *words], input=told, capture_output=True, text=True, timeout=100, **more)
+    return done.returncode, done.stdout, done.stderr
+
+
+def write_page(posts, log, lines, page, *more):
+    got = called(*more, posts, log, '-', page, told=''.join(f'{line}\n' for line in lines))
+    if got != (0, '', ''):
+        raise AssertionError(got)
