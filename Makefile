@@ -4,7 +4,7 @@
 #             against the second program, recordings of candump, the pages of the nights; its last line is 'N passed, 0 failed'
 # make check  the proofs and the programs, without the must-fail edits
 # make lib    target/lib/librokemaipu.a and target/lib/rokemaipu.h, for C and Rust
-# make bench  the library beside plain C in one run
+# make bench  the library beside plain C in one run; BEFORE=REVISION, beside that revision of itself too
 # make report a night as a page, target/report/NAME.html: NIGHT and POSTS as above; PICTURE=FILE.png takes a picture of it too
 
 NIGHT ?= march
@@ -36,7 +36,8 @@ lib:
 
 bench: lib
 	@. tests/machine; set -e; \
-	$$cc -O2 -Wall -Wextra -Itarget/lib -Ibench bench/bench.c bench/peer.c bench/peer_log.c target/lib/librokemaipu.a -o target/lib/bench; \
+	[ -z "$(BEFORE)" ] || bench/before $(BEFORE); \
+	$$cc -O2 -Wall -Wextra $(if $(BEFORE),-DBEFORE) -Itarget/lib -Ibench bench/bench.c bench/peer.c bench/peer_log.c target/lib/librokemaipu.a $(if $(BEFORE),target/before/libbefore.a) -o target/lib/bench; \
 	$$cc -O2 -Wall -Wextra -Itarget/lib -Wl,--wrap=memcpy,--wrap=memmove bench/copied.c target/lib/librokemaipu.a -o target/lib/copied; \
 	[ -z "$$run" ] || echo "emulated: times and ratios are the emulator's"; \
 	$$run target/lib/bench; \

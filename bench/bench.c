@@ -1,6 +1,7 @@
-/* The library beside plain C, on the same input in one run: ns a call and the ratio. Both give the same answers, or the run stops. */
+/* The library beside plain C and, with BEFORE, beside an older revision of itself, on the same input in one run: ns a call and the ratios. All give
+ * the same answers, or the run stops. The sides take turns of about a millisecond, short enough to fall between other work, and the best of each counts. */
 #define _POSIX_C_SOURCE 199309L
-#include "peer.h"
+#include "sides.h"
 
 #include <stdio.h>
 #include <stdlib.h>
@@ -18,7 +19,7 @@ static const frame mix[] = {
     {0x6b003, 7, {0xa0, 0x0f, 0x92, 0x00, 0x00, 0x00, 0x48}},       {0x6b002, 1, {1}},
     {0x6b005, 1, {1}},                                              {0x6b004, 1, {0}},
 };
-enum { MIX = sizeof mix / sizeof *mix, TURNS = 40000 };
+enum { MIX = sizeof mix / sizeof *mix, TURNS = 1000, AGAIN = 1500 };
 
 static double now(void) {
     struct timespec t;
@@ -28,126 +29,154 @@ static double now(void) {
 
 static uint64_t sum; /* keeps the calls alive */
 
-static void line(const char *what, double ours, double plain) { printf("%-34s %8.1f ns %8.1f ns plain C   %5.2f times\n", what, ours, plain, ours / plain); }
+/* ---- the sides' turns */
 
-#define TIMED(out, calls, body) TIMED_FOR(TURNS, out, calls, body)
-#define TIMED_FOR(turns, out, calls, body)                           \
-    do {                                                             \
-        double best = 1e300;                                         \
-        for (int again = 0; again < 40; again++) {                    \
-            double from = now();                                     \
-            for (int turn = 0; turn < (turns); turn++) { body }      \
-            double took = (now() - from) / ((double)(turns) * (calls)); \
-            if (took < best) best = took;                            \
-        }                                                            \
-        out = best;                                                  \
-    } while (0)
+/* `work` makes `calls` calls; the sum that it answers is the same for every side. */
+typedef uint64_t work(const side *s, void *with);
+
+typedef struct { double took[SIDES]; } times;
 
 static void differ(const char *what) {
-    printf("bench: %s: the two differ\n", what);
+    printf("bench: %s: the sides differ\n", what);
     exit(1);
 }
 
-static void bench_read(void) {
-    int64_t a[ROKEMAIPU_SIGNALS], b[ROKEMAIPU_SIGNALS];
-    double ours, plain;
-    for (int i = 0; i < MIX; i++)
-        if (rokemaipu_read(mix[i].id, true, mix[i].bytes, mix[i].n, a, ROKEMAIPU_SIGNALS) != peer_read(mix[i].id, true, mix[i].bytes, mix[i].n, b, ROKEMAIPU_SIGNALS) || memcmp(a, b, sizeof a)) differ("read");
-    TIMED(ours, MIX, for (int i = 0; i < MIX; i++) sum += rokemaipu_read(mix[i].id, true, mix[i].bytes, mix[i].n, a, ROKEMAIPU_SIGNALS););
-    TIMED(plain, MIX, for (int i = 0; i < MIX; i++) sum += peer_read(mix[i].id, true, mix[i].bytes, mix[i].n, b, ROKEMAIPU_SIGNALS););
-    line("read", ours, plain);
+static times timed(const char *what, work *f, void *with, int turns, double calls) {
+    times best;
+    uint64_t first = f(&sides[0], with);
+    best.took[0] = 1e300;
+    for (int k = 1; k < SIDES; k++) {
+        best.took[k] = 1e300;
+        if (f(&sides[k], with) != first) differ(what);
+    }
+    for (int again = 0; again < AGAIN; again++)
+        for (int k = 0; k < SIDES; k++) {
+            double from = now();
+            for (int turn = 0; turn < turns; turn++) sum += f(&sides[k], with);
+            double took = (now() - from) / (turns * calls);
+            if (took < best.took[k]) best.took[k] = took;
+        }
+    return best;
 }
 
-static void bench_write(void) {
-    static int64_t raws[MIX][ROKEMAIPU_SIGNALS];
-    uint32_t kinds[MIX];
-    uint8_t a[8], b[8];
-    double ours, plain;
-    for (int i = 0; i < MIX; i++) {
-        kinds[i] = peer_read(mix[i].id, true, mix[i].bytes, mix[i].n, raws[i], ROKEMAIPU_SIGNALS);
-        memset(a, 0, 8), memset(b, 0, 8);
-        if (rokemaipu_write(kinds[i], raws[i], ROKEMAIPU_SIGNALS, a, 8) != peer_write(kinds[i], raws[i], ROKEMAIPU_SIGNALS, b, 8) || memcmp(a, b, 8)) differ("write");
+static times line(const char *what, work *f, void *with, int turns, double calls) {
+    times t = timed(what, f, with, turns, calls);
+    printf("%-26s %7.1f ns", what, t.took[0]);
+    for (int k = 1; k < SIDES; k++) printf("   %7.1f ns %s, %5.2f times", t.took[k], sides[k].name, t.took[0] / t.took[k]);
+    printf("\n");
+    return t;
+}
+
+/* ---- frames without a table */
+
+static uint64_t read_mix(const side *s, void *with) {
+    int64_t raws[ROKEMAIPU_SIGNALS] = {0};
+    uint64_t seen = 0;
+    (void)with;
+    for (int i = 0; i < MIX; i++) seen = 31 * seen + s->read(mix[i].id, true, mix[i].bytes, mix[i].n, raws, ROKEMAIPU_SIGNALS) + (uint64_t)raws[0];
+    return seen;
+}
+
+typedef struct { uint32_t kind[MIX]; int64_t raws[MIX][ROKEMAIPU_SIGNALS]; } messages;
+
+static uint64_t write_mix(const side *s, void *with) {
+    const messages *m = with;
+    uint8_t bytes[8] = {0};
+    uint64_t seen = 0;
+    for (int i = 0; i < MIX; i++) seen = 31 * seen + s->write(m->kind[i], m->raws[i], ROKEMAIPU_SIGNALS, bytes, 8) + bytes[0];
+    return seen;
+}
+
+static void bench_codec(void) {
+    static messages m;
+    for (int i = 0; i < MIX; i++) m.kind[i] = sides[0].read(mix[i].id, true, mix[i].bytes, mix[i].n, m.raws[i], ROKEMAIPU_SIGNALS);
+    line("read", read_mix, NULL, TURNS, MIX);
+    line("write", write_mix, &m, TURNS, MIX);
+}
+
+/* ---- the watch: frames and ticks at one time on posts in turn, in each side's own table */
+
+typedef struct { rokemaipu_table table[SIDES]; uint32_t posts, turn[SIDES]; } depot;
+
+static uint32_t channel_of(depot *d, const side *s) { return d->turn[s - sides]++ % d->posts; }
+
+static uint64_t frames(const side *s, void *with) {
+    depot *d = with;
+    uint32_t channel = channel_of(d, s);
+    uint64_t seen = 0;
+    for (int i = 0; i < MIX; i++) seen = 31 * seen + s->frame(&d->table[s - sides], channel, 2000, mix[i].id, true, mix[i].bytes, mix[i].n);
+    return seen;
+}
+
+static uint64_t tick(const side *s, void *with) {
+    depot *d = with;
+    return s->tick(&d->table[s - sides], channel_of(d, s), 2001);
+}
+
+static void charge(depot *d, uint32_t turn) {
+    for (const frame *f = mix; f < mix + MIX; f++) {
+        uint32_t first = sides[0].frame(&d->table[0], turn % d->posts, turn, f->id, true, f->bytes, f->n);
+        for (int k = 1; k < SIDES; k++)
+            if (sides[k].frame(&d->table[k], turn % d->posts, turn, f->id, true, f->bytes, f->n) != first) differ("frame");
     }
-    TIMED(ours, MIX, for (int i = 0; i < MIX; i++) sum += rokemaipu_write(kinds[i], raws[i], ROKEMAIPU_SIGNALS, a, 8););
-    TIMED(plain, MIX, for (int i = 0; i < MIX; i++) sum += peer_write(kinds[i], raws[i], ROKEMAIPU_SIGNALS, b, 8););
-    line("write", ours, plain);
 }
 
 static void bench_watch(uint32_t posts) {
-    static rokemaipu_table a, b;
-    double ours, plain;
+    static depot d;
     char what[40];
-    rokemaipu_start(&a), rokemaipu_start(&b);
-    for (uint32_t i = 0; i < posts; i++) rokemaipu_set_up(&a, i, i, 5000, 1000, 500, 500, 0), rokemaipu_set_up(&b, i, i, 5000, 1000, 500, 500, 0);
-    for (uint32_t turn = 0; turn < 1000; turn++)
-        for (uint32_t i = 0; i < MIX; i++)
-            if (rokemaipu_frame(&a, turn % posts, turn, mix[i].id, true, mix[i].bytes, mix[i].n) != peer_frame(&b, turn % posts, turn, mix[i].id, true, mix[i].bytes, mix[i].n)) differ("frame");
+    memset(&d, 0, sizeof d);
+    d.posts = posts;
+    for (const side *s = sides; s < sides + SIDES; s++) {
+        s->start(&d.table[s - sides]);
+        for (uint32_t i = 0; i < posts; i++) s->set_up(&d.table[s - sides], i, i, 5000, 1000, 500, 500, 0);
+    }
+    for (uint32_t turn = 0; turn < 1000; turn++) charge(&d, turn);
     snprintf(what, sizeof what, "frame in place, %u post%s", posts, posts > 1 ? "s" : "");
-    TIMED(ours, MIX, for (int i = 0; i < MIX; i++) sum += rokemaipu_frame(&a, (uint32_t)turn % posts, 2000, mix[i].id, true, mix[i].bytes, mix[i].n););
-    TIMED(plain, MIX, for (int i = 0; i < MIX; i++) sum += peer_frame(&b, (uint32_t)turn % posts, 2000, mix[i].id, true, mix[i].bytes, mix[i].n););
-    line(what, ours, plain);
+    line(what, frames, &d, TURNS, MIX);
     snprintf(what, sizeof what, "tick in place, %u post%s", posts, posts > 1 ? "s" : "");
-    TIMED(ours, 1, sum += rokemaipu_tick(&a, (uint32_t)turn % posts, 2001););
-    TIMED(plain, 1, sum += peer_tick(&b, (uint32_t)turn % posts, 2001););
-    line(what, ours, plain);
+    line(what, tick, &d, 4 * TURNS, 1);
 }
 
 /* ---- the night log: the mix over and over, 10 ms apart on channel 4, and a tick after each of its turns */
 
-enum { RECORDS = 300 * (MIX + 1), LOG_TURNS = 100, FIRST = 3600000, CHANNEL = 4 };
+enum { RECORDS = 300 * (MIX + 1), LOG_TURNS = 3, FIRST = 3600000, CHANNEL = 4, ROOM = RECORDS * ROKEMAIPU_RECORD_BYTES };
 
-typedef uint32_t log_frame(uint32_t time, uint32_t channel, uint32_t id, bool extended, const uint8_t *payload, size_t length, uint8_t *buffer, size_t room);
-typedef uint32_t log_tick(uint32_t time, uint32_t channel, uint8_t *buffer, size_t room);
-typedef uint32_t log_record(const uint8_t *log, size_t size, size_t at, uint64_t *numbers, size_t places);
+typedef struct { size_t size; uint8_t bytes[ROOM]; } night;
 
-static size_t written(log_frame *frame_to, log_tick *tick_to, uint8_t *log, size_t room) {
+static uint64_t write_log(const side *s, void *with) {
+    night *log = with;
     size_t at = 0;
     uint32_t time = FIRST;
     for (int k = 0; k < RECORDS; k++, time += 10) {
         int i = k % (MIX + 1);
-        at += i < MIX ? frame_to(time, CHANNEL, mix[i].id, true, mix[i].bytes, mix[i].n, log + at, room - at) : tick_to(time, CHANNEL, log + at, room - at);
+        at += i < MIX ? s->log_frame(time, CHANNEL, mix[i].id, true, mix[i].bytes, mix[i].n, log->bytes + at, ROOM - at) : s->log_tick(time, CHANNEL, log->bytes + at, ROOM - at);
     }
-    return at;
+    return log->size = at;
 }
 
-static uint64_t read_through(log_record *record_at, const uint8_t *log, size_t size) {
+static uint64_t read_log(const side *s, void *with) {
+    const night *log = with;
     uint64_t e[ROKEMAIPU_ENTRY_NUMBERS], seen = 0;
-    for (size_t at = 0; record_at(log, size, at, e, ROKEMAIPU_ENTRY_NUMBERS) == ROKEMAIPU_FOUND_RECORD; at = e[ROKEMAIPU_ENTRY_NEXT]) seen += e[ROKEMAIPU_ENTRY_TIME];
+    for (size_t at = 0; s->log_record(log->bytes, log->size, at, e, ROKEMAIPU_ENTRY_NUMBERS) == ROKEMAIPU_FOUND_RECORD; at = e[ROKEMAIPU_ENTRY_NEXT]) seen = 31 * seen + e[ROKEMAIPU_ENTRY_TIME] + e[ROKEMAIPU_ENTRY_START];
     return seen;
 }
 
-static bool same_read(const uint8_t *log, size_t size) {
-    uint64_t x[ROKEMAIPU_ENTRY_NUMBERS], y[ROKEMAIPU_ENTRY_NUMBERS];
-    for (size_t at = 0;; at = x[ROKEMAIPU_ENTRY_NEXT]) {
-        uint32_t found = rokemaipu_log_record(log, size, at, x, ROKEMAIPU_ENTRY_NUMBERS);
-        if (found != peer_log_record(log, size, at, y, ROKEMAIPU_ENTRY_NUMBERS)) return false;
-        if (found != ROKEMAIPU_FOUND_RECORD) return found == ROKEMAIPU_FOUND_END;
-        if (memcmp(x, y, sizeof x)) return false;
-    }
-}
-
-static void log_line(const char *what, double ours, double plain, double bytes) {
-    line(what, ours, plain);
-    printf("%36.1f million records/s, %.0f MB/s; plain C %.1f million, %.0f MB/s\n", 1e3 / ours, 1e3 * bytes / ours, 1e3 / plain, 1e3 * bytes / plain);
+static void speed(times t, double bytes) {
+    printf("%26s", "");
+    for (int k = 0; k < SIDES; k++) printf(" %s %.1f million records/s, %.0f MB/s%s", sides[k].name, 1e3 / t.took[k], 1e3 * bytes / t.took[k], k < SIDES - 1 ? ";" : "\n");
 }
 
 static void bench_log(void) {
-    static uint8_t a[RECORDS * ROKEMAIPU_RECORD_BYTES], b[sizeof a];
-    double ours, plain;
-    size_t size = written(rokemaipu_log_frame, rokemaipu_log_tick, a, sizeof a);
-    if (size != written(peer_log_frame, peer_log_tick, b, sizeof b) || memcmp(a, b, size)) differ("log written");
-    if (!same_read(a, size)) differ("log read");
-    TIMED_FOR(LOG_TURNS, ours, RECORDS, sum += written(rokemaipu_log_frame, rokemaipu_log_tick, a, sizeof a););
-    TIMED_FOR(LOG_TURNS, plain, RECORDS, sum += written(peer_log_frame, peer_log_tick, b, sizeof b););
-    log_line("log, a record written", ours, plain, (double)size / RECORDS);
-    TIMED_FOR(LOG_TURNS, ours, RECORDS, sum += read_through(rokemaipu_log_record, a, size););
-    TIMED_FOR(LOG_TURNS, plain, RECORDS, sum += read_through(peer_log_record, a, size););
-    log_line("log, a record read", ours, plain, (double)size / RECORDS);
+    static night logs[SIDES];
+    for (int k = 0; k < SIDES; k++)
+        if (write_log(&sides[k], &logs[k]) != logs[0].size || memcmp(logs[k].bytes, logs[0].bytes, logs[0].size)) differ("log");
+    double bytes = (double)logs[0].size / RECORDS;
+    speed(line("log, a record written", write_log, &logs[0], LOG_TURNS, RECORDS), bytes);
+    speed(line("log, a record read", read_log, &logs[0], LOG_TURNS, RECORDS), bytes);
 }
 
 int main(void) {
-    bench_read();
-    bench_write();
+    bench_codec();
     bench_watch(1);
     bench_watch(8);
     bench_log();
