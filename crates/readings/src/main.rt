@@ -172,6 +172,9 @@ fn safety() {
         false,
         &[0x00u8, 0x01, 0x00, 0x02, 0x00, 0x03, 0x00, 0x00],
     );
+}
+
+fn safety_written() {
     text(b"the largest raw numbers and one more\n");
     let mut buf = [0x55u8; 8];
     write_duty(533, &mut buf);
@@ -219,6 +222,7 @@ fn main() {
     writings();
     changes();
     safety();
+    safety_written();
     screen();
     posts::all();
 }
