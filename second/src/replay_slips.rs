@@ -1,7 +1,7 @@
 //! Wrong readings of Req 05.
 
-use crate::codec::Refusal;
 use crate::desk::Desk;
+use crate::label_slips::dropped;
 use crate::log::{self, Ending, Log};
 use crate::log_slips::cut_one_record_late;
 use crate::posts::Table;
@@ -13,7 +13,7 @@ const WRONG_LINES: [(&str, Line); 8] = [
     ("replay-dash", dash_for_every_refusal),
     ("replay-channel", |fed| format!("{} {} {}", fed.count, fed.record.channel, answer(fed))),
     ("replay-hex", findings_in_hexadecimal),
-    ("replay-start", |fed| replay::line(&Fed { answer: fed.answer.map_err(without_start), ..*fed })),
+    ("replay-start", |fed| replay::line(&Fed { answer: dropped(fed.answer), ..*fed })),
     ("replay-colon", start_bit_as_at_the_desk),
     ("replay-leading", |fed| format!("{} {}", fed.record.time, replay::line(fed))),
     ("replay-trailing", |fed| format!("{} {}", replay::line(fed), fed.record.time)),
@@ -56,13 +56,6 @@ fn findings_in_hexadecimal(fed: &Fed) -> String {
     match fed.answer {
         Ok(findings) => format!("{} {} A{findings:x}", fed.count, post(fed)),
         Err(_) => replay::line(fed),
-    }
-}
-
-fn without_start(refusal: Refusal) -> Refusal {
-    match refusal {
-        Refusal::NoLabel { .. } => Refusal::Number(5),
-        other => other,
     }
 }
 
