@@ -13,6 +13,8 @@ usage: second answer                 answers the desk script on standard input
                                      from K fresh ones; a difference is shrunk, shown, and kept in FILE
        second check NIGHT EXPECTED -- PROGRAM [ARG..]
                                      runs PROGRAM on NIGHT and compares its answers with those stored in EXPECTED
+       second replay POSTS LOG       replays the night log LOG on posts set up as the desk's lines in POSTS tell: a
+                                     line for each record, and how it ends
 --explain: also `explain` steps. Default: 5000 steps, one fresh seed, 120 seconds a run.
 Exit status: 0 all agree, 1 a difference or something never reached, 2 it could not be tried.";
 
@@ -21,6 +23,7 @@ pub enum Call {
     Script { seed: u64, steps: usize, explain: bool },
     Compare(Compare),
     Check { night: PathBuf, expected: PathBuf, command: Vec<OsString> },
+    Replay { posts: PathBuf, log: PathBuf },
 }
 
 pub struct Compare {
@@ -43,6 +46,7 @@ pub fn parse(arguments: Vec<OsString>) -> Result<Call, String> {
         Some("script") => script(&rest),
         Some("compare") => compare(rest),
         Some("check") => check(rest),
+        Some("replay") => replay(&rest),
         _ => Err(format!("no subcommand {}", word.to_string_lossy())),
     }
 }
@@ -95,6 +99,13 @@ fn check(rest: Vec<OsString>) -> Result<Call, String> {
     match &files[..] {
         [night, expected] => Ok(Call::Check { night: night.into(), expected: expected.into(), command }),
         _ => Err("check takes a night and its expected answers".to_string()),
+    }
+}
+
+fn replay(rest: &[OsString]) -> Result<Call, String> {
+    match rest {
+        [posts, log] => Ok(Call::Replay { posts: posts.into(), log: log.into() }),
+        _ => Err("replay takes a file of posts and a night log".to_string()),
     }
 }
 

@@ -155,7 +155,7 @@ fn print_found(found: &Found, own: &[Vec<u8>], outcome: &Outcome, out: &mut dyn 
         if !is_step(line) {
             continue;
         }
-        if let Some(words) = show::message(line) {
+        if let Some(words) = show::brought(line) {
             writeln!(out, "#   {words}")?;
         }
         let (own, other) = (own.get(place), outcome.answers.get(place));
@@ -209,6 +209,7 @@ mod tests {
                         Some(("log", _)) => lines == 1 && bytes <= 40,
                         Some(("label", _)) => lines <= 2 && bytes <= 60,
                         Some(("sensor" | "safety", _)) => lines <= 5,
+                        Some(("replay", _)) => lines <= 2 && bytes <= 100,
                         _ => lines <= 6,
                     };
                     assert!(few, "{name}: {lines} lines, {bytes} bytes");

@@ -4,12 +4,13 @@ use std::collections::{BTreeMap, BTreeSet};
 use std::fmt;
 
 use crate::posts::Table;
+use crate::replay_coverage;
 use crate::safety_coverage;
 use crate::sensor_coverage;
 
-const WORDS: [&[u8]; 13] = [
+const WORDS: [&[u8]; 14] = [
     b"setup", b"release", b"frame", b"tick", b"record", b"read", b"change", b"write", b"explain", b"logr", b"logw",
-    b"probe", b"duty",
+    b"replay", b"probe", b"duty",
 ];
 
 const REFUSALS: std::ops::RangeInclusive<u32> = 1..=15;
@@ -33,6 +34,7 @@ pub struct Coverage {
     logs: BTreeMap<String, u64>,
     sensors: BTreeMap<&'static str, u64>,
     safety: BTreeMap<String, u64>,
+    replays: BTreeMap<String, u64>,
     findings: [u64; 11],
     clean: u64,
     accepted: u64,
@@ -51,6 +53,9 @@ impl Coverage {
         }
         for shown in safety_coverage::shown(step, answer) {
             *self.safety.entry(shown).or_default() += 1;
+        }
+        for shown in replay_coverage::shown(step, answer) {
+            *self.replays.entry(shown).or_default() += 1;
         }
         match answer.split_first() {
             Some((b'?', _)) => self.no_step += 1,
@@ -92,6 +97,7 @@ impl Coverage {
         let sensors = sensor_coverage::WANTED.iter().filter(|shown| !self.sensors.contains_key(*shown));
         missing.extend(sensors.map(|shown| shown.to_string()));
         missing.extend(safety_coverage::wanted().into_iter().filter(|shown| !self.safety.contains_key(shown)));
+        missing.extend(replay_coverage::wanted().filter(|shown| !self.replays.contains_key(shown)));
         missing.extend((self.no_step == 0).then(|| "?".to_string()));
         missing.extend((self.no_message == 0).then(|| "X".to_string()));
         missing
@@ -127,6 +133,10 @@ impl fmt::Display for Coverage {
         write!(out, "\nsafety:  ")?;
         for shown in safety_coverage::wanted() {
             write!(out, " {shown} {},", self.safety.get(&shown).unwrap_or(&0))?;
+        }
+        write!(out, "\nreplays: ")?;
+        for shown in replay_coverage::wanted() {
+            write!(out, " {} {},", shown.trim_start_matches("replay "), self.replays.get(&shown).unwrap_or(&0))?;
         }
         write!(out, "\nother:    accepted {} ? {} X {}", self.accepted, self.no_step, self.no_message)
     }

@@ -10,6 +10,9 @@ use crate::log_line;
 use crate::pages;
 use crate::posts::{Arrival, Frame, Post, Table};
 use crate::record;
+use crate::replay::{self, Line, Replayer};
+use crate::replay_line;
+use crate::replay_setups;
 use crate::rules::{Limits, MEASURING};
 use crate::safety_pages::{CHARGE_CONTROL_1, PT1000_STATE};
 use crate::service::{self, Limiter, Probe, Prober};
@@ -24,6 +27,8 @@ pub struct Desk {
     pub changer: Changer,
     pub log_writer: log::Writer,
     pub log_reader: log::Reader,
+    pub replayer: Replayer,
+    pub replay_line: Line,
     pub recorder: fn(&Post) -> String,
     pub prober: Prober,
     pub limiter: Limiter,
@@ -37,6 +42,8 @@ impl Desk {
             changer: codec::change,
             log_writer: log::write,
             log_reader: log::read,
+            replayer: replay::replay,
+            replay_line: replay::line,
             recorder: record::line,
             prober: service::probe,
             limiter: service::limited_duty,
@@ -78,6 +85,7 @@ fn step(desk: &mut Desk, line: &[u8]) -> Option<String> {
     match fields[0] {
         b"logw" => log_write(desk.log_writer, &fields[1..]),
         b"logr" => log_read(desk.log_reader, &fields[1..]),
+        b"replay" => replay(desk, &fields[1..]),
         b"read" | b"change" | b"write" | b"explain" => message_step(desk, &fields),
         b"probe" | b"duty" => service_step(desk, &fields),
         b"record" => record(desk, &fields[1..]),
@@ -92,16 +100,26 @@ fn table_step(table: &mut Table, fields: &[&[u8]]) -> Option<String> {
             Some(said(table.set_up(post, channel, limits), |()| "A".to_string()))
         }
         [b"release", post] => Some(said(table.release(natural(post)?), |()| "A".to_string())),
-        [b"frame", channel, time, id, form, payload] => {
-            let payload = bytes(payload)?;
-            let frame = Frame { id: identifier(id)?, extended: extended(form)?, bytes: &payload };
-            feed(table, Arrival { channel: natural(channel)?, time: natural(time)?, frame: Some(frame) })
-        }
-        [b"tick", channel, time] => {
-            feed(table, Arrival { channel: natural(channel)?, time: natural(time)?, frame: None })
+        [b"frame" | b"tick", ..] => {
+            let mut payload = Vec::new();
+            let arrival = arrival(fields, &mut payload)?;
+            Some(said(table.feed(&arrival), |findings| format!("A{findings}")))
         }
         _ => None,
     }
+}
+
+/// The frame or tick that a line tells; `payload` keeps its bytes.
+pub fn arrival<'a>(fields: &[&[u8]], payload: &'a mut Vec<u8>) -> Option<Arrival<'a>> {
+    let (channel, time, frame) = match *fields {
+        [b"frame", channel, time, id, form, digits] => {
+            *payload = bytes(digits)?;
+            (channel, time, Some(Frame { id: identifier(id)?, extended: extended(form)?, bytes: payload }))
+        }
+        [b"tick", channel, time] => (channel, time, None),
+        _ => return None,
+    };
+    Some(Arrival { channel: natural(channel)?, time: natural(time)?, frame })
 }
 
 fn record(desk: &Desk, fields: &[&[u8]]) -> Option<String> {
@@ -167,10 +185,6 @@ fn said<T>(outcome: Result<T, Refusal>, accepted: impl FnOnce(T) -> String) -> S
     }
 }
 
-fn feed(table: &mut Table, arrival: Arrival) -> Option<String> {
-    Some(said(table.feed(&arrival), |findings| format!("A{findings}")))
-}
-
 fn write(id: u32, extended: bool, values: &[i64], mut buffer: Vec<u8>) -> Option<String> {
     let Some(page) = pages::find(id, extended) else {
         return Some("X".to_string());
@@ -201,6 +215,17 @@ fn log_write(writer: log::Writer, fields: &[&[u8]]) -> Option<String> {
 fn log_read(reader: log::Reader, fields: &[&[u8]]) -> Option<String> {
     match *fields {
         [log] => Some(log_line::line(&reader(&bytes(log)?))),
+        _ => None,
+    }
+}
+
+fn replay(desk: &mut Desk, fields: &[&[u8]]) -> Option<String> {
+    match *fields {
+        [log, set_ups] => {
+            let (log, set_ups) = (bytes(log)?, replay_setups::field(set_ups)?);
+            let replay = (desk.replayer)(&mut desk.table, &set_ups, &log, desk.replay_line);
+            Some(replay_line::answer(replay))
+        }
         _ => None,
     }
 }

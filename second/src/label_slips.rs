@@ -58,7 +58,7 @@ fn one_number_for_both_lengths(id: u32, extended: bool, bytes: &[u8]) -> Result<
     }
 }
 
-fn dropped<T>(outcome: Result<T, Refusal>) -> Result<T, Refusal> {
+pub fn dropped<T>(outcome: Result<T, Refusal>) -> Result<T, Refusal> {
     match outcome {
         Err(Refusal::NoLabel { .. }) => Err(Refusal::Number(5)),
         other => other,

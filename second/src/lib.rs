@@ -24,6 +24,14 @@ mod program;
 #[cfg(test)]
 mod readings;
 mod record;
+mod replay;
+mod replay_coverage;
+mod replay_line;
+#[cfg(test)]
+mod replay_readings;
+mod replay_setups;
+mod replay_shrink;
+mod replay_slips;
 mod rng;
 mod rules;
 mod safety_coverage;
@@ -50,7 +58,9 @@ use std::time::{Duration, SystemTime, UNIX_EPOCH};
 use arguments::{Call, Compare, USAGE};
 use compare::{Plan, Verdict};
 use desk::Desk;
+use posts::Table;
 use program::Program;
+use replay::Replay;
 use rng::Rng;
 use script::Extras;
 
@@ -73,6 +83,7 @@ pub fn run() -> ExitCode {
         Call::Script { seed, steps, explain } => script(seed, steps, explain),
         Call::Compare(call) => compare_over_seeds(call),
         Call::Check { night, expected, command } => check_night(&night, &expected, command),
+        Call::Replay { posts, log } => replay_night(&posts, &log),
     };
     done.unwrap_or_else(|error| {
         eprintln!("second: {error}");
@@ -145,6 +156,18 @@ fn check_night(night: &Path, expected: &Path, command: Vec<OsString>) -> Result<
             Ok(ExitCode::from(DIFFERS))
         }
     }
+}
+
+fn replay_night(posts: &Path, log: &Path) -> Result<ExitCode, String> {
+    let set_ups = replay_setups::file(&read_file(posts)?);
+    let set_ups = set_ups.map_err(|line| format!("{}: no set-up in {line}", posts.display()))?;
+    let Replay { lines, closing } = replay::replay(&mut Table::new(), &set_ups, &read_file(log)?, replay::line);
+    let mut out = BufWriter::new(io::stdout().lock());
+    for line in lines.into_iter().chain([replay_line::ending(closing)]) {
+        println_to(&mut out, &line)?;
+    }
+    out.flush().map_err(|error| format!("cannot write: {error}"))?;
+    Ok(ExitCode::SUCCESS)
 }
 
 fn read_file(path: &Path) -> Result<Vec<u8>, String> {

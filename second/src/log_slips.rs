@@ -86,7 +86,7 @@ fn tick_with_extended_0(bytes: &[u8]) -> Log<'_> {
 }
 
 /// A piece that lacks payload bytes only is given as a record, and the cut told behind it.
-fn cut_one_record_late(bytes: &[u8]) -> Log<'_> {
+pub fn cut_one_record_late(bytes: &[u8]) -> Log<'_> {
     let mut log = log::read(bytes);
     if let (Ending::Cut, Ok(([time, channel, identifier, _], payload))) = (log.ending, numbers(&bytes[log.at..])) {
         let frame = Some(Frame { id: identifier / 2, extended: identifier % 2 == 1, bytes: payload });

@@ -99,8 +99,8 @@ impl Table {
         self.posts[self.holder(channel)?].as_ref()
     }
 
-    /// A channel above 31 has no holder, since no set-up takes one.
-    fn holder(&self, channel: u32) -> Option<usize> {
+    /// The place of the post that holds a channel; one above 31 has no holder, since no set-up takes it.
+    pub fn holder(&self, channel: u32) -> Option<usize> {
         self.posts.iter().position(|post| post.as_ref().is_some_and(|post| post.channel == channel))
     }
 }

@@ -51,7 +51,7 @@ pub fn shown(step: &[u8], answer: &[u8]) -> Vec<String> {
     }
 }
 
-fn those(shown: &[(bool, &str)]) -> Vec<String> {
+pub fn those(shown: &[(bool, &str)]) -> Vec<String> {
     shown.iter().filter(|(is, _)| *is).map(|(_, what)| what.to_string()).collect()
 }
 

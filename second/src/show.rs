@@ -1,7 +1,9 @@
-//! Lines and answers for the eye: bytes outside ASCII escaped, very long ones cut.
+//! Lines and answers for the eye: bytes outside ASCII escaped, very long ones cut; what a step brings, in words.
 
 use crate::codec::{self, label_name};
 use crate::fields::{bytes, extended, identifier};
+use crate::log;
+use crate::log_line;
 
 const WIDEST: usize = 240;
 
@@ -16,13 +18,19 @@ pub fn answer(answer: Option<&Vec<u8>>) -> String {
     answer.map_or("(no answer)".to_string(), |answer| line(answer))
 }
 
-/// The message of a `frame` step by the names of its page.
-pub fn message(step: &[u8]) -> Option<String> {
+/// The message of a `frame` step, and the log of a `replay`.
+pub fn brought(step: &[u8]) -> Option<String> {
     let fields: Vec<&[u8]> = step.split(|&byte| byte == b' ').collect();
-    let [b"frame", _, _, id, form, payload] = fields[..] else {
-        return None;
-    };
-    let message = codec::read(identifier(id)?, extended(form)?, &bytes(payload)?).ok()?;
+    match fields[..] {
+        [b"frame", _, _, id, form, payload] => message(identifier(id)?, extended(form)?, &bytes(payload)?),
+        [b"replay", log, _] => Some(line(log_line::line(&log::read(&bytes(log)?)).as_bytes())),
+        _ => None,
+    }
+}
+
+/// A message by the names of its page.
+fn message(id: u32, extended: bool, payload: &[u8]) -> Option<String> {
+    let message = codec::read(id, extended, payload).ok()?;
     let values = message.values();
     let named = message.signals().zip(values).map(|((signal, raw), value)| match label_name(signal, raw) {
         Some(label) => format!(" {}={label}", signal.name),

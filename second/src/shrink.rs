@@ -1,6 +1,8 @@
 //! Making a script that shows something shorter, while it still shows it.
 
-type Line = Vec<u8>;
+use crate::replay_shrink;
+
+pub type Line = Vec<u8>;
 
 /// `shows` tells whether a script still shows it. The given script must.
 pub fn shrink(mut script: Vec<Line>, shows: &mut dyn FnMut(&[Line]) -> bool) -> Vec<Line> {
@@ -9,6 +11,7 @@ pub fn shrink(mut script: Vec<Line>, shows: &mut dyn FnMut(&[Line]) -> bool) -> 
         remove_lines(&mut script, shows);
         rename_channels(&mut script, shows);
         close_gaps(&mut script, shows);
+        simplify_replays(&mut script, shows);
         simplify_fields(&mut script, shows);
         if script == before {
             return script;
@@ -94,6 +97,7 @@ fn on_channel(line: &[u8], old: i64, new: i64) -> Line {
     let place = match fields[0].as_slice() {
         b"setup" => 2,
         b"frame" | b"tick" => 1,
+        b"replay" => return replay_shrink::on_channel(line, old, new).unwrap_or_else(|| line.to_vec()),
         _ => return line.to_vec(),
     };
     if let Some(channel) = fields.get_mut(place).filter(|channel| decimal(channel) == Some(old)) {
@@ -111,14 +115,25 @@ fn earlier(line: &[u8], by: i64) -> Line {
     fields.join(&b' ')
 }
 
+/// Until no simpler one shows it.
+fn simplify_replays(script: &mut [Line], shows: &mut dyn FnMut(&[Line]) -> bool) {
+    for at in 0..script.len() {
+        let mut shown = |script: &[Line]| {
+            replay_shrink::simpler(&script[at]).into_iter().find(|line| shows(&with(script, at, line.clone())))
+        };
+        while let Some(line) = shown(script) {
+            script[at] = line;
+        }
+    }
+}
+
 fn simplify_fields(script: &mut Vec<Line>, shows: &mut dyn FnMut(&[Line]) -> bool) {
     for at in 0..script.len() {
         for place in 1..fields(&script[at]).len() {
             for simpler in simpler_fields(&fields(&script[at])[place]) {
-                let mut tried = script.clone();
                 let mut changed = fields(&script[at]);
                 changed[place] = simpler;
-                tried[at] = changed.join(&b' ');
+                let tried = with(script, at, changed.join(&b' '));
                 if shows(&tried) {
                     *script = tried;
                     break;
@@ -126,6 +141,12 @@ fn simplify_fields(script: &mut Vec<Line>, shows: &mut dyn FnMut(&[Line]) -> boo
             }
         }
     }
+}
+
+fn with(script: &[Line], at: usize, line: Line) -> Vec<Line> {
+    let mut changed = script.to_vec();
+    changed[at] = line;
+    changed
 }
 
 /// Simpler ones first. Each is shorter or has smaller numbers, so that simplifying ends.
@@ -150,7 +171,7 @@ fn simpler_fields(field: &[u8]) -> Vec<Line> {
 }
 
 /// Round numbers and edges of 01 first, then steps that get shorter, so that a large number comes down quickly.
-fn simpler_numbers(number: i64) -> Vec<i64> {
+pub fn simpler_numbers(number: i64) -> Vec<i64> {
     let steps = [number / 2, number - number / 4, number - number / 16];
     let smaller = [0, 1, 2, 10, 100, 101, 200, 201, 1000].into_iter().chain(steps);
     smaller.filter(|tried| tried.unsigned_abs() < number.unsigned_abs()).collect()
@@ -167,23 +188,19 @@ fn simpler_values(field: &[u8]) -> Vec<Line> {
     zeroed.collect()
 }
 
-/// Without a half, then without smaller pieces, single bytes last where there are few.
 fn fewer_bytes(field: &[u8]) -> Vec<Line> {
     let bytes: Vec<&[u8]> = field.chunks(2).collect();
-    let pieces = [1, 2, 4, 8, 16, 32, 64].map(|pieces| bytes.len().div_ceil(pieces)).into_iter();
+    let kept = |bytes: Vec<&[u8]>| if bytes.is_empty() { b"-".to_vec() } else { bytes.concat() };
+    fewer(&bytes).into_iter().map(kept).collect()
+}
+
+/// Without a half, then without smaller pieces, single parts last where there are few.
+pub fn fewer<T: Clone>(parts: &[T]) -> Vec<Vec<T>> {
+    let pieces = [1, 2, 4, 8, 16, 32, 64].map(|pieces| parts.len().div_ceil(pieces)).into_iter();
     let mut sizes: Vec<usize> = pieces.filter(|&size| size > 0).collect();
     sizes.dedup();
-    let starts = sizes.into_iter().flat_map(|size| (0..bytes.len()).step_by(size).map(move |start| (start, size)));
-    starts
-        .map(|(start, size)| {
-            let kept = [&bytes[..start], &bytes[(start + size).min(bytes.len())..]].concat().concat();
-            if kept.is_empty() {
-                b"-".to_vec()
-            } else {
-                kept
-            }
-        })
-        .collect()
+    let starts = sizes.into_iter().flat_map(|size| (0..parts.len()).step_by(size).map(move |start| (start, size)));
+    starts.map(|(start, size)| [&parts[..start], &parts[(start + size).min(parts.len())..]].concat()).collect()
 }
 
 fn simpler_bytes(field: &[u8]) -> Vec<Line> {

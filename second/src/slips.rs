@@ -7,6 +7,7 @@ use crate::label_slips;
 use crate::log_slips;
 use crate::pages::Kind;
 use crate::posts::Post;
+use crate::replay_slips;
 use crate::rules::{self, limit, live, poor_insulation, powers, under_power, Limits, Rule};
 use crate::safety_slips;
 use crate::sensor_slips;
@@ -36,9 +37,9 @@ const SHARED_CLOCK: &str = "clock";
 
 pub fn names() -> Vec<&'static str> {
     let rules = WRONG_RULES.iter().map(|(name, ..)| *name);
-    let later =
-        log_slips::names().chain(label_slips::names()).chain(sensor_slips::names()).chain(safety_slips::names());
-    rules.chain([SHARED_CLOCK]).chain(later).collect()
+    let early = log_slips::names().chain(label_slips::names()).chain(sensor_slips::names());
+    let later = safety_slips::names().chain(replay_slips::names());
+    rules.chain([SHARED_CLOCK]).chain(early).chain(later).collect()
 }
 
 /// An empty desk with the slip of that name, if there is one.
@@ -49,7 +50,13 @@ pub fn desk(name: &str) -> Option<Desk> {
     } else if let Some((_, number, rule)) = WRONG_RULES.iter().find(|(known, ..)| *known == name) {
         desk.table.rules[number - 1] = *rule;
     } else {
-        let put = [log_slips::put_into, label_slips::put_into, sensor_slips::put_into, safety_slips::put_into];
+        let put = [
+            log_slips::put_into,
+            label_slips::put_into,
+            sensor_slips::put_into,
+            safety_slips::put_into,
+            replay_slips::put_into,
+        ];
         put.iter().find_map(|put_into| put_into(&mut desk, name))?;
     }
     Some(desk)

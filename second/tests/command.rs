@@ -81,6 +81,14 @@ fn too_few_steps_to_reach_everything_fail() {
         "R6",
         "frame 6s A",
         "probe N",
+        "replay END",
+        "replay CUT",
+        "replay BAD R16",
+        "replay SETUP R9",
+        "replay with a dash for R1",
+        "replay with R5 and its start",
+        "replay with a finding",
+        "replay of an empty log",
     ] {
         assert!(missing.split(", ").any(|known| known == outcome), "{outcome}: {missing}");
     }
@@ -94,7 +102,18 @@ fn what_cannot_be_tried_is_said() {
     let run = second(&["check", "/nowhere/night", "/nowhere/answers", "--", SECOND, "answer"]);
     assert_eq!(run.status.code(), Some(2));
     assert!(text(&run.stderr).contains("cannot read /nowhere/night"));
-    for wrong in [&[][..], &["answers"], &["script", "1"], &["script", "x", "1"], &["compare"], &["compare", "--"]] {
+    let run = second(&["replay", "/nowhere/posts", "/nowhere/log"]);
+    assert_eq!(run.status.code(), Some(2));
+    assert!(text(&run.stderr).contains("cannot read /nowhere/posts"));
+    for wrong in [
+        &[][..],
+        &["answers"],
+        &["replay", "posts"],
+        &["script", "1"],
+        &["script", "x", "1"],
+        &["compare"],
+        &["compare", "--"],
+    ] {
         let run = second(wrong);
         assert_eq!(run.status.code(), Some(2));
         assert!(text(&run.stderr).contains("usage: second"), "{wrong:?}");
@@ -121,4 +140,27 @@ fn a_night_is_checked() {
         "{}",
         text(&failed.stdout)
     );
+}
+
+#[test]
+fn a_night_is_replayed() {
+    let folder = std::env::temp_dir().join(format!("second-replay-{}", std::process::id()));
+    std::fs::create_dir_all(&folder).unwrap();
+    let (posts, log) = (folder.join("posts"), folder.join("log"));
+    let replay = |set_ups: &str, bytes: &[u8]| {
+        std::fs::write(&posts, set_ups).unwrap();
+        std::fs::write(&log, bytes).unwrap();
+        second(&["replay", posts.to_str().unwrap(), log.to_str().unwrap()])
+    };
+    let example = b"\xac\x02\x02\x00\x09\xac\x02\x03\x00\x09";
+    let good = replay("# one post\n\nsetup 0 2 5000 2000 500 500", example);
+    let cut = replay("setup 0 2 5000 2000 500 500 1\n", &example[..7]);
+    let refused = replay("setup 0 2 5000 2000 500 500\nsetup 8 3 5000 2000 500 500\n", example);
+    let none = replay("# one post\n\ntick 2 300\n", example);
+    std::fs::remove_dir_all(&folder).unwrap();
+    assert_eq!((good.status.code(), text(&good.stdout)), (Some(0), "1 0 A0\n2 - R1\nEND\n".to_string()));
+    assert_eq!((cut.status.code(), text(&cut.stdout)), (Some(0), "1 0 A0\nCUT@5\n".to_string()));
+    assert_eq!((refused.status.code(), text(&refused.stdout)), (Some(0), "SETUP R9\n".to_string()));
+    assert_eq!((none.status.code(), text(&none.stdout)), (Some(2), String::new()));
+    assert!(text(&none.stderr).ends_with("posts: no set-up in line 3: tick 2 300\n"), "{}", text(&none.stderr));
 }

@@ -1,6 +1,7 @@
 /* The desk's steps over the C interface: reads a script and answers it as the desk does, so that the same scripts hold both. What is no raw number
  * (a temperature of document 000, kOhm) is worked out here. */
 #define _DEFAULT_SOURCE
+#include "replay.h"
 #include "rokemaipu.h"
 
 #include <inttypes.h>
@@ -272,10 +273,44 @@ static bool log_read_step(void) {
     for (; (found = rokemaipu_log_record(bytes, size, at, e, ROKEMAIPU_ENTRY_NUMBERS)) == ROKEMAIPU_FOUND_RECORD; at = e[ROKEMAIPU_ENTRY_NEXT]) records++;
     printf("L %zu", records);
     for (at = 0; rokemaipu_log_record(bytes, size, at, e, ROKEMAIPU_ENTRY_NUMBERS) == ROKEMAIPU_FOUND_RECORD; at = e[ROKEMAIPU_ENTRY_NEXT]) put_entry(e);
-    if (found == ROKEMAIPU_FOUND_END) puts(" END");
-    else if (found == ROKEMAIPU_FOUND_PIECE) printf(" CUT@%zu\n", at);
-    else printf(" BAD "), put_refusal(found), printf("@%zu\n", at);
-    return true;
+    putchar(' ');
+    put_ending(found, at);
+    return putchar('\n'), true;
+}
+
+/* what stands before the mark, and in *rest what stands behind it; behind the last there is no rest */
+static word cut(word *rest, char mark) {
+    const char *end = memchr(rest->at, mark, rest->n);
+    word first = {rest->at, end ? (size_t)(end - rest->at) : rest->n};
+    *rest = end ? (word){end + 1, rest->n - first.n - 1} : (word){NULL, 0};
+    return first;
+}
+
+static bool set_up_numbers(word w, uint32_t n[7]) {
+    size_t i = 0;
+    uint64_t v;
+    n[6] = ROKEMAIPU_MEASURING;
+    do {
+        if (i == 7 || !number(cut(&w, ','), 10, UINT32_MAX, &v)) return false;
+        n[i++] = (uint32_t)v;
+    } while (w.at);
+    return i >= 6;
+}
+
+static bool replay_step(void) {
+    static rokemaipu_table own;
+    uint32_t n[7], refused = 0;
+    word w = words[2];
+    bool none = w.n == 1 && *w.at == '-';
+    if (!hex(words[1])) return false;
+    rokemaipu_start(&own);
+    while (!none && w.at) {
+        if (!set_up_numbers(cut(&w, ';'), n)) return false;
+        if (!refused) refused = rokemaipu_set_up(&own, n[0], n[1], n[2], n[3], n[4], n[5], n[6]);
+    }
+    if (refused) printf("SETUP "), put_refusal(refused);
+    else put_replay(&own, bytes, size);
+    return putchar('\n'), true;
 }
 
 static bool step(void) {
@@ -295,6 +330,7 @@ static bool step(void) {
     if (is("duty", 1)) return duty_step();
     if (is("logw", 4) || is("logw", 7)) return log_write_step();
     if (is("logr", 1)) return log_read_step();
+    if (is("replay", 2)) return replay_step();
     return false;
 }
 

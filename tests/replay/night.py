@@ -11,7 +11,7 @@ from pathlib import Path
 TESTS = Path(__file__).resolve().parents[1]
 sys.path += [str(TESTS / 'nightlog'), str(TESTS / 'report')]
 
-from stand_in import lines, replay as second
+from second import replay as by_second
 from words import record
 
 COMMAND = sys.argv[1:]
@@ -25,8 +25,8 @@ def same(got, want, what):
         sys.exit(f'tests/replay: {what} | got {got[at:at + 400]!r} | want {want[at:at + 400]!r}')
 
 
-def replay(posts, log, **more):
-    """What the program writes on standard output and on standard error; texts and bytes are put into files first."""
+def filed(posts, log):
+    """The names of their files; texts and bytes are put into files first."""
     files = []
     for name, held in (('a.posts', posts), ('a.log', log)):
         if isinstance(held, Path):
@@ -34,6 +34,17 @@ def replay(posts, log, **more):
         else:
             Path(name).write_bytes(held.encode() if isinstance(held, str) else held)
         files.append(name)
+    return files
+
+
+def second(posts, log):
+    """The lines by the second program, and the ending."""
+    return by_second(*filed(posts, log))
+
+
+def replay(posts, log, **more):
+    """What the program writes on standard output and on standard error."""
+    files = filed(posts, log)
     done = subprocess.run([*COMMAND, *files], **{'stdout': subprocess.PIPE, 'stderr': subprocess.PIPE, 'timeout': 120, **more})
     if done.returncode:
         sys.exit(f'tests/replay: {files}: ended with {done.returncode}')
@@ -70,26 +81,28 @@ def some_steps(seed, count):
 def nights():
     for posts in sorted(NIGHTS.glob('*.posts')):
         log = posts.with_suffix('.log')
-        held(posts, log, 'END', second(posts.read_text(), log.read_bytes()), posts.stem)
+        held(posts, log, 'END', second(posts, log)[0], posts.stem)
 
 
 def cuts():
     """02: a log may be cut anywhere; the records wholly before the cut have their lines."""
-    steps = list(some_steps(1, 30))
-    want, bytes_ = lines(POSTS, steps), [record(step) for step in steps]
+    bytes_ = [record(step) for step in some_steps(1, 30)]
     log = b''.join(bytes_)
+    want, _ = second(POSTS, log)
     for size in range(len(log) + 1):
         count = at = 0
         while count < len(bytes_) and at + len(bytes_[count]) <= size:
             at += len(bytes_[count])
             count += 1
-        held(POSTS, log[:size], 'END' if at == size else f'CUT@{at}', want[:count], f'cut after byte {size}')
+        ending = 'END' if at == size else f'CUT@{at}'
+        held(POSTS, log[:size], ending, want[:count], f'cut after byte {size}')
+        same(second(POSTS, log[:size]), (want[:count], ending), f'cut after byte {size}: the second program')
 
 
 def pieces():
     """A log of many pieces, whole, cut and with a malformed record behind them: the byte is the file's."""
-    steps = list(some_steps(2, 40_000))
-    want, log = lines(POSTS, steps), b''.join(map(record, steps))
+    log = b''.join(map(record, some_steps(2, 40_000)))
+    want, _ = second(POSTS, log)
     held(POSTS, log, 'END', want, 'a long log')
     held(POSTS, log + record('tick 2 300')[:3], f'CUT@{len(log)}', want, 'a long log that is cut')
     held(POSTS, log + record('tick 32 300') + log, f'BAD R17@{len(log)}', want, 'a malformed record behind a long log')
@@ -104,6 +117,7 @@ def setups():
     for line, number in (('8 4 5000 2000 500 500', 9), ('1 32 5000 2000 500 500', 10), ('1 2 5000 2000 500 500', 11), ('1 4 0 2000 500 500', 12)):
         told = f'replay: a.posts: line 5: the set-up is refused\nSETUP R{number}\n'
         same(replay(f'{POSTS}setup {line}\nno line\n', log), ('', told), f'setup {line}')
+        same(second(f'{POSTS}setup {line}\n', log), ([], f'SETUP R{number}'), f'setup {line}: the second program')
     for line in ('setup', 'setup 1', 'setup 1 4 5000 2000 500', 'setup 1 4 5000 2000 500 500 0 0', 'setup 01 4 5000 2000 500 500', ' setup 1 4 5000 2000 500 500', 'tick 2 300', 'setup 1 4 5000 2000 500 500\r'):
         told = 'replay: a.posts: line 5: no setup POST CHANNEL VOLT CHG DIS W [SENSOR]\n'
         same(replay(f'{POSTS}{line}\n', log), ('', told), f'the line {line!r}')

@@ -9,7 +9,7 @@ import unittest
 from pathlib import Path
 
 import dom
-from stand_in import ROOT
+from second import ROOT
 from tool import called
 from words import record
 

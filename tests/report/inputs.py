@@ -3,7 +3,7 @@ import unittest
 from pathlib import Path
 
 import said
-from stand_in import ROOT, records
+from second import ROOT, records
 from words import record, some_lines
 from report import messages, nightlog, words
 

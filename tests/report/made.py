@@ -5,7 +5,7 @@ import tempfile
 import unittest
 from pathlib import Path
 
-from stand_in import ROOT, SECOND, records, replay
+from second import ROOT, SECOND, records, replay
 
 
 def script(name):
@@ -16,9 +16,9 @@ def script(name):
 
 
 def replayed(name):
-    posts, log = ROOT / f'nights/{name}.posts', (ROOT / f'nights/{name}.log').read_bytes()
-    lines = replay(posts.read_text(), log)
-    return list(zip(records(log)[0], (line.split(' ', 2)[2] for line in lines), strict=True))
+    posts, log = ROOT / f'nights/{name}.posts', ROOT / f'nights/{name}.log'
+    lines, _ = replay(posts, log)
+    return list(zip(records(log.read_bytes())[0], (line.split(' ', 2)[2] for line in lines), strict=True))
 
 
 class Nights(unittest.TestCase):

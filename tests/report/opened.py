@@ -6,7 +6,7 @@ from pathlib import Path
 
 import held
 from browser import dumped, pictured
-from stand_in import ROOT, records, replay
+from second import ROOT, records, replay
 from told import Told, clock, ms
 from tool import write_page
 
@@ -16,7 +16,7 @@ TARGET = ROOT / 'target/report'
 def paged(name, folder, *more):
     """The page of a night by tools/report, and what was told of it."""
     posts, log = ROOT / f'nights/{name}.posts', ROOT / f'nights/{name}.log'
-    lines = replay(posts.read_text(), log.read_bytes())
+    lines, _ = replay(posts, log)
     page = Path(folder) / f'{name}.html'
     write_page(posts, log, lines, page, *more)
     return page, Told(posts.read_text(), records(log.read_bytes())[0], lines)

@@ -1,7 +1,7 @@
 """Names of findings and words of refusals from the second program; of 01's sentences that they hold what the nights quote."""
 import sys
 
-from stand_in import ROOT, answers
+from second import ROOT, answers
 
 # behind the tests' own modules
 sys.path += [str(ROOT), str(ROOT / 'nights')]

@@ -2,8 +2,6 @@
 import struct
 from typing import NamedTuple, Optional
 
-from stand_in import set_ups
-
 
 class Finding(NamedTuple):
     post: int
@@ -22,6 +20,10 @@ class Refusal(NamedTuple):
     start: Optional[int]
     line: str
     came: Optional[int]
+
+
+def set_ups(posts):
+    return [line for line in posts.splitlines() if line and not line.startswith('#')]
 
 
 class Told:

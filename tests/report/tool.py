@@ -1,7 +1,7 @@
 """tools/report as it is called."""
 import subprocess
 
-from stand_in import ROOT
+from second import ROOT
 
 
 def called(*words, told='', **more):

@@ -71,6 +71,21 @@ fn cut(rng: &mut Rng) -> Vec<u8> {
 /// Good records, a bad one, and behind it good ones, or a cut at the end of the bad part or close to it.
 fn with_a_bad_record(rng: &mut Rng) -> Vec<u8> {
     let mut log = if rng.chance(40) { Vec::new() } else { several(rng) };
+    let (record, bad) = bad_record(rng);
+    let behind = log.len() + bad;
+    log.extend(record);
+    match rng.below(10) {
+        0..=2 => log.truncate(behind),
+        3 => log.truncate(behind + 1),
+        4 => log.truncate(behind - 1),
+        5 | 6 => log.extend(several(rng)),
+        _ => {}
+    }
+    log
+}
+
+/// A record with a bad part or two, and the byte behind one of them.
+pub fn bad_record(rng: &mut Rng) -> (Vec<u8>, usize) {
     let mut parts = parts(rng);
     let place = rng.pick(&[0, 1, 2, 2, 2, 3, 3, 3, 3]);
     parts[place] = bad_part(rng, place);
@@ -82,16 +97,7 @@ fn with_a_bad_record(rng: &mut Rng) -> Vec<u8> {
         let other = rng.below(4) as usize;
         parts[other] = bad_part(rng, other);
     }
-    let behind = log.len() + parts[..=place].concat().len();
-    log.extend(parts.concat());
-    match rng.below(10) {
-        0..=2 => log.truncate(behind),
-        3 => log.truncate(behind + 1),
-        4 => log.truncate(behind - 1),
-        5 | 6 => log.extend(several(rng)),
-        _ => {}
-    }
-    log
+    (parts.concat(), parts[..=place].concat().len())
 }
 
 /// The five parts of a record that the log can hold.

@@ -4,7 +4,7 @@ use super::Generator;
 use crate::desk::LONGEST;
 use crate::rng::Rng;
 
-const ODD_LINES: [&[u8]; 45] = [
+const ODD_LINES: [&[u8]; 59] = [
     b" ",
     b"  ",
     b"\t",
@@ -50,6 +50,20 @@ const ODD_LINES: [&[u8]; 45] = [
     b"logw x 0 0 -",
     b"logw f 0 0 0 s -",
     b"logw f 0 0 100000000 x - -",
+    b"replay",
+    b"replay -",
+    b"replay - ",
+    b"replay  -",
+    b"replay - - -",
+    b"replay 0 -",
+    b"replay - ;",
+    b"replay - -;0,0,1,1,0,100",
+    b"replay - 0,0,1,1,0,100;",
+    b"replay - 0,0,1,1,0,100;;1,1,1,1,0,100",
+    b"replay - 0,0,1,1,0",
+    b"replay - 0,0,1,1,0,100,0,0",
+    b"replay - 8,0,1,1,0,100;0,0,1,1,0,00100",
+    b"replay - 0 0 1 1 0 100",
 ];
 
 /// Records of four bytes; no other of any length makes so much text of a byte.
@@ -58,11 +72,11 @@ const TICK: &[u8] = b"00000009";
 
 impl Generator {
     pub fn malformed(&mut self) -> Vec<u8> {
-        match self.rng.below(18) {
+        match self.rng.below(19) {
             0 => self.long(),
-            1..=4 => self.rng.pick(&ODD_LINES).to_vec(),
+            1..=5 => self.rng.pick(&ODD_LINES).to_vec(),
             _ => {
-                let line = match self.rng.below(9) {
+                let line = match self.rng.below(10) {
                     0 => self.rng.pick(&["setup 9 40 5000 1000 500 500", "setup 9 40 5000 1000 500 500 1"]).to_string(),
                     1 => self.record(),
                     2 => self.read(),
@@ -71,6 +85,7 @@ impl Generator {
                     5 => self.log_read(),
                     6 => self.log_write(),
                     7 => self.service(),
+                    8 => self.replay(),
                     _ => self.refused(),
                 };
                 spoilt(&mut self.rng, line.into_bytes())
@@ -83,17 +98,20 @@ impl Generator {
         let length = self.rng.pick(&[LONGEST - 1, LONGEST, LONGEST, LONGEST + 1, LONGEST + 1, 70_000]);
         // Bytes are pairs of digits, so that each ending goes with lengths of one parity.
         let even = length.is_multiple_of(2);
-        let (head, fill, tail): (&[u8], &[u8], &[u8]) = match self.rng.below(6) {
+        let (head, fill, tail): (&[u8], &[u8], &[u8]) = match self.rng.below(8) {
             0 | 1 if even => (b"change 63000 x ", b"7", b" 16 1"),
             2 if even => (b"write 6b000 x 7 ", b"7", b""),
             3 if even => (b"logw f 0 0 0 s ", b"7", b" 00"),
             4 if even => (b"logw f 0 0 0 s 00 ", b"7", b""),
+            5 if even => (b"replay ", TICK, b" 0,0,1,1,0,6000"),
             _ if even => (b"frame 4 100 6b000 x ", b"7", b""),
             0 => (b"read 63000 x ", b"7", b""),
             1 => (b"change 63000 x ", b"7", b" 16 -1"),
             2 => (b"write 63000 x 0,0,0,0,0,10 ", b"7", b""),
             3 => (b"logr ", LONG_ANSWER, b""),
             4 => (b"logr ", TICK, b""),
+            5 => (b"replay ", TICK, b" -"),
+            6 => (b"replay ", TICK, b" 0,0,1,1,0,60000"),
             _ => (b"logw t 0 0 ", b"7", b""),
         };
         let fill = fill.iter().copied().cycle().take(length - head.len() - tail.len());
@@ -117,7 +135,7 @@ fn spoilt(rng: &mut Rng, line: Vec<u8>) -> Vec<u8> {
             fields[place] =
                 rng.pick(&[b"-0".as_slice(), b"4294967296", b"9223372036854775808", b"1,,2", b"1,"]).to_vec()
         }
-        9 => fields[place].push(rng.pick(b"\r\t\0\xff,-.xg#")),
+        9 => fields[place].push(rng.pick(b"\r\t\0\xff,;-.xg#")),
         10 => fields[place].clear(),
         11 => drop(fields[place].pop()),
         12 => {

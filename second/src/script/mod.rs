@@ -1,8 +1,9 @@
-//! Seeded desk scripts that go to the edges of 01 and of the log.
+//! Seeded desk scripts that go to the edges of 01, of the log and of its replay.
 
 mod logs;
 mod malformed;
 mod messages;
+mod replays;
 mod setups;
 mod sketch;
 mod stateless;
@@ -64,6 +65,7 @@ enum Sort {
     Service,
     LogRead,
     LogWrite,
+    Replay,
     Malformed,
     Remark,
     Explain,
@@ -90,6 +92,7 @@ impl Generator {
             Sort::Service => self.service().into_bytes(),
             Sort::LogRead => self.log_read().into_bytes(),
             Sort::LogWrite => self.log_write().into_bytes(),
+            Sort::Replay => self.replay().into_bytes(),
             Sort::Malformed => self.malformed(),
             Sort::Remark => self.remark(),
             Sort::Explain => self.explain().into_bytes(),
@@ -116,6 +119,7 @@ impl Generator {
             (50, Sort::Service),
             (60, Sort::LogRead),
             (35, Sort::LogWrite),
+            (60, Sort::Replay),
             (35, Sort::Malformed),
             (12, Sort::Remark),
             (explain, Sort::Explain),

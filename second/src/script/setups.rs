@@ -20,6 +20,10 @@ impl Generator {
     /// A set-up to be accepted: a free post or one to start anew, on its own channel or a free one.
     pub fn set_up(&mut self) -> String {
         let post = self.post_to_set_up();
+        self.set_up_post(post)
+    }
+
+    pub fn set_up_post(&mut self, post: u64) -> String {
         let own = self.posts[post as usize].as_ref().map(|post| u64::from(post.channel));
         let channel = match own {
             Some(channel) if self.rng.chance(50) => channel,

@@ -108,7 +108,7 @@ impl Generator {
     }
 
     /// A channel that nobody holds, or none at all.
-    fn astray(&mut self) -> String {
+    pub fn astray(&mut self) -> String {
         let free = self.free_channel();
         let channel = self.rng.pick(&[free, free, 31, 32, 33, 4_294_967_295]);
         let time = self.rng.below(100_000);
