@@ -1,4 +1,4 @@
--- The laws of a log on one that was written: a frame and a tick, cut in the tick, and with a byte too many.
+-- The laws of a log on one that was written: a frame and a tick, cut in the tick, in pieces, and with a byte too many.
 use mathlib.Core.Path.{_≡_, refl, _∙_}
 use mathlib.Core.Bool.{true}
 use mathlib.Core.List.{List, [], _∷_, _++_}
@@ -8,12 +8,15 @@ use native.Mathlib.Omega.{arith}
 use lib.ListN.{take}
 use Rattle.pages.specs.declared.Refusal.the-variants.{LogChannel}
 use Rattle.log.specs.declared.Taken.the-variants.{Bad}
-use Rattle.log.specs.Number.{groups}
+use Rattle.log.specs.declared.Found.the-variants as found
+use Rattle.log.specs.Number.{groups, readGroups}
 use Rattle.log.specs.Record.{Rec, tick, frame, AllLoggable, recordBytes, logBytes}
-use Rattle.log.specs.Reading.{recordAt, logOf, ends, then, clean, piece, whole, wholly}
+use Rattle.log.specs.Reading.{tickEntry, lengthPart, identifierPart, channelPart, timePart, recordAt, foundAt, logOf, ends, then, clean, piece, whole, wholly}
+use Rattle.log.specs.Pieces.{pieceOf}
 use Rattle.log.specs.Malformed.{Malformed}
 use Rattle.log.proofs.Logs.{log-cut, log-reads}
 use Rattle.log.proofs.Bads.{malformed-refused}
+use Rattle.log.proofs.Pieces.{in-pieces}
 
 abbrev night : List Rec
 night = frame 300 2 true 438272 (1 ∷ []) ∷ tick 300 3 ∷ []
@@ -39,3 +42,13 @@ night-seam = log-cut night 8 loggable (omega arith)
 pub night-bad : recordAt (0 ∷ 32 ∷ []) 0 ≡ Bad LogChannel
 unfolding Malformed groups
 night-bad = malformed-refused (0 ∷ 32 ∷ []) LogChannel 0 (inr (0, 32 ∷ [], omega arith, refl, inr (32, [], omega arith, refl, inl (omega arith, refl))))
+
+-- of the tick's five bytes a piece from byte 8 on shows it whole, the log having it there
+pub night-piece : foundAt (logBytes night) 8 ≡ found.Record (tickEntry 300 3 13)
+unfolding logBytes recordBytes groups recordAt timePart channelPart identifierPart lengthPart readGroups
+night-piece = in-pieces (logBytes night) 8 5 0 (inl refl)
+
+-- a piece of two shows a cut, which is its own
+pub night-short : foundAt (pieceOf (logBytes night) 8 2) 0 ≡ found.Cut 0
+unfolding logBytes recordBytes groups recordAt timePart channelPart identifierPart lengthPart readGroups
+night-short = refl

@@ -1,5 +1,6 @@
--- What a call and a set-up leave alone. 02, Req 05: "a line buffer under 40 bytes gets 8 first"; "Set-ups come before the first record".
-use Prim.Native.Nat.{ℕ, _<_}
+-- What a call and a set-up leave alone, and where a line leads. 02, Req 05: "a line buffer under 40 bytes gets 8 first"; "Set-ups come before the first record".
+use Prim.Native.Nat.{ℕ, _≤_, _<_}
+use native.Mathlib.Omega.{arith}
 use mathlib.Core.Path.{_≡_, refl, sym, ap, _∙_}
 use mathlib.Core.Bool.{Bool, true, false, cond, true≢false}
 use mathlib.Core.List.{List}
@@ -7,9 +8,10 @@ use lib.Dec.{ltb}
 use lib.ListN.{length, drop}
 use lib.Seq.{drop-append-seam}
 use Rattle.post.specs.declared.PlainLimits.{PlainLimits}
+use Rattle.log.specs.declared.Entry.{Entry}
 use Rattle.log.specs.declared.Found.{Found}
 use Rattle.log.specs.declared.Found.the-variants as found
-use Rattle.log.specs.Reading.{foundAt}
+use Rattle.log.specs.Reading.{recOf, foundAt}
 use Rattle.playing.specs.declared.Course.{Course}
 use Rattle.playing.specs.declared.Course.the-variants.{SetUps, Records, Refused}
 use Rattle.playing.specs.declared.Replay.{Replay}
@@ -17,8 +19,10 @@ use Rattle.playing.specs.declared.Preparing.the-variants.{Late}
 use Rattle.playing.specs.declared.Played.{Played}
 use Rattle.playing.specs.declared.Played.the-variants.{Line, Short}
 use Rattle.playing.specs.Lines.{lineRoom}
-use Rattle.playing.specs.Step.{setUpIn, Call, line, other, nextBy, bufferBy, lineCall, onFound, onCourse, callOf, nextLine, bufferAfter}
+use Rattle.playing.specs.Fed.{lineFor}
+use Rattle.playing.specs.Step.{setUpIn, Call, line, other, nextBy, bufferBy, nextCount, lineCall, onFound, onCourse, callOf, nextLine, bufferAfter}
 use Rattle.playing.specs.Answers.{isLine}
+use Rattle.playing.proofs.Entries.{entry-lies}
 use Rattle.playing.proofs.Steps.{call-short, set-up-on}
 
 module _ (r : Replay) (s : List ℕ) (at : ℕ) (out : List ℕ) where
@@ -45,26 +49,41 @@ module _ (r : Replay) (s : List ℕ) (at : ℕ) (out : List ℕ) where
         go (line text n q) h = let z : length text ≡ bytes = cc in rw (← z) (drop-append-seam text (drop (length text) out))
         go (other p) h = refl
 
-    -- a line ends the time of set-ups
-    pub after-line : nextLine r s at (length out) .replay .course ≡ Records
-    unfolding callOf lineCall
-    after-line = go (ltb (length out) lineRoom) (r .course) told
+    -- a line is that of a record at the byte
+    pub line-found : (e : Entry) × (foundAt s at ≡ found.Record e) × (callOf r s at (length out) ≡ lineCall r s e)
+    unfolding callOf
+    line-found = go (ltb (length out) lineRoom) (r .course) told
       where
         never : (p : Played) → isLine p ≡ false → p ≡ Line bytes next → ⊥
         never p e h = true≢false (sym (ap isLine h) ∙ e)
 
-        by-found : (f : Found) → nextBy r (onFound r s f) .answer ≡ Line bytes next → nextBy r (onFound r s f) .replay .course ≡ Records
-        by-found (found.Record e) h = refl
-        by-found found.End h = absurd (never _ refl h)
-        by-found (found.Cut b) h = absurd (never _ refl h)
-        by-found (found.Refused w b) h = absurd (never _ refl h)
+        by-found : (f : Found) → foundAt s at ≡ f → nextBy r (onFound r s f) .answer ≡ Line bytes next → (e : Entry) × (foundAt s at ≡ found.Record e) × (onFound r s f ≡ lineCall r s e)
+        by-found (found.Record e) f h = (e, f, refl)
+        by-found found.End f h = absurd (never _ refl h)
+        by-found (found.Cut b) f h = absurd (never _ refl h)
+        by-found (found.Refused w b) f h = absurd (never _ refl h)
 
         go : (b : Bool) (k : Course) → nextBy r (cond b (other Short) (onCourse k (onFound r s (foundAt s at)))) .answer ≡ Line bytes next
-            → nextBy r (cond b (other Short) (onCourse k (onFound r s (foundAt s at)))) .replay .course ≡ Records
+            → (e : Entry) × (foundAt s at ≡ found.Record e) × (cond b (other Short) (onCourse k (onFound r s (foundAt s at))) ≡ lineCall r s e)
         go true k h = absurd (never _ refl h)
-        go false SetUps h = by-found (foundAt s at) h
-        go false Records h = by-found (foundAt s at) h
+        go false SetUps h = by-found (foundAt s at) refl h
+        go false Records h = by-found (foundAt s at) refl h
         go false (Refused w) h = absurd (never _ refl h)
+
+    -- the next record begins behind this one, and not behind the log
+    pub line-lies : (at < next) × (next ≤ length s)
+    unfolding lineCall
+    line-lies =
+        let f = line-found in
+        let l = entry-lies s at (f .0) (f .1) in
+        let z : Line (length (lineFor (r .table) (nextCount (r .count)) (recOf s (f .0)))) (f .0 .next) ≡ Line bytes next = sym (ap (λ (x : Call). nextBy r x .answer) (f .2)) ∙ told in
+        let n : f .0 .next ≡ next = cc in
+        (omega (arith, l .1, n), omega (arith, l .2, n))
+
+    -- a line ends the time of set-ups
+    pub after-line : nextLine r s at (length out) .replay .course ≡ Records
+    unfolding lineCall
+    after-line = ap (λ (x : Call). nextBy r x .replay .course) (line-found .2)
 
     -- and then no set-up changes anything
     pub set-up-late : (i c : ℕ) (lim : PlainLimits) → setUpIn (nextLine r s at (length out) .replay) i c lim ≡ record { replay = nextLine r s at (length out) .replay; answer = Late }

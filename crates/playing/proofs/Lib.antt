@@ -6,4 +6,7 @@ pub mod Nights
 pub mod Afresh
 pub mod Counts
 pub mod Calls
+pub mod Pieces
+pub mod Pieced
+pub mod Worked
 pub mod Shorts

@@ -39,14 +39,14 @@ line-forms = refl
 abbrev limits : PlainLimits
 limits = record { voltage = 5000; charge = 1000; discharge = 500; silence = 500; sensor = 0 }
 
-abbrev set-up : ℕ → ℕ → Wanted
+abbrev pub set-up : ℕ → ℕ → Wanted
 set-up i c = (i, c, limits)
 
 -- "log AC 02 02 00 09 AC 02 03 00 09: lines "1 0 A0" and "2 - R1""
-abbrev ticks : List ℕ
+abbrev pub ticks : List ℕ
 ticks = 0xac ∷ 0x02 ∷ 0x02 ∷ 0x00 ∷ 0x09 ∷ 0xac ∷ 0x02 ∷ 0x03 ∷ 0x00 ∷ 0x09 ∷ []
 
-abbrev told : List (List ℕ)
+abbrev pub told : List (List ℕ)
 told = (49 ∷ 32 ∷ 48 ∷ 32 ∷ 65 ∷ 48 ∷ 10 ∷ []) ∷ (50 ∷ 32 ∷ 45 ∷ 32 ∷ 82 ∷ 49 ∷ 10 ∷ []) ∷ []
 
 -- a tick at 299
