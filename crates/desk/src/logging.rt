@@ -6,6 +6,7 @@ use log::Found;
 use log::Logged;
 use log::Scan;
 use notation::answer;
+use notation::ending;
 use notation::fields;
 use notation::fields::Head;
 use pages::Refusal;
@@ -161,32 +162,37 @@ pub fn read(s: &[u8], at: usize, room: &mut [u8], out: &mut [u8], pen: Pen) -> P
 fn put_log(bytes: &[u8], out: &mut [u8], pen: Pen) -> Pen {
     match log::scan_log(bytes) {
         Scan::End { records } => {
-            let p = put_records(bytes, records, out, pen);
-            text::put(out, p, b" END\n")
+            let p = put_list(bytes, records, out, pen);
+            text::put(out, p, b"END\n")
         }
         Scan::Cut { records, at } => {
-            let p = put_records(bytes, records, out, pen);
-            put_place(out, p, b" CUT@", at)
+            let p = put_list(bytes, records, out, pen);
+            put_cut(out, p, at)
         }
         Scan::Refused { records, why, at } => {
-            let p = put_records(bytes, records, out, pen);
+            let p = put_list(bytes, records, out, pen);
             put_bad(out, p, why, at)
         }
     }
 }
 
-fn put_place(out: &mut [u8], pen: Pen, name: &[u8], at: usize) -> Pen {
-    let p = text::put(out, pen, name);
-    let q = text::put_decimal(out, p, at as u64);
-    answer::line_end(out, q)
+pub fn put_cut(out: &mut [u8], pen: Pen, at: usize) -> Pen {
+    let p = ending::cut(out, pen, at as u64);
+    answer::line_end(out, p)
 }
 
-fn put_bad(out: &mut [u8], pen: Pen, why: Refusal, at: usize) -> Pen {
-    let p = answer::named(out, pen, b" BAD R", pages::refusal_number(why));
-    put_place(out, p, b"@", at)
+pub fn put_bad(out: &mut [u8], pen: Pen, why: Refusal, at: usize) -> Pen {
+    let p = ending::bad(out, pen, why, at as u64);
+    answer::line_end(out, p)
 }
 
-// `L K REC*K`: the answer may be twice as long as its line, so that what is written goes out between two records.
+// `L K REC*K` and a space
+fn put_list(bytes: &[u8], records: usize, out: &mut [u8], pen: Pen) -> Pen {
+    let p = put_records(bytes, records, out, pen);
+    text::put(out, p, b" ")
+}
+
+// The answer may be twice as long as its line, so that what is written goes out between two records.
 fn put_records(bytes: &[u8], records: usize, out: &mut [u8], pen: Pen) -> Pen {
     let mut p = put_count(out, pen, records);
     let mut at = 0;

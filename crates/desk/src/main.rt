@@ -8,11 +8,13 @@ mod words; // words.rt: findings and refusals in words
 mod watching; // watching.rt: the steps on the table
 mod codec; // codec.rt: the steps on a frame by itself
 mod logging; // logging.rt: the steps of the night log
+mod replaying; // replaying.rt: the step that replays a night log
 mod screen; // screen.rt: the steps of the service screen
 mod step; // step.rt: a line and its answer
 mod paper; // paper.rt: the output buffer
 
 use notation::answer;
+use notation::script;
 use text::Pen;
 use watch::Table;
 
@@ -29,17 +31,6 @@ struct Desk {
 // desk.md: "a line over 65,535 bytes"
 const LONGEST: usize = 65535;
 
-// A comment may be of any length.
-fn is_comment(line: &[u8], have: usize) -> bool {
-    if have == 0 {
-        return false;
-    }
-    if line.len() == 0 {
-        return false;
-    }
-    line[0] == b'#'
-}
-
 // The line in the buffer is whole: its answer goes to the pen.
 fn ended(desk: Desk, line: &[u8], room: &mut [u8], out: &mut [u8]) -> Desk {
     let have = desk.have;
@@ -48,7 +39,7 @@ fn ended(desk: Desk, line: &[u8], room: &mut [u8], out: &mut [u8]) -> Desk {
     let p = desk.pen;
     let pen = paper::with_room(p, out, have);
     if desk.over {
-        if is_comment(line, have) {
+        if script::is_skipped(line) {
             return Desk {
                 lent,
                 table,

@@ -3,7 +3,7 @@ use text::Pen;
 
 const HALF: usize = 32768;
 
-// What an answer may have beyond its line's length: a record, or every finding in words. A log's answer goes out between its records.
+// What an answer may have beyond its line's length: a record, or every finding in words. The answers of `logr` and `replay` go out between two records.
 const SPARE: usize = 2048;
 
 pub fn flushed(pen: Pen, out: &[u8]) -> Pen {

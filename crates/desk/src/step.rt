@@ -1,24 +1,18 @@
 // A line of a script, and its answer.
 use crate::codec;
 use crate::logging;
+use crate::replaying;
 use crate::screen;
 use crate::watching;
 use crate::words;
 use notation::answer;
+use notation::script;
 use text::Pen;
 use watch::Table;
 
 pub struct Line {
     pub table: Table,
     pub pen: Pen,
-}
-
-// "Blank lines and lines whose first character is `#` .. are skipped and give no answer."
-fn is_skipped(s: &[u8]) -> bool {
-    if s.len() == 0 {
-        return true;
-    }
-    s[0] == b'#'
 }
 
 pub fn answered(
@@ -29,7 +23,7 @@ pub fn answered(
     out: &mut [u8],
     pen: Pen,
 ) -> Line {
-    if is_skipped(s) {
+    if script::is_skipped(s) {
         return Line { table, pen };
     }
     let e = text::word_end(s, 0);
@@ -73,11 +67,19 @@ fn shown(
     if check::same(word, b"write") {
         return codec::write(s, at, room, out, pen);
     }
+    told(word, s, at, room, out, pen)
+}
+
+// The steps that need no table: those of a log, of the service screen and of words.
+fn told(word: &[u8], s: &[u8], at: usize, room: &mut [u8], out: &mut [u8], pen: Pen) -> Pen {
     if check::same(word, b"logw") {
         return logging::write(s, at, room, out, pen);
     }
     if check::same(word, b"logr") {
         return logging::read(s, at, room, out, pen);
+    }
+    if check::same(word, b"replay") {
+        return replaying::replay(s, at, room, out, pen);
     }
     if check::same(word, b"probe") {
         return screen::probe(s, at, out, pen);

@@ -8,7 +8,8 @@ use notation::fields;
 use notation::fields::Last;
 use notation::heard;
 use notation::heard::Heard;
-use text::Field;
+use notation::setup;
+use notation::setup::Asked;
 use text::Pen;
 use watch::Setting;
 use watch::Table;
@@ -38,61 +39,6 @@ fn found(r: Lent, out: &mut [u8], pen: Pen) -> Line {
     }
 }
 
-enum Asked {
-    Bad,
-    Setup {
-        post: u32,
-        channel: u32,
-        voltage: u32,
-        charge: u32,
-        discharge: u32,
-        silence: u32,
-        sensor: u32,
-    },
-}
-
-// desk.md: "missing: 0"
-fn take_sensor(s: &[u8], at: usize) -> Last {
-    if at > s.len() {
-        return Last::Is(0);
-    }
-    fields::take_last(s, at)
-}
-
-// `POST CHANNEL VOLT CHG DIS W [SENSOR]`
-fn setup_line(s: &[u8], at: usize) -> Asked {
-    let Field::Is(post, a) = text::take_u32(s, at) else {
-        return Asked::Bad;
-    };
-    let Field::Is(channel, b) = text::take_u32(s, a) else {
-        return Asked::Bad;
-    };
-    let Field::Is(voltage, c) = text::take_u32(s, b) else {
-        return Asked::Bad;
-    };
-    let Field::Is(charge, d) = text::take_u32(s, c) else {
-        return Asked::Bad;
-    };
-    let Field::Is(discharge, e) = text::take_u32(s, d) else {
-        return Asked::Bad;
-    };
-    let Field::Is(silence, f) = text::take_u32(s, e) else {
-        return Asked::Bad;
-    };
-    let Last::Is(sensor) = take_sensor(s, f) else {
-        return Asked::Bad;
-    };
-    Asked::Setup {
-        post,
-        channel,
-        voltage,
-        charge,
-        discharge,
-        silence,
-        sensor,
-    }
-}
-
 // `setup POST CHANNEL VOLT CHG DIS W [SENSOR]`
 pub fn setup(lent: bool, table: Table, s: &[u8], at: usize, out: &mut [u8], pen: Pen) -> Line {
     let Asked::Setup {
@@ -103,7 +49,7 @@ pub fn setup(lent: bool, table: Table, s: &[u8], at: usize, out: &mut [u8], pen:
         discharge,
         silence,
         sensor,
-    } = setup_line(s, at)
+    } = setup::setup_line(s, at)
     else {
         return unknown(table, out, pen);
     };

@@ -8,13 +8,14 @@ use crate::night::fresh;
 use crate::night::stored;
 use crate::pieces;
 use crate::say;
+use notation::script;
 use std::num::wrapping_add_u64;
 
 // desk.md: "a line over 65,535 bytes"
 const LONGEST: usize = 65535;
 
 fn taken(night: Night, s: &[u8], name: &[u8], room: &mut [u8], out: &mut [u8]) -> Night {
-    if lines::is_skipped(s) {
+    if script::is_skipped(s) {
         return night;
     }
     match lines::record_of(s, room, out) {
@@ -32,7 +33,7 @@ fn taken(night: Night, s: &[u8], name: &[u8], room: &mut [u8], out: &mut [u8]) -
 
 // A line over its length is skipped where it is a comment.
 fn too_long(night: Night, line: &[u8], out: &mut [u8]) -> Night {
-    if lines::is_skipped(line) {
+    if script::is_skipped(line) {
         return night;
     }
     say::no_record(night.line, out);

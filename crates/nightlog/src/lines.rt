@@ -11,14 +11,6 @@ pub enum Record {
     Refused(Refusal),
 }
 
-// desk.md: "Blank lines and lines whose first character is `#` .. are skipped".
-pub fn is_skipped(s: &[u8]) -> bool {
-    if s.len() == 0 {
-        return true;
-    }
-    s[0] == b'#'
-}
-
 fn heard_in(s: &[u8], room: &mut [u8]) -> Heard {
     let e = text::word_end(s, 0);
     if e >= s.len() {

@@ -57,23 +57,12 @@ pub fn record(s: &[u8], e: Entry, out: &mut [u8], pen: Pen) -> Pen {
     put_frame(out, q, e.id, e.extended, log::payload(s, e.start, e.length))
 }
 
-fn put_at(out: &mut [u8], pen: Pen, at: u64) -> Pen {
-    let p = text::put(out, pen, b"@");
-    text::put_decimal(out, p, at)
-}
-
 // `END`, `CUT@BYTE` or `BAD R<n>@BYTE`
 pub fn put_ending(out: &mut [u8], pen: Pen, ending: Ending, at: u64) -> Pen {
     match ending {
         Ending::End => text::put(out, pen, b"END"),
-        Ending::Cut => {
-            let p = text::put(out, pen, b"CUT");
-            put_at(out, p, at)
-        }
-        Ending::Bad(why) => {
-            let p = notation::answer::named(out, pen, b"BAD R", pages::refusal_number(why));
-            put_at(out, p, at)
-        }
+        Ending::Cut => notation::ending::cut(out, pen, at),
+        Ending::Bad(why) => notation::ending::bad(out, pen, why, at),
         Ending::Failed => pen,
     }
 }

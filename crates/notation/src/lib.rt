@@ -4,3 +4,5 @@ pub mod fields; // fields.rt: fields of a line that stand together
 pub mod heard; // heard.rt: a frame and a tick of a line
 pub mod setup; // setup.rt: a post's set-up of a line
 pub mod answer; // answer.rt: answers as text
+pub mod ending; // ending.rt: how a log ends, as text
+pub mod script; // script.rt: lines that say nothing

@@ -1,5 +1,6 @@
 // The set-ups of a file: the desk's `setup` lines, blank lines and comments.
 use crate::say;
+use notation::script;
 use notation::setup;
 use notation::setup::Asked;
 use pages::Refusal;
@@ -29,14 +30,6 @@ fn stopped(p: Posts) -> Posts {
     q
 }
 
-// desk.md: "Blank lines and lines whose first character is `#` .. are skipped".
-fn is_skipped(s: &[u8]) -> bool {
-    if s.len() == 0 {
-        return true;
-    }
-    s[0] == b'#'
-}
-
 fn asked_in(s: &[u8]) -> Asked {
     let e = text::word_end(s, 0);
     if e >= s.len() {
@@ -54,7 +47,7 @@ fn no_setup(p: Posts, name: &[u8]) -> Posts {
 }
 
 fn refused(p: Posts, name: &[u8], why: Refusal) -> Posts {
-    say::refused(name, p.line, pages::refusal_number(why));
+    say::refused(name, p.line, why);
     stopped(p)
 }
 
@@ -103,7 +96,7 @@ fn asked(p: Posts, name: &[u8], a: Asked) -> Posts {
 fn taken(p: Posts, name: &[u8], s: &[u8]) -> Posts {
     let mut q = p;
     q.line = wrapping_add_u64(q.line, 1);
-    if is_skipped(s) {
+    if script::is_skipped(s) {
         return q;
     }
     asked(q, name, asked_in(s))

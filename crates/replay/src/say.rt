@@ -1,4 +1,5 @@
 // What is said on standard error. A message is made in a buffer of its own, since lines may wait in the output's, and written at once.
+use pages::Refusal;
 use text::Pen;
 
 // `replay: FILE`
@@ -55,12 +56,13 @@ pub fn no_setup(name: &[u8], line: u64) {
 }
 
 // The line, and the ending in desk.md's words: `SETUP R<n>`.
-pub fn refused(name: &[u8], line: u64, number: u32) {
+pub fn refused(name: &[u8], line: u64, why: Refusal) {
     let mut out = io::large_buffer();
     let p = at_line(name, line, &mut out);
-    let q = notation::answer::named(&mut out, p, b"the set-up is refused\nSETUP R", number);
-    let r = notation::answer::line_end(&mut out, q);
-    written(r.at, &out);
+    let q = text::put(&mut out, p, b"the set-up is refused\n");
+    let r = notation::ending::set_up(&mut out, q, why);
+    let t = notation::answer::line_end(&mut out, r);
+    written(t.at, &out);
 }
 
 // How far a long log is, on a line that the next one goes over.

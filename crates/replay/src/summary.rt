@@ -5,24 +5,13 @@ use crate::say;
 use crate::tally::Tally;
 use text::Pen;
 
-fn put_at(out: &mut [u8], pen: Pen, at: u64) -> Pen {
-    let p = text::put(out, pen, b"@");
-    text::put_decimal(out, p, at)
-}
-
 // desk.md: `END`, `CUT@BYTE` or `BAD R<n>@BYTE`
 fn put_ending(out: &mut [u8], pen: Pen, behind: Behind, at: u64) -> Pen {
     match behind {
         Behind::Going => pen,
         Behind::End => text::put(out, pen, b"END"),
-        Behind::Cut => {
-            let p = text::put(out, pen, b"CUT");
-            put_at(out, p, at)
-        }
-        Behind::Bad(why) => {
-            let p = notation::answer::named(out, pen, b"BAD R", pages::refusal_number(why));
-            put_at(out, p, at)
-        }
+        Behind::Cut => notation::ending::cut(out, pen, at),
+        Behind::Bad(why) => notation::ending::bad(out, pen, why, at),
         Behind::Failed => pen,
     }
 }
