@@ -1,34 +1,13 @@
 /* The library beside plain C, on the same input in one run: ns a call and the ratio. Both give the same answers, or the run stops. */
 #define _POSIX_C_SOURCE 199309L
+#include "bench.h"
 #include "peer.h"
 
-#include <stdio.h>
-#include <stdlib.h>
 #include <string.h>
-#include <time.h>
 
-/* The charger's nine messages, as a charging session mixes them: what comes every 100 ms by the pages more than once, the rest once. */
-typedef struct { uint32_t id; uint8_t n, bytes[8]; } frame;
-static const frame mix[] = {
-    {0x63000, 8, {0xa0, 0x0f, 0x83, 0x00, 0x41, 0x40, 0x01, 0x64}}, {0x6b000, 1, {7}},
-    {0x6b003, 7, {0xa0, 0x0f, 0x90, 0x00, 0x00, 0x00, 0x48}},       {0x6b001, 2, {2, 1}},
-    {0x63000, 8, {0xa1, 0x0f, 0x85, 0x00, 0x41, 0x40, 0x01, 0x64}}, {0x6b000, 1, {7}},
-    {0x6b003, 7, {0xa0, 0x0f, 0x91, 0x00, 0x00, 0x00, 0x48}},       {0x63001, 8, {0x88, 0x13, 0xe8, 0x03, 0xf4, 0x01, 0, 0}},
-    {0x63000, 8, {0xa2, 0x0f, 0x87, 0x00, 0x41, 0x40, 0x01, 0x64}}, {0x6b105, 6, {1, 2, 3, 4, 5, 6}},
-    {0x6b003, 7, {0xa0, 0x0f, 0x92, 0x00, 0x00, 0x00, 0x48}},       {0x6b002, 1, {1}},
-    {0x6b005, 1, {1}},                                              {0x6b004, 1, {0}},
-};
-enum { MIX = sizeof mix / sizeof *mix, TURNS = 40000 };
-
-static double now(void) {
-    struct timespec t;
-    clock_gettime(CLOCK_MONOTONIC, &t);
-    return (double)t.tv_sec * 1e9 + (double)t.tv_nsec;
-}
+enum { TURNS = 40000 };
 
 static uint64_t sum; /* keeps the calls alive */
-
-static void line(const char *what, double ours, double plain) { printf("%-34s %8.1f ns %8.1f ns plain C   %5.2f times\n", what, ours, plain, ours / plain); }
 
 #define TIMED(out, calls, body) TIMED_FOR(TURNS, out, calls, body)
 #define TIMED_FOR(turns, out, calls, body)                           \
@@ -42,11 +21,6 @@ static void line(const char *what, double ours, double plain) { printf("%-34s %8
         }                                                            \
         out = best;                                                  \
     } while (0)
-
-static void differ(const char *what) {
-    printf("bench: %s: the two differ\n", what);
-    exit(1);
-}
 
 static void bench_read(void) {
     int64_t a[ROKEMAIPU_SIGNALS], b[ROKEMAIPU_SIGNALS];
@@ -92,9 +66,9 @@ static void bench_watch(uint32_t posts) {
     line(what, ours, plain);
 }
 
-/* ---- the night log: the mix over and over, 10 ms apart on channel 4, and a tick after each of its turns */
+/* ---- the night log, on channel 4 */
 
-enum { RECORDS = 300 * (MIX + 1), LOG_TURNS = 100, FIRST = 3600000, CHANNEL = 4 };
+enum { RECORDS = 300 * (MIX + 1), LOG_TURNS = 100, CHANNEL = 4 };
 
 typedef uint32_t log_frame(uint32_t time, uint32_t channel, uint32_t id, bool extended, const uint8_t *payload, size_t length, uint8_t *buffer, size_t room);
 typedef uint32_t log_tick(uint32_t time, uint32_t channel, uint8_t *buffer, size_t room);
@@ -103,7 +77,7 @@ typedef uint32_t log_record(const uint8_t *log, size_t size, size_t at, uint64_t
 static size_t written(log_frame *frame_to, log_tick *tick_to, uint8_t *log, size_t room) {
     size_t at = 0;
     uint32_t time = FIRST;
-    for (int k = 0; k < RECORDS; k++, time += 10) {
+    for (int k = 0; k < RECORDS; k++, time += APART) {
         int i = k % (MIX + 1);
         at += i < MIX ? frame_to(time, CHANNEL, mix[i].id, true, mix[i].bytes, mix[i].n, log + at, room - at) : tick_to(time, CHANNEL, log + at, room - at);
     }
@@ -124,11 +98,6 @@ static bool same_read(const uint8_t *log, size_t size) {
         if (found != ROKEMAIPU_FOUND_RECORD) return found == ROKEMAIPU_FOUND_END;
         if (memcmp(x, y, sizeof x)) return false;
     }
-}
-
-static void log_line(const char *what, double ours, double plain, double bytes) {
-    line(what, ours, plain);
-    printf("%36.1f million records/s, %.0f MB/s; plain C %.1f million, %.0f MB/s\n", 1e3 / ours, 1e3 * bytes / ours, 1e3 / plain, 1e3 * bytes / plain);
 }
 
 static void bench_log(void) {
