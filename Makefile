@@ -4,7 +4,7 @@
 #             against the second program, recordings of candump, the pages of the nights; its last line is 'N passed, 0 failed'
 # make check  the proofs and the programs, without the must-fail edits
 # make lib    target/lib/librokemaipu.a and target/lib/rokemaipu.h, for C and Rust
-# make bench  the library beside plain C in one run; BEFORE=REVISION, beside that revision of itself too
+# make bench  the library and the replay beside plain C in one run; BEFORE=REVISION, the library beside that revision of itself too
 # make report a night as a page, target/report/NAME.html: NIGHT and POSTS as above; PICTURE=FILE.png takes a picture of it too
 
 NIGHT ?= march
@@ -12,13 +12,15 @@ night = $(basename $(notdir $(NIGHT)))
 LOG ?= $(or $(filter %.log,$(NIGHT)),nights/$(night).log)
 POSTS ?= $(basename $(LOG)).posts
 
-.PHONY: run test check lib bench report
+.PHONY: run test check lib bench report replay
 
-run:
-	@[ -x target/bin/replay ] || echo "proving and building the replay: about 10 minutes, once" >&2
-	@rt check replay > run.log 2>&1 || { cat run.log; rm -f run.log; exit 1; }
-	@rm -f run.log
+run: replay
 	@tools/replay $(POSTS) $(LOG)
+
+replay:
+	@[ -x target/bin/replay ] || echo "proving and building the replay: about 10 minutes, once" >&2
+	@rt check replay > replay.log 2>&1 || { cat replay.log; rm -f replay.log; exit 1; }
+	@rm -f replay.log
 
 test:
 	@tests/run
@@ -34,18 +36,20 @@ lib:
 	@cp include/rokemaipu.h target/lib/
 	@echo "target/lib/librokemaipu.a, target/lib/rokemaipu.h"
 
-bench: lib
+bench: lib replay
+	@mkdir -p target/bench
 	@. tests/machine; set -e; \
 	[ -z "$(BEFORE)" ] || bench/before $(BEFORE); \
 	$$cc -O2 -Wall -Wextra $(if $(BEFORE),-DBEFORE) -Itarget/lib -Ibench bench/bench.c bench/peer.c bench/peer_log.c target/lib/librokemaipu.a $(if $(BEFORE),target/before/libbefore.a) -o target/lib/bench; \
 	$$cc -O2 -Wall -Wextra -Itarget/lib -Wl,--wrap=memcpy,--wrap=memmove bench/copied.c target/lib/librokemaipu.a -o target/lib/copied; \
+	$$cc -O2 -Wall -Wextra -Itarget/lib -Ibench bench/peer_replay.c bench/peer.c bench/peer_log.c -o target/lib/peer_replay; \
+	$$cc -O2 -Wall -Wextra -Itarget/lib -Ibench bench/replay.c bench/peer_log.c -o target/lib/bench_replay; \
 	[ -z "$$run" ] || echo "emulated: times and ratios are the emulator's"; \
 	$$run target/lib/bench; \
-	$$run target/lib/copied
+	$$run target/lib/copied; \
+	$$run target/lib/bench_replay target/bench $(CURDIR)/target/bin/replay $(CURDIR)/target/lib/peer_replay $$run
 
-report:
-	@rt check replay > report.log 2>&1 || { cat report.log; rm -f report.log; exit 1; }
-	@rm -f report.log
+report: replay
 	@mkdir -p target/report
 	@tools/replay --lines $(POSTS) $(LOG) > target/report/$(night).lines
 	@tools/report $(if $(PICTURE),--screenshot $(PICTURE)) --name $(night) $(POSTS) $(LOG) target/report/$(night).lines target/report/$(night).html

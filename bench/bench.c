@@ -1,31 +1,12 @@
 /* The library beside plain C and, with BEFORE, beside an older revision of itself, on the same input in one run: ns a call and the ratios. All give
  * the same answers, or the run stops. The sides take turns of about a millisecond, short enough to fall between other work, and the best of each counts. */
 #define _POSIX_C_SOURCE 199309L
+#include "bench.h"
 #include "sides.h"
 
-#include <stdio.h>
-#include <stdlib.h>
 #include <string.h>
-#include <time.h>
 
-/* The charger's nine messages, as a charging session mixes them: what comes every 100 ms by the pages more than once, the rest once. */
-typedef struct { uint32_t id; uint8_t n, bytes[8]; } frame;
-static const frame mix[] = {
-    {0x63000, 8, {0xa0, 0x0f, 0x83, 0x00, 0x41, 0x40, 0x01, 0x64}}, {0x6b000, 1, {7}},
-    {0x6b003, 7, {0xa0, 0x0f, 0x90, 0x00, 0x00, 0x00, 0x48}},       {0x6b001, 2, {2, 1}},
-    {0x63000, 8, {0xa1, 0x0f, 0x85, 0x00, 0x41, 0x40, 0x01, 0x64}}, {0x6b000, 1, {7}},
-    {0x6b003, 7, {0xa0, 0x0f, 0x91, 0x00, 0x00, 0x00, 0x48}},       {0x63001, 8, {0x88, 0x13, 0xe8, 0x03, 0xf4, 0x01, 0, 0}},
-    {0x63000, 8, {0xa2, 0x0f, 0x87, 0x00, 0x41, 0x40, 0x01, 0x64}}, {0x6b105, 6, {1, 2, 3, 4, 5, 6}},
-    {0x6b003, 7, {0xa0, 0x0f, 0x92, 0x00, 0x00, 0x00, 0x48}},       {0x6b002, 1, {1}},
-    {0x6b005, 1, {1}},                                              {0x6b004, 1, {0}},
-};
-enum { MIX = sizeof mix / sizeof *mix, TURNS = 1000, AGAIN = 1500 };
-
-static double now(void) {
-    struct timespec t;
-    clock_gettime(CLOCK_MONOTONIC, &t);
-    return (double)t.tv_sec * 1e9 + (double)t.tv_nsec;
-}
+enum { TURNS = 1000, AGAIN = 1500 };
 
 static uint64_t sum; /* keeps the calls alive */
 
@@ -35,11 +16,6 @@ static uint64_t sum; /* keeps the calls alive */
 typedef uint64_t work(const side *s, void *with);
 
 typedef struct { double took[SIDES]; } times;
-
-static void differ(const char *what) {
-    printf("bench: %s: the sides differ\n", what);
-    exit(1);
-}
 
 static times timed(const char *what, work *f, void *with, int turns, double calls) {
     times best;
@@ -137,9 +113,9 @@ static void bench_watch(uint32_t posts) {
     line(what, tick, &d, 4 * TURNS, 1);
 }
 
-/* ---- the night log: the mix over and over, 10 ms apart on channel 4, and a tick after each of its turns */
+/* ---- the night log, on one channel */
 
-enum { RECORDS = 300 * (MIX + 1), LOG_TURNS = 3, FIRST = 3600000, CHANNEL = 4, ROOM = RECORDS * ROKEMAIPU_RECORD_BYTES };
+enum { RECORDS = 300 * (MIX + 1), LOG_TURNS = 3, CHANNEL = 4, ROOM = RECORDS * ROKEMAIPU_RECORD_BYTES };
 
 typedef struct { size_t size; uint8_t bytes[ROOM]; } night;
 
@@ -147,7 +123,7 @@ static uint64_t write_log(const side *s, void *with) {
     night *log = with;
     size_t at = 0;
     uint32_t time = FIRST;
-    for (int k = 0; k < RECORDS; k++, time += 10) {
+    for (int k = 0; k < RECORDS; k++, time += APART) {
         int i = k % (MIX + 1);
         at += i < MIX ? s->log_frame(time, CHANNEL, mix[i].id, true, mix[i].bytes, mix[i].n, log->bytes + at, ROOM - at) : s->log_tick(time, CHANNEL, log->bytes + at, ROOM - at);
     }

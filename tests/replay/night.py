@@ -2,6 +2,7 @@
 import os
 import pty
 import random
+import re
 import subprocess
 import sys
 import tempfile
@@ -148,8 +149,28 @@ def progress():
         same(told[told.rindex('\x1b[K') + 3:], summary('END', [f'{n} 0 A0' for n in range(1, count + 1)]).replace('\n', '\r\n'), 'the summary behind it')
 
 
+def peak(records):
+    """The most memory in kB that a replay of so many ticks had when all but its last 80,000 bytes were read: more than the pipe and its reader hold, so that it is
+    still there. What wait4 would tell counts this interpreter's memory too."""
+    Path('a.posts').write_text(POSTS)
+    Path('a.log').write_bytes(record('tick 2 300') * records)
+    size = sum(len(f'{n} 0 A0\n') for n in range(1, records + 1))
+    with subprocess.Popen([*COMMAND, 'a.posts', 'a.log'], stdout=subprocess.PIPE, stderr=subprocess.DEVNULL, pipesize=65_536) as run:
+        run.stdout.read(size - 80_000)
+        status = Path(f'/proc/{run.pid}/status').read_text()
+        same(str(len(run.stdout.read())), '80000', f'the rest of {records} lines')
+    return int(re.search(r'VmHWM:\s*(\d+) kB', status)[1])
+
+
+def memory():
+    """It does not grow with the log: ten times the records have 450 kB more of log and nearly a MB more of lines."""
+    short, long = peak(10_000), peak(100_000)
+    if long > short + 256:
+        sys.exit(f'tests/replay: {short} kB for 10,000 records, {long} kB for 100,000')
+
+
 with tempfile.TemporaryDirectory() as room:
     os.chdir(room)
-    for part in (nights, cuts, pieces, setups, files, progress):
+    for part in (nights, cuts, pieces, setups, files, progress, memory):
         part()
 print('tests/replay: ok')
