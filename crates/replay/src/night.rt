@@ -86,12 +86,11 @@ fn judged(w: Night, behind: Behind, first: bool) -> Night {
 
 fn taken(w: Night, piece: &[u8], line: &mut [u8], out: &mut [u8]) -> Night {
     let before = w.at;
-    let r = w.replay;
     let t = w.tally;
     let p = w.pen;
-    let start = piece::begun(r, t, p);
-    let c = piece::played(start, piece, line, out);
-    let replay = c.replay;
+    let d = piece::played(w.replay, piece::begun(t, p), piece, line, out);
+    let replay = d.replay;
+    let c = d.course;
     let tally = c.tally;
     let pen = c.pen;
     let behind = c.behind;

@@ -18,7 +18,6 @@ pub enum Behind {
 
 // `at` is the byte of the piece where the next record begins.
 pub struct Course {
-    pub replay: Replay,
     pub tally: Tally,
     pub pen: Pen,
     pub at: usize,
@@ -26,9 +25,14 @@ pub struct Course {
     pub behind: Behind,
 }
 
-pub fn begun(replay: Replay, tally: Tally, pen: Pen) -> Course {
+// The replay stands apart from the course, which functions hand on for each record: with its table it is large.
+pub struct Read {
+    pub replay: Replay,
+    pub course: Course,
+}
+
+pub fn begun(tally: Tally, pen: Pen) -> Course {
     Course {
-        replay,
         tally,
         pen,
         at: 0,
@@ -38,11 +42,9 @@ pub fn begun(replay: Replay, tally: Tally, pen: Pen) -> Course {
 }
 
 fn ended(c: Course, behind: Behind) -> Course {
-    let replay = c.replay;
     let tally = c.tally;
     let pen = c.pen;
     Course {
-        replay,
         tally,
         pen,
         at: c.at,
@@ -53,13 +55,11 @@ fn ended(c: Course, behind: Behind) -> Course {
 
 // A line was written: it is counted and goes to the output.
 fn told(c: Course, line: &[u8], next: usize, out: &mut [u8]) -> Course {
-    let replay = c.replay;
     let t = c.tally;
     let p = c.pen;
     let pen = paper::put(out, p, line);
     let tally = tally::counted(t, line);
     let d = Course {
-        replay,
         tally,
         pen,
         at: next,
@@ -88,34 +88,32 @@ fn answered(c: Course, answer: Played, line: &[u8], out: &mut [u8]) -> Course {
     }
 }
 
-fn stepped(c: Course, piece: &[u8], line: &mut [u8], out: &mut [u8]) -> Course {
-    let tally = c.tally;
-    let pen = c.pen;
-    let at = c.at;
-    let n = playing::next_line(c.replay, piece, at, line);
-    let replay = n.replay;
-    let answer = n.answer;
-    let d = Course {
-        replay,
-        tally,
-        pen,
-        at,
-        more: true,
-        behind: Behind::Going,
-    };
-    answered(d, answer, line, out)
-}
-
 // A record has at least four bytes, so the turns are enough.
-pub fn played(start: Course, piece: &[u8], line: &mut [u8], out: &mut [u8]) -> Course {
+pub fn played(
+    replay: Replay,
+    start: Course,
+    piece: &[u8],
+    line: &mut [u8],
+    out: &mut [u8],
+) -> Read {
+    let mut r = replay;
     let mut c = start;
     let mut turns = piece.len();
     while turns > 0 {
-        c = stepped(c, piece, line, out);
+        let n = playing::next_line(r, piece, c.at, line);
+        r = n.replay;
+        let answer = n.answer;
+        c = answered(c, answer, line, out);
         if !c.more {
-            return c;
+            return Read {
+                replay: r,
+                course: c,
+            };
         }
         turns -= 1;
     }
-    c
+    Read {
+        replay: r,
+        course: c,
+    }
 }
