@@ -12,13 +12,13 @@ use Rattle.log.specs.declared.Found.{Found}
 use Rattle.log.specs.declared.Found.the-variants as found
 use Rattle.log.specs.declared.Logged.{Logged}
 use Rattle.log.specs.declared.Logged.the-variants.{Bytes, Refused}
-use Rattle.log.specs.Record.{Rec, tick, frame, partOf, recordBytes, Loggable}
+use Rattle.log.specs.Record.{Rec, tick, frame, partOf, recordBytes, Loggable, longestRecord}
 use Rattle.log.specs.Writing.{writtenOf, stored, bufferAfter}
 use Rattle.log.proofs.Numbers.{size-le, size-one}
 use Rattle.log.proofs.Stores.{tick-length, frame-length}
 use Rattle.log.proofs.Writings.{Timed, written-loggable}
 use Rattle.gateway.specs.Words.{refusalWord}
-use Rattle.gateway.specs.Night.{longestRecord, Short, loggedWord, entryCount, entryNumbers, foundWord, entryLeft}
+use Rattle.gateway.specs.Night.{Short, loggedWord, entryCount, entryNumbers, foundWord, entryLeft}
 
 -- ---- writing
 

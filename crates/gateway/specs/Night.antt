@@ -10,6 +10,7 @@ use Rattle.log.specs.declared.Found.{Found}
 use Rattle.log.specs.declared.Found.the-variants as found
 use Rattle.log.specs.declared.Logged.{Logged}
 use Rattle.log.specs.declared.Logged.the-variants as logged
+use Rattle.log.specs.Record.{longestRecord}
 use Rattle.gateway.specs.Words.{refusalWord}
 
 -- ---- writing a record: the number of its bytes, or the refusal
@@ -17,10 +18,6 @@ use Rattle.gateway.specs.Words.{refusalWord}
 abbrev pub loggedWord : Logged → ℕ
 loggedWord (logged.Bytes n) = n
 loggedWord (logged.Refused w) = refusalWord w
-
--- no record is longer
-abbrev pub longestRecord : ℕ
-longestRecord = 20
 
 abbrev pub Short : Logged → Type 0
 Short (logged.Bytes n) = n ≤ longestRecord

@@ -9,4 +9,5 @@ pub mod Stores
 pub mod Writings
 pub mod Bads
 pub mod Pieces
+pub mod Cuts
 pub mod Nights

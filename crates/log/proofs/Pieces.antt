@@ -1,6 +1,6 @@
 -- A log read in pieces: what a piece shows as a record, or as refused, stands so in the log; only an end or a cut may change with the bytes that follow,
 -- and in the log's last piece not even these.
-use mathlib.Core.Path.{_≡_, refl, sym, ap, ap₂, _∙_, subst}
+use mathlib.Core.Path.{_≡_, refl, sym, ap, _∙_, subst}
 use mathlib.Core.Logic.{_⊎_, inl, inr, ⊎-elim}
 use mathlib.Core.Bool.{Bool, true, false, cond, true≢false}
 use mathlib.Core.List.{List, [], _∷_, _++_, append-nil}
@@ -19,7 +19,7 @@ use Rattle.log.specs.declared.Found.{Found}
 use Rattle.log.specs.declared.Found.the-variants as found
 use Rattle.log.specs.Number.{moreOf, readGroups, readNumber, top}
 use Rattle.log.specs.Record.{identifiers, frame}
-use Rattle.log.specs.Reading.{onNumber, part, tickEntry, frameEntry, recOf, lengthPart, identifierPart, channelPart, timePart, recordAt, placed, foundAt}
+use Rattle.log.specs.Reading.{onNumber, part, frameEntry, recOf, lengthPart, identifierPart, channelPart, timePart, recordAt, placed, foundAt}
 use Rattle.log.specs.Pieces.{pieceOf, movedEntry, moved, isFirm}
 use Rattle.log.proofs.Numbers.{Under, within}
 

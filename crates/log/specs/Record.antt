@@ -41,3 +41,7 @@ recordBytes (frame t c x i p) = partsBytes t c (partOf x i) (length p) p
 unfoldable pub logBytes : List Rec → List ℕ
 logBytes [] = []
 logBytes (r ∷ rs) = recordBytes r ++ logBytes rs
+
+-- no record is longer, and none that is cut has so many bytes (gateway's law `longest`, and `enough`)
+abbrev pub longestRecord : ℕ
+longestRecord = 20

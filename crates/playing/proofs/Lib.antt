@@ -8,5 +8,6 @@ pub mod Counts
 pub mod Calls
 pub mod Pieces
 pub mod Pieced
+pub mod Roomy
 pub mod Worked
 pub mod Shorts

@@ -8,11 +8,12 @@ use lib.Dec.{ltb}
 use lib.ListN.{length}
 use Rattle.log.specs.declared.Found.{Found}
 use Rattle.log.specs.declared.Found.the-variants as found
-use Rattle.log.specs.Record.{Rec}
+use Rattle.log.specs.Record.{Rec, longestRecord}
 use Rattle.log.specs.Reading.{foundAt}
 use Rattle.log.specs.Pieces.{pieceOf, moved}
 use Rattle.log.specs.Pieces as log
 use Rattle.log.proofs.Pieces.{in-pieces, same-record}
+use Rattle.log.proofs.Cuts.{enough}
 use Rattle.playing.specs.declared.Course.{Course}
 use Rattle.playing.specs.declared.Course.the-variants.{SetUps, Records, Refused}
 use Rattle.playing.specs.declared.Replay.{Replay}
@@ -70,6 +71,20 @@ module _ (r : Replay) (s : List ℕ) (a k i : ℕ) where
       go false SetUps h = found-same h
       go false Records h = found-same h
       go false (Refused w) h = refl
+
+  -- a piece with 20 bytes from the record on leaves nothing open but at the log's end
+  pub call-enough : (room : ℕ) → i + longestRecord ≤ k → isFirm (nextLine r p i room .answer) ≡ true ⊎ length s ≤ a + k
+  unfolding callOf
+  call-enough room le = go (ltb room lineRoom) (r .course)
+    where
+      by-found : isFirm (nextBy r (onFound r p (foundAt p i)) .answer) ≡ true ⊎ length s ≤ a + k
+      by-found = ⊎-elim (λ e. inl (firm-found r p (foundAt p i) ∙ e)) inr (enough s a k i le)
+
+      go : (t : Bool) (c : Course) → isFirm (nextBy r (cond t (other Short) (onCourse c (onFound r p (foundAt p i)))) .answer) ≡ true ⊎ length s ≤ a + k
+      go true c = inl refl
+      go false SetUps = by-found
+      go false Records = by-found
+      go false (Refused w) = inl refl
 
   -- a firm answer, or any over the log's last piece, is the whole log's, but that its bytes are counted from the piece's first; and the line is the same
   pub line-in-piece : (out : List ℕ) → isFirm (nextLine r p i (length out) .answer) ≡ true ⊎ length s ≤ a + k

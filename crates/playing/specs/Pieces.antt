@@ -1,10 +1,11 @@
 -- A log that is longer than its caller's buffer: calls over pieces of it, told by the bytes of the log.
-use Prim.Native.Nat.{ℕ, _+_, _-_}
+use Prim.Native.Nat.{ℕ, _+_, _-_, _≤_}
 use mathlib.Core.Bool.{Bool, true, false, _||_, cond}
 use mathlib.Core.Option.{Option, none, some}
 use mathlib.Core.List.{List, [], _∷_}
 use lib.Dec.{leb}
 use lib.ListN.{length, take}
+use Rattle.log.specs.Record.{longestRecord}
 use Rattle.log.specs.Pieces.{pieceOf}
 use Rattle.playing.specs.declared.Replay.{Replay}
 use Rattle.playing.specs.declared.Played.{Played}
@@ -39,6 +40,11 @@ isFirm Short = true
 -- the piece of a call: so many bytes before the record it begins, or at the log's first byte, and it has so many bytes, or as many as there are
 abbrev pub Piece : Type 0
 Piece = ℕ × ℕ
+
+-- each has room for a whole record, from the record's first byte on
+abbrev pub AllRoomy : List Piece → Type 0
+AllRoomy [] = Unit {0}
+AllRoomy (p ∷ ps) = (p .0 + longestRecord ≤ p .1) × AllRoomy ps
 
 abbrev pub onMore : List ℕ → Option Night → Option Night
 onMore text (some n) = some (record { lines = text ∷ n .lines; ending = n .ending })
