@@ -6,9 +6,8 @@ ghost use lib.IntN.{pos};
 ghost use lib.ListN.{drop, getD};
 ghost use Rattle.pages.specs.Table.{rows, noRow, rowCount, Fine, block, bitsAt, takes};
 ghost use Rattle.pages.specs.Raws.{signalCount, wholeAt, wholesOf, pad, rowTakes, putRaw};
-ghost use Rattle.pages.specs.Change.{changedRow, changedAt};
-ghost use Rattle.pages.specs.Steps.{offenceOf, cleared, judgedBy, packOf, signalFound};
-use crate::Found;
+ghost use Rattle.pages.specs.Change.{changedRow};
+ghost use Rattle.pages.specs.Steps.{offenceOf, cleared, judgedBy, packOf};
 use crate::Judged;
 use crate::Offence;
 use crate::Packed;
@@ -20,7 +19,6 @@ use crate::table::row_at;
 use crate::table::row_to_pack;
 use crate::table::row_to_sift;
 use crate::table::row_to_unpack;
-use crate::table::signal_at;
 
 // The start as refusal 5 carries it: no signal of 8 bytes starts above bit 63.
 fn start_bit(r: Row) -> u8
@@ -189,7 +187,7 @@ pub fn pack(at: usize, kind: usize, raws: [i64; 16]) -> Packed
 }
 
 // 7, then 5 for the new label.
-fn change_row(r: Row, kind: usize, n: u64, z: i64) -> Judged
+pub fn change_row(r: Row, kind: usize, n: u64, z: i64) -> Judged
     requires { ⌜ Fine r ⌝ }
     ensures { λ a. ⌜ a ≡ changedRow r kind n z ⌝ }
 {
@@ -200,14 +198,4 @@ fn change_row(r: Row, kind: usize, n: u64, z: i64) -> Judged
         return Judged::Refused(Refusal::NoLabel(start_bit(r)));
     }
     Judged::Frame(kind, put_raw(r, n, z))
-}
-
-// 13 before them.
-pub fn change_number(kind: usize, n: u64, start: u32, z: i64) -> Judged
-    ensures { λ r. ⌜ r ≡ changedAt kind n z (signalFound kind start) ⌝ }
-{
-    let Found::At(i) = signal_at(kind, start) else {
-        return Judged::Refused(Refusal::NoSignal);
-    };
-    change_row(row_at(i), kind, n, z)
 }

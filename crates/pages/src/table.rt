@@ -54,6 +54,16 @@ pub fn row_to_pack(i: usize) -> Row
     safety::row_at(i - charger::ROW_COUNT)
 }
 
+pub fn row_to_seek(i: usize) -> Row
+    requires { ⌜ i < rowCount ⌝ }
+    ensures { λ r. ⌜ (r ≡ getD rows i noRow) × Fine r ⌝ }
+{
+    if i < charger::ROW_COUNT {
+        return charger::row_at(i);
+    }
+    safety::row_at(i - charger::ROW_COUNT)
+}
+
 // All identifiers of a document have one form: the frame's own says which rows to search. The row is taken where it was found, so that the
 // compiler makes one jump by identifier of both.
 pub fn row_with_id(id: u32, extended: bool) -> FoundRow
@@ -92,24 +102,24 @@ pub fn first_of_kind(kind: usize) -> Found
     }
 }
 
-// The row of the signal of a kind that starts at a bit: only an exact start counts. The kind's rows stand together.
-pub fn signal_at(kind: usize, start: u32) -> Found
-    ensures { λ r. ⌜ r ≡ firstAt (isSignal kind start) 0 rows ⌝ }
+// The signal of a kind that starts at a bit, with its row: only an exact start counts. The kind's rows stand together.
+pub fn signal_at(kind: usize, start: u32) -> FoundRow
+    ensures { λ r. ⌜ r ≡ withRow (firstAt (isSignal kind start) 0 rows) ⌝ }
 {
     let Found::At(at) = first_of_kind(kind) else {
-        return Found::Nothing;
+        return FoundRow::Nothing;
     };
     let mut i = at;
     'rows: loop {
         if ROW_COUNT <= i {
-            break 'rows Found::Nothing;
+            break 'rows FoundRow::Nothing;
         }
-        let r = row_at(i);
+        let r = row_to_seek(i);
         if r.kind != kind {
-            break 'rows Found::Nothing;
+            break 'rows FoundRow::Nothing;
         }
         if r.start == start {
-            break 'rows Found::At(i);
+            break 'rows FoundRow::At(i, r);
         }
         i += 1;
     }

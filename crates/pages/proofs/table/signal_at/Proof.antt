@@ -11,7 +11,9 @@ use borrow.Author.Needs.{needs}
 use borrow.Author.Tests.{eq-eqb, ne-eqb}
 use Rattle.pages.specs.declared.Row.{Row}
 use Rattle.pages.specs.declared.Found.the-variants.{At, Nothing}
+use Rattle.pages.specs.declared.FoundRow.the-variants as foundrow
 use Rattle.pages.specs.Table.{rows, rowCount, block, firstAt, hasKind, isSignal}
+use Rattle.pages.specs.Steps.{withRow}
 use Rattle.pages.proofs.Searches.{kind-search, kind-nothing}
 use Rattle.pages.proofs.Walk.{block-in, block-out, block-end}
 use Rattle.pages.proofs.table.signal_at.Statement.{statement}
@@ -58,7 +60,7 @@ returns : tie.Need-returns Inv-rows μ-rows
 returns c =
     let f = c .before .before in
     let g = f .before .args in
-    kind-nothing (g .kind) (isSignal (g .kind) (g .start)) (no-kind (g .kind) (g .start)) (sym (f .first-of-kind .ensures) ∙ c .enum-told .given .1)
+    ap withRow (kind-nothing (g .kind) (isSignal (g .kind) (g .start)) (no-kind (g .kind) (g .start)) (sym (f .first-of-kind .ensures) ∙ c .enum-told .given .1))
 
 rows-holds : tie.Need-rows-holds Inv-rows μ-rows
 rows-holds c =
@@ -67,8 +69,8 @@ rows-holds c =
     let g = f .before .args in
     kind-search (g .kind) (isSignal (g .kind) (g .start)) (no-kind (g .kind) (g .start)) _ (sym (f .first-of-kind .ensures) ∙ k .at .given .1)
 
-row-at-requires : tie.Need-row-at-requires Inv-rows μ-rows
-row-at-requires c κs = omega arith
+row-to-seek-requires : tie.Need-row-to-seek-requires Inv-rows μ-rows
+row-to-seek-requires c κs = omega arith
 
 add-i : tie.Need-add-i Inv-rows μ-rows
 add-i c = omega arith
@@ -87,10 +89,10 @@ rows-again c =
     let k = q .before .before in
     let a = k .before .before in
     let g = asked a .args in
-    let r = k .row-at .result in
+    let r = k .row-to-seek .result in
     let i = a .rows .i in
     first-later (isSignal (g .kind) (g .start)) i r (block (g .kind) (drop i rows)) (block (g .kind) (drop (i + 1) rows))
-    (block-in (g .kind) i r (omega arith) (k .row-at .ensures .0) (q .if2 .left)) (no-start (g .kind) (g .start) r (c .if3 .left))
+    (block-in (g .kind) i r (omega arith) (k .row-to-seek .ensures .0) (q .if2 .left)) (no-start (g .kind) (g .start) r (c .if3 .left))
     ∙ a .rows .inv
 
 returns-2 : tie.Need-returns-2 Inv-rows μ-rows
@@ -99,7 +101,7 @@ returns-2 c =
     let a = c .before in
     let g = asked a .args in
     let i = a .rows .i in
-    first-none (isSignal (g .kind) (g .start)) i (block (g .kind) (drop i rows)) (block-end (g .kind) i (c .if1 .taken)) ∙ a .rows .inv
+    ap withRow (first-none (isSignal (g .kind) (g .start)) i (block (g .kind) (drop i rows)) (block-end (g .kind) i (c .if1 .taken)) ∙ a .rows .inv)
 
 returns-3 : tie.Need-returns-3 Inv-rows μ-rows
 unfolding asked
@@ -108,9 +110,10 @@ returns-3 c =
     let a = k .before .before in
     let g = asked a .args in
     let i = a .rows .i in
-    first-none (isSignal (g .kind) (g .start)) i (block (g .kind) (drop i rows))
-    (block-out (g .kind) i (k .row-at .result) (omega arith) (k .row-at .ensures .0) (c .if2 .taken))
-    ∙ a .rows .inv
+    ap withRow
+    (first-none (isSignal (g .kind) (g .start)) i (block (g .kind) (drop i rows))
+    (block-out (g .kind) i (k .row-to-seek .result) (omega arith) (k .row-to-seek .ensures .0) (c .if2 .taken))
+    ∙ a .rows .inv)
 
 returns-4 : tie.Need-returns-4 Inv-rows μ-rows
 unfolding asked
@@ -119,11 +122,13 @@ returns-4 c =
     let k = q .before .before in
     let a = k .before .before in
     let g = asked a .args in
-    let r = k .row-at .result in
+    let r = k .row-to-seek .result in
     let i = a .rows .i in
-    first-here (isSignal (g .kind) (g .start)) i r (block (g .kind) (drop i rows)) (block (g .kind) (drop (i + 1) rows))
-    (block-in (g .kind) i r (omega arith) (k .row-at .ensures .0) (q .if2 .left)) (the-signal (g .kind) (g .start) r (q .if2 .left) (c .if3 .taken))
-    ∙ a .rows .inv
+    ap (foundrow.At i) (k .row-to-seek .ensures .0)
+    ∙ ap withRow
+    (first-here (isSignal (g .kind) (g .start)) i r (block (g .kind) (drop i rows)) (block (g .kind) (drop (i + 1) rows))
+    (block-in (g .kind) i r (omega arith) (k .row-to-seek .ensures .0) (q .if2 .left)) (the-signal (g .kind) (g .start) r (q .if2 .left) (c .if3 .taken))
+    ∙ a .rows .inv)
 
 pub signal-at-spec : {M : Type 1} → statement M
 signal-at-spec =
@@ -136,7 +141,7 @@ signal-at-spec =
     enum-told
     returns
     rows-holds
-    row-at-requires
+    row-to-seek-requires
     add-i
     rows-less
     rows-again
