@@ -73,6 +73,43 @@ static void bench_write(void) {
     line("write", ours, plain);
 }
 
+/* ---- a signal changed: of 16 bits on byte edges, and of one bit */
+
+typedef uint32_t change(uint32_t id, bool extended, uint8_t *payload, size_t length, uint32_t start, int64_t raw);
+
+/* A frame of the mix, and the start of one of its signals. */
+typedef struct { int frame; uint32_t start; } spot;
+static const spot words[] = {{0, 0}, {2, 0}, {7, 0}, {2, 16}, {0, 16}, {7, 16}, {2, 32}, {7, 32}}, flags[] = {{2, 52}, {2, 53}, {2, 54}, {2, 55}};
+enum { WORDS = sizeof words / sizeof *words, FLAGS = sizeof flags / sizeof *flags };
+
+static bool same_change(change *ours, change *plain) {
+    static const int64_t raws[] = {0, 1, 8, 13, 14, 255, 256, 32767, 32768, 65535, 65536, -1, -8192, -32768, -32769, INT64_MIN, INT64_MAX};
+    for (uint32_t i = 0; i < MIX + 3; i++)
+        for (uint32_t start = 0; start < 66; start++)
+            for (size_t k = 0; k < sizeof raws / sizeof *raws; k++) {
+                frame f = i < MIX ? mix[i] : (frame){i - MIX + 6, 8, {0x82, 0x15, 3}}, g = f;
+                if (ours(f.id, i < MIX, f.bytes, f.n, start, raws[k]) != plain(g.id, i < MIX, g.bytes, g.n, start, raws[k]) || memcmp(f.bytes, g.bytes, 8)) return false;
+            }
+    return true;
+}
+
+static double changed(change *by, const spot *spots, int n, int most) {
+    frame f[MIX];
+    double took;
+    memcpy(f, mix, sizeof f);
+    TIMED(took, n, for (int i = 0; i < n; i++) {
+        frame *g = f + spots[i].frame;
+        sum += by(g->id, true, g->bytes, g->n, spots[i].start, turn & most);
+    });
+    return took;
+}
+
+static void bench_change(void) {
+    if (!same_change(rokemaipu_change, peer_change)) differ("change");
+    line("change, 16 bits on byte edges", changed(rokemaipu_change, words, WORDS, 0x7fff), changed(peer_change, words, WORDS, 0x7fff));
+    line("change, one bit", changed(rokemaipu_change, flags, FLAGS, 1), changed(peer_change, flags, FLAGS, 1));
+}
+
 static void bench_watch(uint32_t posts) {
     static rokemaipu_table a, b;
     double ours, plain;
@@ -148,6 +185,7 @@ static void bench_log(void) {
 int main(void) {
     bench_read();
     bench_write();
+    bench_change();
     bench_watch(1);
     bench_watch(8);
     bench_log();
