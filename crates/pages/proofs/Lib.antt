@@ -11,3 +11,4 @@ pub mod Walk
 pub mod AtRow
 pub mod Places
 pub mod Stored
+pub mod Covered

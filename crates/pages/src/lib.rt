@@ -203,7 +203,11 @@ pub fn judge(id: u32, extended: bool, bytes: &[u8]) -> Judged
     if r.bytes < bytes.len() {
         return Judged::Refused(Refusal::TooLong);
     }
-    judge_number(i, r.kind, signal::number(r.big, bytes))
+    let n = signal::number(r.big, bytes);
+    if r.kind < charger::KIND_COUNT {
+        return charger::judge_labels(r.kind, n);
+    }
+    judge_number(i, r.kind, n)
 }
 
 // The raw whole number of each of a kind's signals, in the table's order, and 0 behind them.

@@ -1,6 +1,6 @@
 // The loops over the rows of one message, which stand together from its first row on, and what they do at a row.
 ghost use mathlib.Core.Path.{_≡_};
-ghost use mathlib.Core.Bool.{true};
+ghost use mathlib.Core.Bool.{true, cond};
 ghost use Prim.Native.Nat.{_<_};
 ghost use lib.IntN.{pos};
 ghost use lib.ListN.{drop, getD};
@@ -46,6 +46,17 @@ fn label_holds(labels: u64, bits: u64) -> bool
         return false;
     }
     (labels >> bits) % 2 == 1
+}
+
+// The row's offence, or that of the rows behind it.
+pub fn offence_at(r: Row, n: u64, behind: Offence) -> Offence
+    requires { ⌜ Fine r ⌝ }
+    ensures { λ o. ⌜ o ≡ cond (takes (r .labels) (bitsAt n r)) behind (Offence.Start (r .start)) ⌝ }
+{
+    if label_holds(r.labels, signal_bits(r, n)) {
+        return behind;
+    }
+    Offence::Start(start_bit(r))
 }
 
 // One walk over the message's rows: the first offence, and n with every signal before it cleared. Without an offence, what is left stands
