@@ -42,7 +42,7 @@ cast-put-whole-2 : tie.Need-cast-put-whole-2
 cast-put-whole-2 c = search needs
 
 put-whole-requires : tie.Need-put-whole-requires
-put-whole-requires c κs = facts (c .before .before .before) .fits
+put-whole-requires c κs = omega (arith, facts (c .before .before .before) .fits)
 
 same-length : tie.Need-same-length
 same-length c = search needs
