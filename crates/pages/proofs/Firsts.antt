@@ -13,9 +13,7 @@ use borrow.Author.Tests.{leb-true, le-leb, eqb-true, eqb-false, eq-eqb, ne-eqb}
 use Rattle.pages.specs.declared.Row.{Row}
 use Rattle.pages.specs.declared.Found.{Found}
 use Rattle.pages.specs.declared.Found.the-variants.{At, Nothing}
-use Rattle.pages.specs.declared.FoundRow.the-variants as foundrow
 use Rattle.pages.specs.Table.{rows, rowCount, noRow, hasKind, hasId, keep, ofKind, rowsOf, block, firstAt, headRow, identifierOf, extendedOf, lengthOf, bigOf}
-use Rattle.pages.specs.Steps.{withRow}
 use Rattle.pages.specs.Rules.{every, inTurn, allInTurn}
 use Rattle.pages.proofs.Rules.{both-true, not-both, table-parts, rows-length, every-at, every-so, turn-at, id-true, id-self, id-other, same-message, other-message, kinds-up, kind-out}
 
@@ -62,18 +60,6 @@ found-in p i e =
     let c = first-is p 0 i rows e in
     let o : c .off ≡ i = omega (arith, c .place) in
     (omega (arith, c .within, rows-length), subst (λ (x : ℕ). p (getD rows x noRow) ≡ true) o (c .passes))
-
--- the place of a row that is handed out with it, or of none
-pub row-found : (i : ℕ) (r : Row) (f : Found) → withRow f ≡ foundrow.At i r → (f ≡ At i) × (r ≡ getD rows i noRow)
-row-found i r (At j) e =
-    let p : j ≡ i = cc in
-    let q : getD rows j noRow ≡ r = cc in
-    (ap At p, sym q ∙ ap (λ (x : ℕ). getD rows x noRow) p)
-row-found i r Nothing e = absurd (let z : _≡_ {A = ℕ} 0 1 = cc in omega arith)
-
-pub none-found : (f : Found) → withRow f ≡ foundrow.Nothing → f ≡ Nothing
-none-found (At j) e = absurd (let z : _≡_ {A = ℕ} 0 1 = cc in omega arith)
-none-found Nothing e = refl
 
 -- no row passes before the first
 found-before : (p : Row → Bool) (i m : ℕ) → firstAt p 0 rows ≡ At i → m < i → p (getD rows m noRow) ≡ false

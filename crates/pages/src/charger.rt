@@ -510,7 +510,7 @@ pub fn first_with_id(id: u32) -> Found
     }
 }
 
-// The rows with labels, by name: where the row is known the compiler leaves one test of it, and of a walk over the message's rows a jump for each.
+// The rows with labels, by their names: of a row that is known the compiler leaves one test, and a walk over all rows of the message costs a jump for each.
 fn control_offence(n: u64) -> Offence
     ensures { λ r. ⌜ r ≡ offenceOf n (rowsOf 5) ⌝ }
 {

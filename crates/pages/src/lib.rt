@@ -262,9 +262,10 @@ pub fn change(id: u32, extended: bool, bytes: &mut [u8], start: u32, raw: i64) -
     let Judged::Frame(kind, n) = read else {
         return read;
     };
-    let FoundRow::At(_, r) = table::signal_at(kind, start) else {
+    let Found::At(i) = table::signal_at(kind, start) else {
         return Judged::Refused(Refusal::NoSignal);
     };
+    let r = table::row_to_change(i);
     let changed = change_row(r, kind, n, raw);
     let Judged::Frame(_, m) = changed else {
         return changed;

@@ -1,11 +1,11 @@
 -- `pages::change` meets its contract: the reader's refusal is handed on, then 13, then the row's, and the changed signal is stored.
 use borrow.Author.Needs.{needs}
-use mathlib.Core.Path.{_≡_, refl, sym, ap, ap₂, _∙_, subst}
+use mathlib.Core.Path.{_≡_, refl, sym, ap, ap₂, _∙_}
 use mathlib.Core.Bool.{Bool}
 use mathlib.Core.List.{List}
 use Prim.Native.Nat.{ℕ}
 use lib.IntN.{ℤ}
-use lib.ListN.{length, getD}
+use lib.ListN.{length}
 use mir.Facts.{toZ-ofZ}
 use Rattle.signal.specs.Payload.{bytesOf}
 use Rattle.pages.specs.declared.Row.{Row}
@@ -15,12 +15,11 @@ use Rattle.pages.specs.declared.Judged.{Judged}
 use Rattle.pages.specs.declared.Judged.the-variants.{Frame, Refused}
 use Rattle.pages.specs.declared.Refusal.{Refusal}
 use Rattle.pages.specs.declared.Refusal.the-variants.{NoSignal}
-use Rattle.pages.specs.Table.{rows, noRow, Fine, isSignal}
+use Rattle.pages.specs.Table.{isSignal}
 use Rattle.pages.specs.Judge.{judgeOf}
 use Rattle.pages.specs.Steps.{signalFound}
 use Rattle.pages.specs.Change.{changedRow, changedAt, changedIn, changeOf, bytesAfter}
-use Rattle.pages.proofs.Rules.{row-fine}
-use Rattle.pages.proofs.Firsts.{found-in, row-found, none-found}
+use Rattle.pages.proofs.Firsts.{found-in}
 use Rattle.pages.proofs.Stored.{Storing, storing}
 use Rattle.pages.proofs.change.Statement.{statement}
 use Rattle.pages.proofs.change.Tie as tie
@@ -63,8 +62,8 @@ returns c =
 signal-at-requires : tie.Need-signal-at-requires
 signal-at-requires c κs = search needs
 
-enum-known-r : tie.Need-enum-known-r
-enum-known-r c = search needs
+enum-known-i : tie.Need-enum-known-i
+enum-known-i c = search needs
 
 enum-told-2 : tie.Need-enum-told-2
 enum-told-2 c = search needs
@@ -95,26 +94,24 @@ returns-2 c =
     let a = start f .args in
     ended (a .bytes .now) NoSignal _ _ refl
     (sought (a .id) (a .extended) (a .bytes .now) (a .start) (a .raw) (kind f) (number f) Nothing (frame f)
-    (none-found _ (sym (f .signal-at .ensures) ∙ c .enum-told2 .given .1)))
+    (sym (f .signal-at .ensures) ∙ c .enum-told2 .given .1))
 
-place : (c : tie.After-r) → ℕ
-place c = c .r .given .0 .0
+place : (c : tie.After-i) → ℕ
+place c = c .i .given .0 .0
 
-row : (c : tie.After-r) → Row
-row c = c .r .given .0 .1 .0
+found : (c : tie.After-i) → (let f = c .before .before in signalFound (kind f) (start f .args .start) ≡ At (place c))
+unfolding start kind number place
+found c = sym (c .before .before .signal-at .ensures) ∙ c .i .given .1
 
-found : (c : tie.After-r) → (let f = c .before .before in (signalFound (kind f) (start f .args .start) ≡ At (place c)) × (row c ≡ getD rows (place c) noRow))
-unfolding start kind number place row
-found c =
-    let f = c .before .before in
-    row-found _ _ (signalFound (kind f) (start f .args .start)) (sym (f .signal-at .ensures) ∙ c .r .given .1)
+row-to-change-requires : tie.Need-row-to-change-requires
+unfolding start kind number place
+row-to-change-requires c κs =
+    let i = c .before in
+    let f = i .before .before in
+    found-in (isSignal (kind f) (start f .args .start)) (place i) (found i) .0
 
 change-row-requires : tie.Need-change-row-requires
-unfolding start kind number place row
-change-row-requires c κs =
-    let r = c .before in
-    let f = found r in
-    subst Fine (sym (f .1)) (row-fine (place r) (found-in (isSignal (kind (r .before .before)) (start (r .before .before) .args .start)) (place r) (f .0) .0))
+change-row-requires c κs = c .row-to-change .ensures .1
 
 enum-known-changed : tie.Need-enum-known-changed
 enum-known-changed c = search needs
@@ -125,22 +122,27 @@ enum-told-3 c = search needs
 same-length-3 : tie.Need-same-length-3
 same-length-3 c = search needs
 
+-- the search, from the row's change on
+sought-at : (c : tie.After-change-row) → tie.After-signal-at
+sought-at c = c .before .before .before .before .before
+
 asked : (c : tie.After-change-row) → tie.Start
-asked c = start (c .before .before .before .before)
+asked c = start (sought-at c)
 
 changed : (c : tie.After-change-row) → (let a = asked c .args in c .change-row .result ≡ changeOf (a .id) (a .extended) (a .bytes .now) (a .start) (a .raw))
-unfolding start kind number place row asked
+unfolding start kind number place sought-at asked
 changed c =
-    let r = c .before .before in
-    let f = r .before .before in
+    let r = c .before in
+    let i = r .before .before in
+    let f = sought-at c in
     let s = asked c in
     let a = s .args in
     c .change-row .ensures
-    ∙ ap₂ (λ (q : Row) (z : ℤ). changedRow q (kind f) (number f) z) (found r .1) (toZ-ofZ (s .fits .raw))
-    ∙ sym (sought (a .id) (a .extended) (a .bytes .now) (a .start) (a .raw) (kind f) (number f) (At (place r)) (frame f) (found r .0))
+    ∙ ap₂ (λ (q : Row) (z : ℤ). changedRow q (kind f) (number f) z) (r .row-to-change .ensures .0) (toZ-ofZ (s .fits .raw))
+    ∙ sym (sought (a .id) (a .extended) (a .bytes .now) (a .start) (a .raw) (kind f) (number f) (At (place i)) (frame f) (found i))
 
 returns-3 : tie.Need-returns-3
-unfolding start kind number place row asked
+unfolding start kind number place sought-at asked
 returns-3 c =
     let d = c .before .before in
     ended (asked d .args .bytes .now) _ (d .change-row .result) _ (c .enum-told3 .given .1) (sym (changed d) ∙ c .enum-told3 .given .1)
@@ -152,27 +154,28 @@ bits-requires c κs = search needs
 stored : (c : tie.After-bits) → (
     let g = c .before .before .before in
     let d = g .before .before in
-    Storing (row (d .before .before)) (asked d .args .bytes .now) (g .changed .given .0 .0) (g .changed .given .0 .1 .0) (c .bits .result))
-unfolding start kind number place row asked
+    Storing (d .before .row-to-change .result) (asked d .args .bytes .now) (g .changed .given .0 .0) (g .changed .given .0 .1 .0) (c .bits .result))
+unfolding start kind number place sought-at asked
 stored c =
     let g = c .before .before .before in
     let d = g .before .before in
-    let r = d .before .before in
-    let f = r .before .before in
+    let r = d .before in
+    let i = r .before .before in
+    let f = sought-at d in
     let s = asked d in
     let a = s .args in
-    storing (a .id) (a .extended) (a .bytes .now) (a .start) (a .raw) (kind f) (number f) (place r) _ _ (c .bits .result) (row r)
-    (frame f) (found r .0) (found r .1) (sym (changed d) ∙ g .changed .given .1) (s .fits .raw) (c .bits .ensures)
+    storing (a .id) (a .extended) (a .bytes .now) (a .start) (a .raw) (kind f) (number f) (place i) _ _ (c .bits .result) (r .row-to-change .result)
+    (frame f) (found i) (r .row-to-change .ensures .0) (sym (changed d) ∙ g .changed .given .1) (s .fits .raw) (c .bits .ensures)
 
 store-changed-requires : tie.Need-store-changed-requires
-unfolding start kind number place row asked
+unfolding start kind number place sought-at asked
 store-changed-requires c κs = let t = stored c in (t .some, t .within, t .narrow, t .put)
 
 same-length-4 : tie.Need-same-length-4
 same-length-4 c = search needs
 
 returns-4 : tie.Need-returns-4
-unfolding start kind number place row asked
+unfolding start kind number place sought-at asked
 returns-4 c =
     let p = c .before .before in
     let t = stored (p .before) in
@@ -192,10 +195,11 @@ change-spec =
     same-length
     returns
     signal-at-requires
-    enum-known-r
+    enum-known-i
     enum-told-2
     same-length-2
     returns-2
+    row-to-change-requires
     change-row-requires
     enum-known-changed
     enum-told-3

@@ -20,7 +20,7 @@ use Rattle.pages.specs.Table.{rows, noRow, rowsOf, block, headRow, lengt
 use Rattle.pages.specs.Judge.{judgedNumber, wrongLength, judgedRow, judgedAt, judgeOf}
 use Rattle.pages.specs.Steps.{withRow, offenceOf, cleared, judgedBy}
 use Rattle.pages.proofs.Rules.{short-length}
-use Rattle.pages.proofs.Firsts.{first-id, row-found, none-found}
+use Rattle.pages.proofs.Firsts.{first-id}
 use Rattle.pages.proofs.Covered.{cleared-none}
 use Rattle.pages.proofs.Offenders.{judged-by, row-short, row-long}
 use Rattle.pages.proofs.judge.Statement.{statement}
@@ -31,7 +31,18 @@ searched : (m : ℕ) (x : Bool) (bs : List ℕ) (f : Found) → firstAt (hasId m
 unfolding judgeOf
 searched m x bs f g = ap (judgedAt bs) (sym g)
 
--- the row that was found decides
+-- the row that was found, and what it decides
+row-found : (i : ℕ) (r : Row) (f : Found) → withRow f ≡ foundrow.At i r → (f ≡ At i) × (r ≡ getD rows i noRow)
+row-found i r (At j) e =
+    let p : j ≡ i = cc in
+    let q : getD rows j noRow ≡ r = cc in
+    (ap At p, sym q ∙ ap (λ (x : ℕ). getD rows x noRow) p)
+row-found i r Nothing e = absurd (let z : _≡_ {A = ℕ} 0 1 = cc in omega arith)
+
+none-found : (f : Found) → withRow f ≡ foundrow.Nothing → f ≡ Nothing
+none-found (At j) e = absurd (let z : _≡_ {A = ℕ} 0 1 = cc in omega arith)
+none-found Nothing e = refl
+
 at-row : (m : ℕ) (x : Bool) (i : ℕ) (bs : List ℕ) (r : Row) → withRow (firstAt (hasId m x) 0 rows) ≡ foundrow.At i r → judgedRow r bs ≡ judgeOf m x bs
 at-row m x i bs r e =
     let f = row-found i r (firstAt (hasId m x) 0 rows) e in

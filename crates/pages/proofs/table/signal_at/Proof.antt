@@ -11,9 +11,7 @@ use borrow.Author.Needs.{needs}
 use borrow.Author.Tests.{eq-eqb, ne-eqb}
 use Rattle.pages.specs.declared.Row.{Row}
 use Rattle.pages.specs.declared.Found.the-variants.{At, Nothing}
-use Rattle.pages.specs.declared.FoundRow.the-variants as foundrow
 use Rattle.pages.specs.Table.{rows, rowCount, block, firstAt, hasKind, isSignal}
-use Rattle.pages.specs.Steps.{withRow}
 use Rattle.pages.proofs.Searches.{kind-search, kind-nothing}
 use Rattle.pages.proofs.Walk.{block-in, block-out, block-end}
 use Rattle.pages.proofs.table.signal_at.Statement.{statement}
@@ -60,7 +58,7 @@ returns : tie.Need-returns Inv-rows μ-rows
 returns c =
     let f = c .before .before in
     let g = f .before .args in
-    ap withRow (kind-nothing (g .kind) (isSignal (g .kind) (g .start)) (no-kind (g .kind) (g .start)) (sym (f .first-of-kind .ensures) ∙ c .enum-told .given .1))
+    kind-nothing (g .kind) (isSignal (g .kind) (g .start)) (no-kind (g .kind) (g .start)) (sym (f .first-of-kind .ensures) ∙ c .enum-told .given .1)
 
 rows-holds : tie.Need-rows-holds Inv-rows μ-rows
 rows-holds c =
@@ -101,7 +99,7 @@ returns-2 c =
     let a = c .before in
     let g = asked a .args in
     let i = a .rows .i in
-    ap withRow (first-none (isSignal (g .kind) (g .start)) i (block (g .kind) (drop i rows)) (block-end (g .kind) i (c .if1 .taken)) ∙ a .rows .inv)
+    first-none (isSignal (g .kind) (g .start)) i (block (g .kind) (drop i rows)) (block-end (g .kind) i (c .if1 .taken)) ∙ a .rows .inv
 
 returns-3 : tie.Need-returns-3 Inv-rows μ-rows
 unfolding asked
@@ -110,10 +108,9 @@ returns-3 c =
     let a = k .before .before in
     let g = asked a .args in
     let i = a .rows .i in
-    ap withRow
-    (first-none (isSignal (g .kind) (g .start)) i (block (g .kind) (drop i rows))
+    first-none (isSignal (g .kind) (g .start)) i (block (g .kind) (drop i rows))
     (block-out (g .kind) i (k .row-to-seek .result) (omega arith) (k .row-to-seek .ensures .0) (c .if2 .taken))
-    ∙ a .rows .inv)
+    ∙ a .rows .inv
 
 returns-4 : tie.Need-returns-4 Inv-rows μ-rows
 unfolding asked
@@ -124,11 +121,9 @@ returns-4 c =
     let g = asked a .args in
     let r = k .row-to-seek .result in
     let i = a .rows .i in
-    ap (foundrow.At i) (k .row-to-seek .ensures .0)
-    ∙ ap withRow
-    (first-here (isSignal (g .kind) (g .start)) i r (block (g .kind) (drop i rows)) (block (g .kind) (drop (i + 1) rows))
+    first-here (isSignal (g .kind) (g .start)) i r (block (g .kind) (drop i rows)) (block (g .kind) (drop (i + 1) rows))
     (block-in (g .kind) i r (omega arith) (k .row-to-seek .ensures .0) (q .if2 .left)) (the-signal (g .kind) (g .start) r (q .if2 .left) (c .if3 .taken))
-    ∙ a .rows .inv)
+    ∙ a .rows .inv
 
 pub signal-at-spec : {M : Type 1} → statement M
 signal-at-spec =
