@@ -70,6 +70,53 @@ static void bench_codec(void) {
     line("write", write_mix, &m, TURNS, MIX);
 }
 
+/* ---- a signal changed: of 16 bits on byte edges, and of one bit */
+
+/* A frame of the mix, and the start of one of its signals. */
+typedef struct { int frame; uint32_t start; } spot;
+static const spot words[] = {{0, 0}, {2, 0}, {7, 0}, {2, 16}, {0, 16}, {7, 16}, {2, 32}, {7, 32}}, flags[] = {{2, 52}, {2, 53}, {2, 54}, {2, 55}};
+
+typedef struct { const spot *spots; int n; int64_t most, raw[SIDES]; frame frames[SIDES][MIX]; } changes;
+
+static uint64_t change_each(const side *s, void *with) {
+    changes *c = with;
+    frame *frames = c->frames[s - sides];
+    int64_t raw = c->raw[s - sides]++ & c->most;
+    uint64_t seen = 0;
+    for (const spot *at = c->spots; at < c->spots + c->n; at++) {
+        frame *f = &frames[at->frame];
+        seen = 31 * seen + s->change(f->id, true, f->bytes, f->n, at->start, raw);
+    }
+    return seen;
+}
+
+static void bench_change(const char *what, const spot *spots, int n, int64_t most) {
+    static changes c;
+    memset(&c, 0, sizeof c);
+    c.spots = spots, c.n = n, c.most = most;
+    for (int k = 0; k < SIDES; k++) memcpy(c.frames[k], mix, sizeof mix);
+    line(what, change_each, &c, TURNS, n);
+}
+
+/* Every start and raw numbers from both sides of each edge, in answers and bytes. */
+static void same_changes(const frame *f, bool extended, const side *s) {
+    static const int64_t raws[] = {0, 1, 8, 13, 14, 255, 256, 32767, 32768, 65535, 65536, -1, -8192, -32768, -32769, INT64_MIN, INT64_MAX};
+    for (uint32_t start = 0; start < 66; start++)
+        for (size_t k = 0; k < sizeof raws / sizeof *raws; k++) {
+            frame a = *f, b = *f;
+            if (sides[0].change(a.id, extended, a.bytes, a.n, start, raws[k]) != s->change(b.id, extended, b.bytes, b.n, start, raws[k]) || memcmp(a.bytes, b.bytes, 8)) differ("change");
+        }
+}
+
+/* A revision before Req 04 knows no frame of the safety controller. */
+static void bench_changes(void) {
+    for (int k = 1; k < SIDES; k++)
+        for (const frame *f = mix; f < mix + MIX; f++) same_changes(f, true, &sides[k]);
+    for (uint32_t id = 6; id <= 8; id++) same_changes(&(frame){id, 8, {0x82, 0x15, 3}}, false, &sides[1]);
+    bench_change("change, 16 bits", words, sizeof words / sizeof *words, 0x7fff);
+    bench_change("change, one bit", flags, sizeof flags / sizeof *flags, 1);
+}
+
 /* ---- the watch: frames and ticks at one time on posts in turn, in each side's own table */
 
 typedef struct { rokemaipu_table table[SIDES]; uint32_t posts, turn[SIDES]; } depot;
@@ -153,6 +200,7 @@ static void bench_log(void) {
 
 int main(void) {
     bench_codec();
+    bench_changes();
     bench_watch(1);
     bench_watch(8);
     bench_log();

@@ -94,6 +94,11 @@ static bool flags(const int64_t *z, int n) {
     return true;
 }
 
+static void store(uint32_t kind, uint8_t *p, size_t n, uint64_t r) {
+    if (kind < 9) for (size_t i = 0; i < n; i++) p[i] = (uint8_t)(r >> (8 * i));
+    else for (size_t i = 0; i < n; i++) p[i] = (uint8_t)(r >> (56 - 8 * i));
+}
+
 uint32_t peer_write(uint32_t kind, const int64_t *z, size_t places, uint8_t *buffer, size_t room) {
     uint64_t r;
     size_t n;
@@ -145,9 +150,47 @@ uint32_t peer_write(uint32_t kind, const int64_t *z, size_t places, uint8_t *buf
     default: return R(7);
     }
     if (room < n) return R(8);
-    if (kind < 9) for (size_t i = 0; i < n; i++) buffer[i] = (uint8_t)(r >> (8 * i));
-    else for (size_t i = 0; i < n; i++) buffer[i] = (uint8_t)(r >> (56 - 8 * i));
+    store(kind, buffer, n, r);
     return (uint32_t)n;
+}
+
+/* A signal, its lowest bit in the payload number, and the numbers that have a label: all where that is 0. */
+typedef struct { uint8_t kind, start, width, low, negative; uint16_t labels; } place;
+static const place places[] = {
+    {0, 0, 16, 0, 0, 0}, {0, 16, 16, 16, 1, 0}, {0, 32, 8, 32, 0, 0}, {0, 40, 8, 40, 0, 0}, {0, 48, 8, 48, 0, 3}, {0, 56, 8, 56, 0, 0},
+    {1, 0, 16, 0, 0, 0}, {1, 16, 16, 16, 0, 0}, {1, 32, 16, 32, 0, 0}, {1, 48, 16, 48, 1, 0},
+    {2, 0, 8, 0, 0, 0x3fff}, {3, 0, 8, 0, 0, 0xff}, {3, 8, 8, 8, 0, 0x1f}, {4, 0, 8, 0, 0, 3},
+    {5, 0, 16, 0, 0, 0}, {5, 16, 16, 16, 1, 0}, {5, 32, 16, 32, 1, 0}, {5, 48, 4, 48, 0, 0x117},
+    {5, 52, 1, 52, 0, 0}, {5, 53, 1, 53, 0, 0}, {5, 54, 1, 54, 0, 0}, {5, 55, 1, 55, 0, 0},
+    {6, 0, 8, 0, 0, 3}, {7, 0, 8, 0, 0, 10},
+    {8, 0, 8, 0, 0, 0}, {8, 8, 8, 8, 0, 0}, {8, 16, 8, 16, 0, 0}, {8, 24, 8, 24, 0, 0}, {8, 32, 8, 32, 0, 0}, {8, 40, 8, 40, 0, 0},
+    {9, 1, 10, 48, 0, 0}, {9, 7, 1, 63, 0, 0}, {9, 16, 1, 40, 0, 0}, {9, 17, 1, 41, 0, 0},
+    {10, 1, 10, 48, 0, 0}, {10, 7, 1, 63, 0, 0}, {10, 18, 3, 40, 0, 0}, {10, 19, 1, 43, 0, 0}, {10, 20, 1, 44, 0, 0}, {10, 26, 3, 32, 0, 0},
+    {10, 32, 1, 24, 0, 0}, {10, 33, 1, 25, 0, 0}, {10, 34, 1, 26, 0, 0}, {10, 35, 1, 27, 0, 0},
+    {10, 40, 1, 16, 0, 0}, {10, 41, 1, 17, 0, 0}, {10, 42, 1, 18, 0, 0}, {10, 43, 1, 19, 0, 0}, {10, 44, 1, 20, 0, 0},
+    {11, 7, 14, 50, 1, 0}, {11, 8, 1, 48, 0, 0}, {11, 9, 1, 49, 0, 0}, {11, 23, 14, 34, 1, 0}, {11, 24, 1, 32, 0, 0}, {11, 25, 1, 33, 0, 0},
+    {11, 39, 14, 18, 1, 0}, {11, 40, 1, 16, 0, 0}, {11, 41, 1, 17, 0, 0}, {11, 55, 14, 2, 1, 0}, {11, 56, 1, 0, 0, 0}, {11, 57, 1, 1, 0, 0},
+};
+
+uint32_t peer_change(uint32_t id, bool extended, uint8_t *p, size_t n, uint32_t start, int64_t z) {
+    static const uint8_t first[] = {0, 6, 10, 11, 13, 14, 22, 23, 24, 30, 34, 49, sizeof places / sizeof *places};
+    uint64_t r;
+    uint32_t kind = judge(id, extended, p, n, &r);
+    if (kind >= ROKEMAIPU_REFUSED) return kind;
+    const place *s = places + first[kind], *end = places + first[kind + 1];
+    while (s < end && s->start != start) s++;
+    if (s == end) return R(13);
+    int64_t most = ((int64_t)1 << (s->width - s->negative)) - 1;
+    if (!in(z, s->negative ? -most - 1 : 0, most)) return R(7);
+    if (s->labels && (z > 15 || !(s->labels >> z & 1))) return R5(start);
+    if (kind < 9 && start % 8 == 0 && s->width % 8 == 0) {
+        for (size_t i = 0; i < s->width / 8; i++) p[start / 8 + i] = (uint8_t)(z >> (8 * i));
+        return 0;
+    }
+    uint64_t ones = (((uint64_t)1 << s->width) - 1) << s->low;
+    r = (r & ~ones) | ((uint64_t)z << s->low & ones);
+    store(kind, p, n, r);
+    return 0;
 }
 
 static rokemaipu_post *holder(rokemaipu_table *t, uint32_t channel) {

@@ -4,6 +4,7 @@
 #include "rokemaipu.h"
 uint32_t peer_read(uint32_t id, bool extended, const uint8_t *p, size_t n, int64_t *raws, size_t places);
 uint32_t peer_write(uint32_t kind, const int64_t *raws, size_t places, uint8_t *buffer, size_t room);
+uint32_t peer_change(uint32_t id, bool extended, uint8_t *p, size_t n, uint32_t start, int64_t raw);
 uint32_t peer_frame(rokemaipu_table *t, uint32_t channel, uint32_t time, uint32_t id, bool extended, const uint8_t *p, size_t n);
 uint32_t peer_tick(rokemaipu_table *t, uint32_t channel, uint32_t time);
 uint32_t peer_log_frame(uint32_t time, uint32_t channel, uint32_t id, bool extended, const uint8_t *payload, size_t length, uint8_t *buffer, size_t room);

@@ -7,6 +7,7 @@ typedef struct {
     const char *name;
     uint32_t (*read)(uint32_t id, bool extended, const uint8_t *payload, size_t length, int64_t *raws, size_t places);
     uint32_t (*write)(uint32_t kind, const int64_t *raws, size_t places, uint8_t *buffer, size_t room);
+    uint32_t (*change)(uint32_t id, bool extended, uint8_t *payload, size_t length, uint32_t start, int64_t raw);
     uint32_t (*start)(rokemaipu_table *t);
     uint32_t (*set_up)(rokemaipu_table *t, uint32_t post, uint32_t channel, uint32_t voltage, uint32_t charge, uint32_t discharge, uint32_t silence, uint32_t sensor);
     uint32_t (*frame)(rokemaipu_table *t, uint32_t channel, uint32_t time, uint32_t id, bool extended, const uint8_t *payload, size_t length);
@@ -16,13 +17,14 @@ typedef struct {
     uint32_t (*log_record)(const uint8_t *log, size_t size, size_t at, uint64_t *numbers, size_t places);
 } side;
 
-#define LIBRARY(name, prefix)                                                                                                                                  \
-    {name, prefix##rokemaipu_read, prefix##rokemaipu_write, prefix##rokemaipu_start, prefix##rokemaipu_set_up, prefix##rokemaipu_frame, prefix##rokemaipu_tick, \
-     prefix##rokemaipu_log_frame, prefix##rokemaipu_log_tick, prefix##rokemaipu_log_record}
+#define LIBRARY(name, prefix)                                                                                                                              \
+    {name, prefix##rokemaipu_read, prefix##rokemaipu_write, prefix##rokemaipu_change, prefix##rokemaipu_start, prefix##rokemaipu_set_up, prefix##rokemaipu_frame, \
+     prefix##rokemaipu_tick, prefix##rokemaipu_log_frame, prefix##rokemaipu_log_tick, prefix##rokemaipu_log_record}
 
 #ifdef BEFORE
 extern __typeof__(rokemaipu_read) before_rokemaipu_read;
 extern __typeof__(rokemaipu_write) before_rokemaipu_write;
+extern __typeof__(rokemaipu_change) before_rokemaipu_change;
 extern __typeof__(rokemaipu_start) before_rokemaipu_start;
 extern __typeof__(rokemaipu_set_up) before_rokemaipu_set_up;
 extern __typeof__(rokemaipu_frame) before_rokemaipu_frame;
@@ -34,7 +36,7 @@ extern __typeof__(rokemaipu_log_record) before_rokemaipu_log_record;
 
 static const side sides[] = {
     LIBRARY("the library", ),
-    {"plain C", peer_read, peer_write, rokemaipu_start, rokemaipu_set_up, peer_frame, peer_tick, peer_log_frame, peer_log_tick, peer_log_record},
+    {"plain C", peer_read, peer_write, peer_change, rokemaipu_start, rokemaipu_set_up, peer_frame, peer_tick, peer_log_frame, peer_log_tick, peer_log_record},
 #ifdef BEFORE
     LIBRARY("before", before_),
 #endif

@@ -10,3 +10,5 @@ pub mod Changes
 pub mod Walk
 pub mod AtRow
 pub mod Places
+pub mod Stored
+pub mod Covered

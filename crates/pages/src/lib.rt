@@ -13,10 +13,12 @@ mod charger; // charger.rt: the rows of document 000
 mod safety; // safety.rt: the rows of document 004
 mod table; // table.rt: all of them, and the searches over them
 mod signals; // signals.rt: the loops over one message's rows
+mod whole; // whole.rt: the bytes of a changed frame
 
-use signals::change_number;
+use signals::change_row;
 use signals::judge_number;
 use signals::pack;
+use whole::store_changed;
 
 // 01, "Numbers given back": a case for each number, in their order (`numberOf` in specs/). Those of 02 follow: a length above the table's
 // (Req 02), and the night log's (Req 01). 5 carries the start bit of the signal (02, Req 02).
@@ -201,7 +203,11 @@ pub fn judge(id: u32, extended: bool, bytes: &[u8]) -> Judged
     if r.bytes < bytes.len() {
         return Judged::Refused(Refusal::TooLong);
     }
-    judge_number(i, r.kind, signal::number(r.big, bytes))
+    let n = signal::number(r.big, bytes);
+    if r.kind < charger::KIND_COUNT {
+        return charger::judge_labels(r.kind, n);
+    }
+    judge_number(i, r.kind, n)
 }
 
 // The raw whole number of each of a kind's signals, in the table's order, and 0 behind them.
@@ -256,11 +262,14 @@ pub fn change(id: u32, extended: bool, bytes: &mut [u8], start: u32, raw: i64) -
     let Judged::Frame(kind, n) = read else {
         return read;
     };
-    let changed = change_number(kind, n, start, raw);
-    let Judged::Frame(k, m) = changed else {
+    let Found::At(i) = table::signal_at(kind, start) else {
+        return Judged::Refused(Refusal::NoSignal);
+    };
+    let r = table::row_to_change(i);
+    let changed = change_row(r, kind, n, raw);
+    let Judged::Frame(_, m) = changed else {
         return changed;
     };
-    let len = bytes.len();
-    signal::store(is_big(k), bytes, m, len);
+    store_changed(r, bytes, m, signal::bits(raw, r.signed, r.width));
     changed
 }

@@ -1,14 +1,13 @@
 // The loops over the rows of one message, which stand together from its first row on, and what they do at a row.
 ghost use mathlib.Core.Path.{_≡_};
-ghost use mathlib.Core.Bool.{true};
+ghost use mathlib.Core.Bool.{true, cond};
 ghost use Prim.Native.Nat.{_<_};
 ghost use lib.IntN.{pos};
 ghost use lib.ListN.{drop, getD};
 ghost use Rattle.pages.specs.Table.{rows, noRow, rowCount, Fine, block, bitsAt, takes};
 ghost use Rattle.pages.specs.Raws.{signalCount, wholeAt, wholesOf, pad, rowTakes, putRaw};
-ghost use Rattle.pages.specs.Change.{changedRow, changedAt};
-ghost use Rattle.pages.specs.Steps.{offenceOf, cleared, judgedBy, packOf, signalFound};
-use crate::Found;
+ghost use Rattle.pages.specs.Change.{changedRow};
+ghost use Rattle.pages.specs.Steps.{offenceOf, cleared, judgedBy, packOf};
 use crate::Judged;
 use crate::Offence;
 use crate::Packed;
@@ -20,7 +19,6 @@ use crate::table::row_at;
 use crate::table::row_to_pack;
 use crate::table::row_to_sift;
 use crate::table::row_to_unpack;
-use crate::table::signal_at;
 
 // The start as refusal 5 carries it: no signal of 8 bytes starts above bit 63.
 fn start_bit(r: Row) -> u8
@@ -48,6 +46,17 @@ fn label_holds(labels: u64, bits: u64) -> bool
         return false;
     }
     (labels >> bits) % 2 == 1
+}
+
+// The row's offence, or that of the rows behind it.
+pub fn offence_at(r: Row, n: u64, behind: Offence) -> Offence
+    requires { ⌜ Fine r ⌝ }
+    ensures { λ o. ⌜ o ≡ cond (takes (r .labels) (bitsAt n r)) behind (Offence.Start (r .start)) ⌝ }
+{
+    if label_holds(r.labels, signal_bits(r, n)) {
+        return behind;
+    }
+    Offence::Start(start_bit(r))
 }
 
 // One walk over the message's rows: the first offence, and n with every signal before it cleared. Without an offence, what is left stands
@@ -189,7 +198,7 @@ pub fn pack(at: usize, kind: usize, raws: [i64; 16]) -> Packed
 }
 
 // 7, then 5 for the new label.
-fn change_row(r: Row, kind: usize, n: u64, z: i64) -> Judged
+pub fn change_row(r: Row, kind: usize, n: u64, z: i64) -> Judged
     requires { ⌜ Fine r ⌝ }
     ensures { λ a. ⌜ a ≡ changedRow r kind n z ⌝ }
 {
@@ -200,14 +209,4 @@ fn change_row(r: Row, kind: usize, n: u64, z: i64) -> Judged
         return Judged::Refused(Refusal::NoLabel(start_bit(r)));
     }
     Judged::Frame(kind, put_raw(r, n, z))
-}
-
-// 13 before them.
-pub fn change_number(kind: usize, n: u64, start: u32, z: i64) -> Judged
-    ensures { λ r. ⌜ r ≡ changedAt kind n z (signalFound kind start) ⌝ }
-{
-    let Found::At(i) = signal_at(kind, start) else {
-        return Judged::Refused(Refusal::NoSignal);
-    };
-    change_row(row_at(i), kind, n, z)
 }

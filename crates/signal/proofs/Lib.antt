@@ -7,3 +7,4 @@ pub mod Orders
 pub mod Words
 pub mod Complement
 pub mod RawLaws
+pub mod WholeBytes

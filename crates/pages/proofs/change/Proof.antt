@@ -1,6 +1,6 @@
--- `pages::change` meets its contract: the reader's refusal is handed on, then the row's, and the changed number's bytes are stored.
+-- `pages::change` meets its contract: the reader's refusal is handed on, then 13, then the row's, and the changed signal is stored.
 use borrow.Author.Needs.{needs}
-use mathlib.Core.Path.{_≡_, sym, ap, _∙_}
+use mathlib.Core.Path.{_≡_, refl, sym, ap, ap₂, _∙_}
 use mathlib.Core.Bool.{Bool}
 use mathlib.Core.List.{List}
 use Prim.Native.Nat.{ℕ}
@@ -8,19 +8,37 @@ use lib.IntN.{ℤ}
 use lib.ListN.{length}
 use mir.Facts.{toZ-ofZ}
 use Rattle.signal.specs.Payload.{bytesOf}
-use Rattle.signal.proofs.Totals.{stored-all}
+use Rattle.pages.specs.declared.Row.{Row}
+use Rattle.pages.specs.declared.Found.{Found}
+use Rattle.pages.specs.declared.Found.the-variants.{At, Nothing}
 use Rattle.pages.specs.declared.Judged.{Judged}
 use Rattle.pages.specs.declared.Judged.the-variants.{Frame, Refused}
 use Rattle.pages.specs.declared.Refusal.{Refusal}
+use Rattle.pages.specs.declared.Refusal.the-variants.{NoSignal}
+use Rattle.pages.specs.Table.{isSignal}
 use Rattle.pages.specs.Judge.{judgeOf}
 use Rattle.pages.specs.Steps.{signalFound}
-use Rattle.pages.specs.Change.{changedAt, changedIn, changeOf, bytesAfter}
+use Rattle.pages.specs.Change.{changedRow, changedAt, changedIn, changeOf, bytesAfter}
+use Rattle.pages.proofs.Firsts.{found-in}
+use Rattle.pages.proofs.Stored.{Storing, storing}
 use Rattle.pages.proofs.change.Statement.{statement}
 use Rattle.pages.proofs.change.Tie as tie
 
 -- an answer that leaves the bytes as they were
 abbrev Ended : List ℕ → Judged → Judged → Type 0
 Ended bs r a = (r ≡ a) × (bs ≡ bytesAfter bs a)
+
+ended : (bs : List ℕ) (w : Refusal) (r a : Judged) → r ≡ Refused w → a ≡ Refused w → Ended bs r a
+ended bs w r a e f = (e ∙ sym f, sym (ap (bytesAfter bs) f))
+
+-- what was read, and the search for the signal
+read : (m : ℕ) (x : Bool) (bs : List ℕ) (s : ℕ) (z : ℤ) (j : Judged) → judgeOf m x bs ≡ j → changeOf m x bs s z ≡ changedIn s z j
+unfolding changeOf
+read m x bs s z j e = ap (changedIn s z) e
+
+sought : (m : ℕ) (x : Bool) (bs : List ℕ) (s : ℕ) (z : ℤ) (k n : ℕ) (f : Found) → judgeOf m x bs ≡ Frame k n → signalFound k s ≡ f
+    → changeOf m x bs s z ≡ changedAt k n z f
+sought m x bs s z k n f e g = read m x bs s z (Frame k n) e ∙ ap (changedAt k n z) g
 
 judge-requires : tie.Need-judge-requires
 judge-requires c κs = search needs
@@ -34,28 +52,18 @@ enum-told c = search needs
 same-length : tie.Need-same-length
 same-length c = search needs
 
--- the reader's answer and the row's, each where it ends the change
-refused : (m : ℕ) (x : Bool) (bs : List ℕ) (s : ℕ) (z : ℤ) (r : Judged) (w : Refusal) → r ≡ judgeOf m x bs → r ≡ Refused w → Ended bs r (changeOf m x bs s z)
-unfolding changeOf
-refused m x bs s z r w e g =
-    let q : changedIn s z (judgeOf m x bs) ≡ Refused w = ap (changedIn s z) (sym e ∙ g) in
-    (g ∙ sym q, ap (bytesAfter bs) (sym q))
-
-read : (m : ℕ) (x : Bool) (bs : List ℕ) (s : ℕ) (z : ℤ) (k n : ℕ) (r : Judged) → Frame k n ≡ judgeOf m x bs → r ≡ changedAt k n z (signalFound k s) → r ≡ changeOf m x bs s z
-unfolding changeOf
-read m x bs s z k n r e g = g ∙ ap (changedIn s z) e
-
 returns : tie.Need-returns
 returns c =
     let j = c .before .before in
     let a = j .before .before .before .args in
-    refused (a .id) (a .extended) (a .bytes .now) (a .start) (a .raw) (j .judge .result) _ (j .judge .ensures) (c .enum-told .given .1)
+    ended (a .bytes .now) _ (j .judge .result) _ (c .enum-told .given .1)
+    (read (a .id) (a .extended) (a .bytes .now) (a .start) (a .raw) _ (sym (j .judge .ensures) ∙ c .enum-told .given .1))
 
-change-number-requires : tie.Need-change-number-requires
-change-number-requires c κs = search needs
+signal-at-requires : tie.Need-signal-at-requires
+signal-at-requires c κs = search needs
 
-enum-known-changed : tie.Need-enum-known-changed
-enum-known-changed c = search needs
+enum-known-i : tie.Need-enum-known-i
+enum-known-i c = search needs
 
 enum-told-2 : tie.Need-enum-told-2
 enum-told-2 c = search needs
@@ -63,47 +71,119 @@ enum-told-2 c = search needs
 same-length-2 : tie.Need-same-length-2
 same-length-2 c = search needs
 
-start : (c : tie.After-change-number) → tie.Start
+-- the arguments, from the search on, and the frame that was read
+start : (c : tie.After-signal-at) → tie.Start
 start c = c .before .before .before .before .before .before .before
 
-changed : (c : tie.After-change-number)
-    → c .change-number .result ≡ changeOf (start c .args .id) (start c .args .extended) (start c .args .bytes .now) (start c .args .start) (start c .args .raw)
-unfolding start
-changed c =
+kind : (c : tie.After-signal-at) → ℕ
+kind c = c .before .before .read .given .0 .0
+
+number : (c : tie.After-signal-at) → ℕ
+number c = c .before .before .read .given .0 .1 .0
+
+frame : (c : tie.After-signal-at) → (let a = start c .args in judgeOf (a .id) (a .extended) (a .bytes .now) ≡ Frame (kind c) (number c))
+unfolding start kind number
+frame c =
     let r = c .before .before in
-    let j = r .before .before in
-    let a = start c .args in
-    let k = r .read .given .0 .0 in
-    let n = r .read .given .0 .1 .0 in
-    read (a .id) (a .extended) (a .bytes .now) (a .start) (a .raw) k n (c .change-number .result) (sym (r .read .given .1) ∙ j .judge .ensures)
-    (c .change-number .ensures ∙ ap (λ (z : ℤ). changedAt k n z (signalFound k (a .start))) (toZ-ofZ (start c .fits .raw)))
+    sym (r .before .before .judge .ensures) ∙ r .read .given .1
 
 returns-2 : tie.Need-returns-2
-unfolding start
+unfolding start kind number
 returns-2 c =
-    let d = c .before .before in
-    (changed d, sym (ap (bytesAfter (start d .args .bytes .now)) (sym (changed d) ∙ c .enum-told2 .given .1)))
+    let f = c .before .before in
+    let a = start f .args in
+    ended (a .bytes .now) NoSignal _ _ refl
+    (sought (a .id) (a .extended) (a .bytes .now) (a .start) (a .raw) (kind f) (number f) Nothing (frame f)
+    (sym (f .signal-at .ensures) ∙ c .enum-told2 .given .1))
 
-is-big-requires : tie.Need-is-big-requires
-is-big-requires c κs = search needs
+place : (c : tie.After-i) → ℕ
+place c = c .i .given .0 .0
 
-store-requires : tie.Need-store-requires
-store-requires c κs = search needs
+found : (c : tie.After-i) → (let f = c .before .before in signalFound (kind f) (start f .args .start) ≡ At (place c))
+unfolding start kind number place
+found c = sym (c .before .before .signal-at .ensures) ∙ c .i .given .1
+
+row-to-change-requires : tie.Need-row-to-change-requires
+unfolding start kind number place
+row-to-change-requires c κs =
+    let i = c .before in
+    let f = i .before .before in
+    found-in (isSignal (kind f) (start f .args .start)) (place i) (found i) .0
+
+change-row-requires : tie.Need-change-row-requires
+change-row-requires c κs = c .row-to-change .ensures .1
+
+enum-known-changed : tie.Need-enum-known-changed
+enum-known-changed c = search needs
+
+enum-told-3 : tie.Need-enum-told-3
+enum-told-3 c = search needs
 
 same-length-3 : tie.Need-same-length-3
 same-length-3 c = search needs
 
+-- the search, from the row's change on
+sought-at : (c : tie.After-change-row) → tie.After-signal-at
+sought-at c = c .before .before .before .before .before
+
+asked : (c : tie.After-change-row) → tie.Start
+asked c = start (sought-at c)
+
+changed : (c : tie.After-change-row) → (let a = asked c .args in c .change-row .result ≡ changeOf (a .id) (a .extended) (a .bytes .now) (a .start) (a .raw))
+unfolding start kind number place sought-at asked
+changed c =
+    let r = c .before in
+    let i = r .before .before in
+    let f = sought-at c in
+    let s = asked c in
+    let a = s .args in
+    c .change-row .ensures
+    ∙ ap₂ (λ (q : Row) (z : ℤ). changedRow q (kind f) (number f) z) (r .row-to-change .ensures .0) (toZ-ofZ (s .fits .raw))
+    ∙ sym (sought (a .id) (a .extended) (a .bytes .now) (a .start) (a .raw) (kind f) (number f) (At (place i)) (frame f) (found i))
+
 returns-3 : tie.Need-returns-3
-unfolding start
+unfolding start kind number place sought-at asked
 returns-3 c =
-    let st = c .before .before in
-    let b = st .before .before in
-    let g = b .before .before in
+    let d = c .before .before in
+    ended (asked d .args .bytes .now) _ (d .change-row .result) _ (c .enum-told3 .given .1) (sym (changed d) ∙ c .enum-told3 .given .1)
+
+bits-requires : tie.Need-bits-requires
+bits-requires c κs = search needs
+
+-- what the bytes rest on
+stored : (c : tie.After-bits) → (
+    let g = c .before .before .before in
     let d = g .before .before in
-    let bs = start d .args .bytes .now in
-    let n = g .changed .given .0 .1 .0 in
+    Storing (d .before .row-to-change .result) (asked d .args .bytes .now) (g .changed .given .0 .0) (g .changed .given .0 .1 .0) (c .bits .result))
+unfolding start kind number place sought-at asked
+stored c =
+    let g = c .before .before .before in
+    let d = g .before .before in
+    let r = d .before in
+    let i = r .before .before in
+    let f = sought-at d in
+    let s = asked d in
+    let a = s .args in
+    storing (a .id) (a .extended) (a .bytes .now) (a .start) (a .raw) (kind f) (number f) (place i) _ _ (c .bits .result) (r .row-to-change .result)
+    (frame f) (found i) (r .row-to-change .ensures .0) (sym (changed d) ∙ g .changed .given .1) (s .fits .raw) (c .bits .ensures)
+
+store-changed-requires : tie.Need-store-changed-requires
+unfolding start kind number place sought-at asked
+store-changed-requires c κs = let t = stored c in (t .some, t .within, t .narrow, t .put)
+
+same-length-4 : tie.Need-same-length-4
+same-length-4 c = search needs
+
+returns-4 : tie.Need-returns-4
+unfolding start kind number place sought-at asked
+returns-4 c =
+    let p = c .before .before in
+    let t = stored (p .before) in
+    let g = p .before .before .before .before in
+    let d = g .before .before in
+    let bs = asked d .args .bytes .now in
     let e = sym (g .changed .given .1) ∙ changed d in
-    (e, st .store .ensures ∙ stored-all (b .is-big .result) bs n ∙ ap (λ (x : Bool). bytesOf x (length bs) n) (b .is-big .ensures) ∙ ap (bytesAfter bs) e)
+    (e, p .store-changed .ensures ∙ ap (λ (x : Bool). bytesOf x (length bs) (g .changed .given .0 .1 .0)) (t .same) ∙ ap (bytesAfter bs) e)
 
 pub change-spec : {M : Type 1} → statement M
 change-spec =
@@ -114,12 +194,18 @@ change-spec =
     enum-told
     same-length
     returns
-    change-number-requires
-    enum-known-changed
+    signal-at-requires
+    enum-known-i
     enum-told-2
     same-length-2
     returns-2
-    is-big-requires
-    store-requires
+    row-to-change-requires
+    change-row-requires
+    enum-known-changed
+    enum-told-3
     same-length-3
-    returns-3)
+    returns-3
+    bits-requires
+    store-changed-requires
+    same-length-4
+    returns-4)

@@ -1,4 +1,5 @@
--- `pages::judge` meets its contract: refusals 3, 4 and 15 by the first row with the identifier, 5 and 6 by that message's rows.
+-- `pages::judge` meets its contract: refusals 3, 4 and 15 by the first row with the identifier, 5 and 6 by that message's rows, or 5 by its labels alone
+-- where every bit is a signal's.
 use borrow.Author.Needs.{needs}
 use borrow.Author.Tests.{eq-eqb}
 use mathlib.Core.Path.{_≡_, refl, sym, ap, ap₂, _∙_, subst}
@@ -20,6 +21,7 @@ use Rattle.pages.specs.Judge.{judgedNumber, wrongLength, judgedRow, judg
 use Rattle.pages.specs.Steps.{withRow, offenceOf, cleared, judgedBy}
 use Rattle.pages.proofs.Rules.{short-length}
 use Rattle.pages.proofs.Firsts.{first-id}
+use Rattle.pages.proofs.Covered.{cleared-none}
 use Rattle.pages.proofs.Offenders.{judged-by, row-short, row-long}
 use Rattle.pages.proofs.judge.Statement.{statement}
 use Rattle.pages.proofs.judge.Tie as tie
@@ -80,13 +82,11 @@ returns-3 c =
 number-requires : tie.Need-number-requires
 number-requires c κs = search needs
 
-judge-number-requires : tie.Need-judge-number-requires
-judge-number-requires c κs = search needs
-
--- 5 and 6, where the length is the row's
+-- 5 and 6, where the length is the row's: the message's rows stand together from the one that was found, and the number has no bit above the message
 of-length : (m : ℕ) (x : Bool) (i : ℕ) (bs : List ℕ) (r : Row) (n : ℕ) → Bytes bs → withRow (firstAt (hasId m x) 0 rows) ≡ foundrow.At i r → length bs ≡ r .bytes
     → n ≡ numberOf (r .big) (take 8 bs)
-    → judgedBy (r .kind) n (offenceOf n (block (r .kind) (drop i rows))) (cleared (block (r .kind) (drop i rows)) n) ≡ judgedRow r bs
+    → (judgedBy (r .kind) n (offenceOf n (rowsOf (r .kind))) (cleared (rowsOf (r .kind)) n) ≡ judgedRow r bs)
+    × (block (r .kind) (drop i rows) ≡ rowsOf (r .kind)) × (n < 2 ^ (8 * lengthOf (r .kind)))
 unfolding lengthOf
 of-length m x i bs r n hb g l e =
     let found = row-found i r (firstAt (hasId m x) 0 rows) g in
@@ -97,26 +97,69 @@ of-length m x i bs r n hb g l e =
     = ap (λ (x : Row). x .bytes) (subst (λ (x : Row). headRow (rowsOf (x .kind)) ≡ x) (sym q) (f .3)) ∙ sym l in
     let few : length bs ≤ 8 = omega (arith, short-length (r .kind)) in
     let whole = numberOf (r .big) bs in
+    let is : n ≡ numberOf (r .big) bs = e ∙ number-in (r .big) bs few in
     let below : numberOf (r .big) bs < 2 ^ (8 * lengthOf (r .kind))
-    = subst (λ (y : ℕ). numberOf (r .big) bs < 2 ^ (8 * y)) (sym size) (number-bound (r .big) bs hb) in
-    ap₂ (λ (y : ℕ) (rs : List Row). judgedBy (r .kind) y (offenceOf y rs) (cleared rs y)) (e ∙ number-in (r .big) bs few) same
-    ∙ judged-by (r .kind) whole below
-    ∙ ap (λ (y : ℕ). judgedNumber (r .kind) (8 * y) whole) size
-    ∙ sym (ap (λ (b : Bool). cond b (judgedNumber (r .kind) (8 * length bs) whole) (Refused (wrongLength r bs))) (eq-eqb (length bs) (r .bytes) l))
+    = subst (λ (y : ℕ). numberOf (r .big) bs < 2 ^ (8 * y)) (sym size) (number-bound (r .big) bs hb) in (
+      ap (λ (y : ℕ). judgedBy (r .kind) y (offenceOf y (rowsOf (r .kind))) (cleared (rowsOf (r .kind)) y)) is
+          ∙ judged-by (r .kind) whole below
+          ∙ ap (λ (y : ℕ). judgedNumber (r .kind) (8 * y) whole) size
+          ∙ sym (ap (λ (b : Bool). cond b (judgedNumber (r .kind) (8 * length bs) whole) (Refused (wrongLength r bs))) (eq-eqb (length bs) (r .bytes) l)),
+      same,
+      subst (λ (y : ℕ). y < 2 ^ (8 * lengthOf (r .kind))) (sym is) below,
+    )
+
+-- the row that was found, from the number on
+found : (c : tie.After-number) → tie.After-i
+found c = c .before .before .before .before .before .before
+
+row : (c : tie.After-number) → Row
+row c = found c .i .given .0 .1 .0
+
+asked : (c : tie.After-number) → tie.Start
+asked c = found c .before .before .before .before
+
+-- the answer by the message's rows is the frame's; and what was shown of rows and number
+judged : (c : tie.After-number) → (
+    let a = asked c .args in
+    let k = row c .kind in
+    let n = c .number .result in
+    (judgedBy k n (offenceOf n (rowsOf k)) (cleared (rowsOf k) n) ≡ judgeOf (a .id) (a .extended) (a .bytes .now))
+    × (block k (drop (found c .i .given .0 .0) rows) ≡ rowsOf k) × (n < 2 ^ (8 * lengthOf k)))
+unfolding found row asked
+judged c =
+    let s = c .before in
+    let k = found c in
+    let f = k .before .before in
+    let a = asked c .args in
+    let r = row c in
+    let g = sym (f .row-with-id .ensures) ∙ k .i .given .1 in
+    let t = of-length (a .id) (a .extended) _ (a .bytes .now) r (c .number .result) (λ j. omega (arith, f .before .shared-slice-known .given j)) g
+    (omega (arith, s .before .before .if1 .left, s .if2 .left)) (c .number .ensures) in
+    (t .0 ∙ at-row (a .id) (a .extended) _ (a .bytes .now) r g, t .1, t .2)
+
+judge-labels-requires : tie.Need-judge-labels-requires
+judge-labels-requires c κs = c .if3 .taken
 
 returns-4 : tie.Need-returns-4
+unfolding found row asked
 returns-4 c =
-    let n = c .before in
-    let s = n .before in
-    let k = s .before .before .before .before .before in
-    let f = k .before .before in
-    let a = f .before .before .args in
-    let r : Row = k .i .given .0 .1 .0 in
-    let g = sym (f .row-with-id .ensures) ∙ k .i .given .1 in
-    c .judge-number .ensures
-    ∙ of-length (a .id) (a .extended) _ (a .bytes .now) r (n .number .result) (λ j. omega (arith, f .before .shared-slice-known .given j)) g
-    (omega (arith, s .before .before .if1 .left, s .if2 .left)) (n .number .ensures)
-    ∙ at-row (a .id) (a .extended) _ (a .bytes .now) r g
+    let m = c .before .before .before in
+    let k = row m .kind in
+    let n = m .number .result in
+    let t = judged m in
+    c .judge-labels .ensures ∙ ap (judgedBy k n (offenceOf n (rowsOf k))) (sym (cleared-none k n (c .before .if3 .taken) (t .2))) ∙ t .0
+
+judge-number-requires : tie.Need-judge-number-requires
+judge-number-requires c κs = search needs
+
+returns-5 : tie.Need-returns-5
+unfolding found row asked
+returns-5 c =
+    let m = c .before .before .before in
+    let k = row m .kind in
+    let n = m .number .result in
+    let t = judged m in
+    c .judge-number .ensures ∙ ap (λ (rs : List Row). judgedBy k n (offenceOf n rs) (cleared rs n)) (t .1) ∙ t .0
 
 pub judge-spec : {M : Type 1} → statement M
 judge-spec =
@@ -129,5 +172,7 @@ judge-spec =
     returns-2
     returns-3
     number-requires
+    judge-labels-requires
+    returns-4
     judge-number-requires
-    returns-4)
+    returns-5)
