@@ -17,7 +17,7 @@ typedef uint64_t work(const side *s, void *with);
 
 typedef struct { double took[SIDES]; } times;
 
-static times timed(const char *what, work *f, void *with, int turns, double calls) {
+static times timed(const char *what, work *f, void *with, int turns, double calls, int again) {
     times best;
     uint64_t first = f(&sides[0], with);
     best.took[0] = 1e300;
@@ -25,7 +25,7 @@ static times timed(const char *what, work *f, void *with, int turns, double call
         best.took[k] = 1e300;
         if (f(&sides[k], with) != first) differ(what);
     }
-    for (int again = 0; again < AGAIN; again++)
+    while (again-- > 0)
         for (int k = 0; k < SIDES; k++) {
             double from = now();
             for (int turn = 0; turn < turns; turn++) sum += f(&sides[k], with);
@@ -35,11 +35,15 @@ static times timed(const char *what, work *f, void *with, int turns, double call
     return best;
 }
 
-static times line(const char *what, work *f, void *with, int turns, double calls) {
-    times t = timed(what, f, with, turns, calls);
+static void told(const char *what, times t) {
     printf("%-26s %7.1f ns", what, t.took[0]);
     for (int k = 1; k < SIDES; k++) printf("   %7.1f ns %s, %5.2f times", t.took[k], sides[k].name, t.took[0] / t.took[k]);
     printf("\n");
+}
+
+static times line(const char *what, work *f, void *with, int turns, double calls) {
+    times t = timed(what, f, with, turns, calls, AGAIN);
+    told(what, t);
     return t;
 }
 
@@ -117,47 +121,61 @@ static void bench_changes(void) {
     bench_change("change, one bit", flags, sizeof flags / sizeof *flags, 1);
 }
 
-/* ---- the watch: frames and ticks at one time on posts in turn, in each side's own table */
+/* ---- the watch: frames and ticks at one time on posts in turn, in each side's own table. How fast a post is copied hangs on where it lies in a line of the
+ * cache, and whether a load waits for a store that has nothing to do with it on where both lie in their pages: one place can cost a third. So the tables
+ * are put to places over a page and over a line, the same for every side, and the mean counts. */
 
-typedef struct { rokemaipu_table table[SIDES]; uint32_t posts, turn[SIDES]; } depot;
+enum { PAGE = 4096, PLACES = 16, STEP = PAGE / PLACES + 8 };
+
+typedef struct { _Alignas(PAGE) uint8_t room[SIDES][2 * PAGE]; size_t at; uint32_t posts, turn[SIDES]; } depot;
+
+_Static_assert(PLACES * STEP + sizeof(rokemaipu_table) <= 2 * PAGE, "the tables have room");
+
+static rokemaipu_table *table_of(depot *d, const side *s) { return (rokemaipu_table *)(d->room[s - sides] + d->at); }
 
 static uint32_t channel_of(depot *d, const side *s) { return d->turn[s - sides]++ % d->posts; }
 
 static uint64_t frames(const side *s, void *with) {
     depot *d = with;
+    rokemaipu_table *t = table_of(d, s);
     uint32_t channel = channel_of(d, s);
     uint64_t seen = 0;
-    for (int i = 0; i < MIX; i++) seen = 31 * seen + s->frame(&d->table[s - sides], channel, 2000, mix[i].id, true, mix[i].bytes, mix[i].n);
+    for (int i = 0; i < MIX; i++) seen = 31 * seen + s->frame(t, channel, 2000, mix[i].id, true, mix[i].bytes, mix[i].n);
     return seen;
 }
 
 static uint64_t tick(const side *s, void *with) {
     depot *d = with;
-    return s->tick(&d->table[s - sides], channel_of(d, s), 2001);
+    return s->tick(table_of(d, s), channel_of(d, s), 2001);
 }
 
 static void charge(depot *d, uint32_t turn) {
     for (const frame *f = mix; f < mix + MIX; f++) {
-        uint32_t first = sides[0].frame(&d->table[0], turn % d->posts, turn, f->id, true, f->bytes, f->n);
+        uint32_t first = sides[0].frame(table_of(d, &sides[0]), turn % d->posts, turn, f->id, true, f->bytes, f->n);
         for (int k = 1; k < SIDES; k++)
-            if (sides[k].frame(&d->table[k], turn % d->posts, turn, f->id, true, f->bytes, f->n) != first) differ("frame");
+            if (sides[k].frame(table_of(d, &sides[k]), turn % d->posts, turn, f->id, true, f->bytes, f->n) != first) differ("frame");
     }
 }
 
-static void bench_watch(uint32_t posts) {
-    static depot d;
-    char what[40];
-    memset(&d, 0, sizeof d);
-    d.posts = posts;
+static void set_up(depot *d, uint32_t posts, size_t at) {
+    memset(d, 0, sizeof *d);
+    d->posts = posts, d->at = at;
     for (const side *s = sides; s < sides + SIDES; s++) {
-        s->start(&d.table[s - sides]);
-        for (uint32_t i = 0; i < posts; i++) s->set_up(&d.table[s - sides], i, i, 5000, 1000, 500, 500, 0);
+        s->start(table_of(d, s));
+        for (uint32_t i = 0; i < posts; i++) s->set_up(table_of(d, s), i, i, 5000, 1000, 500, 500, 0);
     }
-    for (uint32_t turn = 0; turn < 1000; turn++) charge(&d, turn);
-    snprintf(what, sizeof what, "frame in place, %u post%s", posts, posts > 1 ? "s" : "");
-    line(what, frames, &d, TURNS, MIX);
-    snprintf(what, sizeof what, "tick in place, %u post%s", posts, posts > 1 ? "s" : "");
-    line(what, tick, &d, 4 * TURNS, 1);
+    for (uint32_t turn = 0; turn < 1000; turn++) charge(d, turn);
+}
+
+static void bench_watch(const char *what, work *f, uint32_t posts, int turns, double calls) {
+    static depot d;
+    times mean = {{0}};
+    for (int place = 0; place < PLACES; place++) {
+        set_up(&d, posts, (size_t)place * STEP);
+        times t = timed(what, f, &d, turns, calls, AGAIN / PLACES);
+        for (int k = 0; k < SIDES; k++) mean.took[k] += t.took[k] / PLACES;
+    }
+    told(what, mean);
 }
 
 /* ---- the night log, on one channel */
@@ -201,8 +219,10 @@ static void bench_log(void) {
 int main(void) {
     bench_codec();
     bench_changes();
-    bench_watch(1);
-    bench_watch(8);
+    bench_watch("frame in place, 1 post", frames, 1, TURNS, MIX);
+    bench_watch("frame in place, 8 posts", frames, 8, TURNS, MIX);
+    bench_watch("tick in place, 1 post", tick, 1, 4 * TURNS, 1);
+    bench_watch("tick in place, 8 posts", tick, 8, 4 * TURNS, 1);
     bench_log();
     return sum == 42;
 }
