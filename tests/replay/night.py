@@ -163,10 +163,10 @@ def peak(records):
 
 
 def memory():
-    """It does not grow with the log: ten times the records have 450 kB more of log and nearly a MB more of lines."""
-    short, long = peak(10_000), peak(100_000)
-    if long > short + 256:
-        sys.exit(f'tests/replay: {short} kB for 10,000 records, {long} kB for 100,000')
+    """It does not grow with the log: forty times the records have nearly 2 MB more of log and twice that of lines. The rest is room for an emulator's own memory."""
+    short, long = peak(10_000), peak(400_000)
+    if long > short + 1024:
+        sys.exit(f'tests/replay: {short} kB for 10,000 records, {long} kB for 400,000')
 
 
 with tempfile.TemporaryDirectory() as room:
