@@ -9,8 +9,8 @@ use lib.Dec.{ltb, leb}
 use lib.ListN.{length, getD, drop, replicate, getD-replicate}
 use lib.Seq.{drop-at}
 use borrow.Author.Tests.{leb-true}
-use Rattle.signal.specs.Payload.{Bytes, bytesOf}
-use Rattle.signal.proofs.Orders.{length-of}
+use Rattle.payload.specs.Payload.{Bytes, bytesOf}
+use Rattle.payload.proofs.Orders.{length-of}
 use Rattle.pages.specs.declared.Judged.the-variants.{Frame}
 use Rattle.pages.specs.declared.Refusal.the-variants.{UnknownIdentifier, ShortBuffer}
 use Rattle.pages.specs.Judge.{judgeOf}

@@ -4,7 +4,7 @@ use mathlib.Core.Bool.{Bool, false, cond, _&&_}
 use mathlib.Core.List.{List, [], _∷_, _++_}
 use lib.Dec.{ltb, leb}
 use lib.ListN.{length, getD, drop}
-use Rattle.signal.specs.Payload.{bytesOf}
+use Rattle.payload.specs.Payload.{bytesOf}
 use Rattle.pages.specs.declared.Refusal.the-variants.{UnknownIdentifier, ShortBuffer}
 use Rattle.pages.specs.Table.{lengthOf, bigOf}
 use Rattle.messages.specs.Labels.{protocolNumber, plugNumber}

@@ -105,7 +105,7 @@ fn hand_out(l: Slot, kind: usize, time: &mut [u32], buf: &mut [u8]) -> u32
         return refusal_word(Refusal::ShortBuffer);
     }
     time[0] = l.time;
-    signal::store(pages::is_big(kind), buf, l.raw, len);
+    payload::store(pages::is_big(kind), buf, l.raw, len);
     len as u32
 }
 

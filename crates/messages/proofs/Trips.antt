@@ -11,9 +11,9 @@ use lib.ListN.{length, take, drop}
 use lib.IntN.{ℤ}
 use lib.Seq.{take-all, take-at, drop-at}
 use borrow.Author.Tests.{le-leb, leb-true, leb-false}
-use Rattle.signal.specs.Payload.{bytesOf, storedIn, Bytes}
-use Rattle.signal.proofs.Orders.{length-of, are-of}
-use Rattle.signal.proofs.Totals.{stored-in, stored-not}
+use Rattle.payload.specs.Payload.{bytesOf, storedIn, Bytes}
+use Rattle.payload.proofs.Orders.{length-of, are-of}
+use Rattle.payload.proofs.Stored.{stored-in, stored-not}
 use Rattle.pages.specs.declared.Judged.{Judged}
 use Rattle.pages.specs.declared.Judged.the-variants as judged
 use Rattle.pages.specs.declared.Refusal.{Refusal}

@@ -16,7 +16,7 @@ use Rattle.pages.specs.Judge.{unlabelled, offender, strayBelow, judgedNumber, j
 use Rattle.pages.specs.Raws as pages
 use Rattle.pages.specs.Change.{changeOf, bytesAfter}
 use Rattle.signal.specs.Signal.{getBits, putBits}
-use Rattle.signal.specs.Payload.{leNumber, leBytes, beNumber, beBytes, storedIn}
+use Rattle.payload.specs.Payload.{leNumber, leBytes, beNumber, beBytes, storedIn}
 use Rattle.signal.specs.Twos.{toSigned, ofSigned}
 use Rattle.messages.specs.declared.PowerModulesStatus.{PowerModulesStatus}
 use Rattle.messages.specs.declared.SystemEnable.the-variants.{Allowed}

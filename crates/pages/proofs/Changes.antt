@@ -13,14 +13,14 @@ use lib.IntN.{ℤ}
 use lib.ListN.{length, getD}
 use borrow.Author.Tests.{eqb-true, not-false}
 use Rattle.signal.specs.Signal.{getBits, covers}
-use Rattle.signal.specs.Payload.{numberOf, bytesOf, bitAt, Bytes}
+use Rattle.payload.specs.Payload.{numberOf, bytesOf, bitAt, Bytes}
 use Rattle.signal.specs.Raw.{fitsIn, bitsIn, valueIn}
-use Rattle.signal.specs.Order.{place}
+use Rattle.payload.specs.Order.{place}
 use Rattle.signal.proofs.Laws.{get-put-apart, bit-kept, put-lt}
 use Rattle.signal.proofs.Complement.{half-of}
 use Rattle.signal.proofs.RawLaws.{bits-lt}
-use Rattle.signal.proofs.Orders.{number-bound, length-of, number-of}
-use Rattle.signal.proofs.Words.{bit-of, bit-in}
+use Rattle.payload.proofs.Orders.{number-bound, length-of, number-of}
+use Rattle.payload.proofs.Words.{bit-of, bit-in}
 use Rattle.pages.specs.declared.Row.{Row}
 use Rattle.pages.specs.declared.Found.{Found}
 use Rattle.pages.specs.declared.Found.the-variants.{At, Nothing}

@@ -12,11 +12,11 @@ use lib.ListN.{length, getD}
 use lib.Pow.{pow-pos}
 use borrow.Author.Tests.{eq-eqb, ne-eqb, eqb-true, not-true}
 use Rattle.signal.specs.Signal.{getBits, putBits, covers}
-use Rattle.signal.specs.Payload.{numberOf, bitAt, Bytes}
-use Rattle.signal.specs.Order.{place}
+use Rattle.payload.specs.Payload.{numberOf, bitAt, Bytes}
+use Rattle.payload.specs.Order.{place}
 use Rattle.signal.proofs.Laws.{get-lt, get-zero, bit-put, put-lt, same-bits}
 use Rattle.signal.proofs.Complement.{half-of}
-use Rattle.signal.proofs.Words.{place-lt, place-place, bit-of}
+use Rattle.payload.proofs.Words.{place-lt, place-place, bit-of}
 use Rattle.pages.specs.declared.Row.{Row}
 use Rattle.pages.specs.declared.Found.{Found}
 use Rattle.pages.specs.declared.Found.the-variants.{At, Nothing}

@@ -11,7 +11,7 @@ use native.Mathlib.Omega.{arith}
 use lib.Dec.{eqb}
 use lib.ListN.{length, getD}
 use borrow.Author.Tests.{eq-eqb, ne-eqb, lt-ltb, le-ltb}
-use Rattle.signal.specs.Payload.{numberOf}
+use Rattle.payload.specs.Payload.{numberOf}
 use Rattle.pages.specs.declared.Row.{Row}
 use Rattle.pages.specs.declared.Found.the-variants.{At}
 use Rattle.pages.specs.declared.Offence.{Offence}

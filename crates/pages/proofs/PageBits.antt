@@ -11,11 +11,11 @@ use lib.Dec.{leb, ltb}
 use lib.ListN.{length, List·getD-eq-default}
 use borrow.Author.Tests.{le-leb, lt-ltb, leb-true, ltb-true}
 use Rattle.signal.specs.Signal.{getBits, covers}
-use Rattle.signal.specs.Payload.{numberOf, bitAt, Bytes}
-use Rattle.signal.specs.Order.{place, bitOf}
-use Rattle.signal.specs.Order as order
+use Rattle.payload.specs.Payload.{numberOf, bitAt, Bytes}
+use Rattle.payload.specs.Order.{place, bitOf}
+use Rattle.payload.specs.Order as order
 use Rattle.signal.proofs.Laws.{get-zero}
-use Rattle.signal.proofs.Words.{place-place, bit-place, signal-bit}
+use Rattle.payload.proofs.Words.{place-place, bit-place, signal-bit}
 use Rattle.pages.specs.declared.Row.{Row}
 use Rattle.pages.specs.Table.{rowsOf, lengthOf, bigOf, lowest, HasBit, bitsAt, covered}
 use Rattle.pages.proofs.Rules.{both-true, either-false, not-both, Kept, Among, among-kept, row-message}

@@ -11,10 +11,10 @@ use lib.Dec.{eqb, leb, ltb}
 use lib.ListN.{length, getD}
 use lib.Pow.{pow-mono}
 use borrow.Author.Tests.{leb-true, ltb-true, eqb-true, eqb-false, eq-eqb, ne-eqb, not-true}
-use Rattle.signal.specs.Order as order
-use Rattle.signal.specs.Order.{Inside}
+use Rattle.payload.specs.Order as order
+use Rattle.payload.specs.Order.{Inside}
 use Rattle.signal.proofs.Laws.{Apart}
-use Rattle.signal.proofs.Orders.{inside-fits, inside-true}
+use Rattle.payload.proofs.Orders.{inside-fits, inside-true}
 use Rattle.signal.proofs.Complement.{half-of}
 use Rattle.pages.specs.declared.Row.{Row}
 use Rattle.pages.specs.Charger.{chargerRows}

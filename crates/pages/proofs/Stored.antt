@@ -11,8 +11,8 @@ use mir.Val.{toZ, ofZ, SFits}
 use mir.Syntax.{w64}
 use borrow.Author.Tests.{eqb-true}
 use Rattle.signal.specs.Signal.{putBits}
-use Rattle.signal.specs.Payload.{numberOf}
-use Rattle.signal.specs.Order as order
+use Rattle.payload.specs.Payload.{numberOf}
+use Rattle.payload.specs.Order as order
 use Rattle.signal.specs.Raw.{bitsIn, bitsOf}
 use Rattle.signal.proofs.RawLaws.{bits-lt}
 use Rattle.pages.specs.declared.Row.{Row}

@@ -14,11 +14,11 @@ use lib.ListN.{length, getD, take}
 use lib.Pow.{pow-pos}
 use borrow.Author.Tests.{eq-eqb, le-leb, leb-true, not-false}
 use Rattle.signal.specs.Signal.{getBits, putBits, covers}
-use Rattle.signal.specs.Payload.{numberOf, bytesOf, Bytes}
+use Rattle.payload.specs.Payload.{numberOf, bytesOf, Bytes}
 use Rattle.signal.specs.Raw.{fitsIn, bitsIn, valueIn}
 use Rattle.signal.proofs.Laws.{get-lt, get-get, get-zero, get-put, get-put-apart, bit-put, bit-kept, put-lt, same-bits, Apart}
 use Rattle.signal.proofs.RawLaws.{value-bits, bits-value, value-fits, bits-lt}
-use Rattle.signal.proofs.Orders.{number-bound, length-of, number-of, bytes-of}
+use Rattle.payload.proofs.Orders.{number-bound, length-of, number-of, bytes-of}
 use Rattle.pages.specs.declared.Row.{Row}
 use Rattle.pages.specs.declared.Judged.the-variants.{Frame}
 use Rattle.pages.specs.Table.{rows, noRow, rowsOf, headRow, identifierOf, extendedOf, lengthOf, bigOf, lowest, bitsAt, Fine, covered, takes}

@@ -4,7 +4,7 @@ use mathlib.Core.Bool.{Bool, cond}
 use mathlib.Core.List.{List}
 use lib.ListN.{length, getD}
 use lib.IntN.{ℤ}
-use Rattle.signal.specs.Payload.{bytesOf}
+use Rattle.payload.specs.Payload.{bytesOf}
 use Rattle.signal.specs.Raw.{fitsIn, bitsIn}
 use Rattle.pages.specs.declared.Row.{Row}
 use Rattle.pages.specs.declared.Found.{Found}

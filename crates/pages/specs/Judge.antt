@@ -5,7 +5,7 @@ use mathlib.Core.List.{List, [], _∷_}
 use lib.Dec.{eqb, ltb}
 use lib.ListN.{length, getD}
 use Rattle.signal.specs.Signal.{getBits}
-use Rattle.signal.specs.Payload.{numberOf}
+use Rattle.payload.specs.Payload.{numberOf}
 use Rattle.pages.specs.declared.Row.{Row}
 use Rattle.pages.specs.declared.Found.{Found}
 use Rattle.pages.specs.declared.Found.the-variants.{At, Nothing}

@@ -1,7 +1,7 @@
 -- A row of the table: what the page says of a signal, and the lowest bit in the payload number, which is computed from it.
 use Prim.Native.Nat.{ℕ}
 use mathlib.Core.Bool.{Bool}
-use Rattle.signal.specs.Order as order
+use Rattle.payload.specs.Order as order
 use Rattle.pages.specs.declared.Row.{Row}
 
 -- kind, identifier, extended, bytes, big, start, width, signed, labels

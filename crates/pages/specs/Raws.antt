@@ -6,7 +6,7 @@ use lib.Dec.{leb}
 use lib.ListN.{length}
 use lib.IntN.{ℤ, pos}
 use Rattle.signal.specs.Signal.{putBits}
-use Rattle.signal.specs.Payload.{storedIn}
+use Rattle.payload.specs.Payload.{storedIn}
 use Rattle.signal.specs.Raw.{fitsIn, bitsIn, valueIn}
 use Rattle.pages.specs.declared.Row.{Row}
 use Rattle.pages.specs.declared.Written.{Written}

@@ -4,7 +4,7 @@ use mathlib.Core.Bool.{Bool, true, cond, not, _&&_, _||_}
 use mathlib.Core.List.{List, [], _∷_}
 use lib.Dec.{eqb, leb, ltb}
 use lib.ListN.{length}
-use Rattle.signal.specs.Order as order
+use Rattle.payload.specs.Order as order
 use Rattle.pages.specs.declared.Row.{Row}
 use Rattle.pages.specs.Table.{rows, rowCount, rowsOf, same, hasId, lowest}
 use Rattle.pages.specs.Raws.{signalCount}

@@ -203,7 +203,7 @@ pub fn judge(id: u32, extended: bool, bytes: &[u8]) -> Judged
     if r.bytes < bytes.len() {
         return Judged::Refused(Refusal::TooLong);
     }
-    let n = signal::number(r.big, bytes);
+    let n = payload::number(r.big, bytes);
     if r.kind < charger::KIND_COUNT {
         return charger::judge_labels(r.kind, n);
     }
@@ -248,7 +248,7 @@ pub fn write_raws(kind: usize, raws: [i64; 16], buf: &mut [u8]) -> Written
     if buf.len() < r.bytes {
         return Written::Refused(Refusal::ShortBuffer);
     }
-    signal::store(r.big, buf, n, r.bytes);
+    payload::store(r.big, buf, n, r.bytes);
     Written::Wrote(r.id, r.bytes)
 }
 

@@ -1,10 +1,5 @@
 pub mod Masks
 pub mod Laws
 pub mod Totals
-pub mod Bytes
-pub mod BigBytes
-pub mod Orders
-pub mod Words
 pub mod Complement
 pub mod RawLaws
-pub mod WholeBytes

@@ -1,22 +1,15 @@
--- What the total answers `getOf`, `putOf`, `take 8` and `storedIn` are within their range.
+-- What the total answers `getOf` and `putOf` are within their range.
 -- Assumes nothing.
 use mathlib.Core.Path.{_≡_, sym, ap, ap₂, _∙_}
 use mathlib.Core.Bool.{Bool, true, false, cond, not, _&&_, and-false}
 use mathlib.Core.Logic.{_⊎_, inl, inr}
-use mathlib.Core.List.{List, _++_, append-nil}
 use Prim.Native.Nat.{ℕ, suc, _+_, _-_, _^_, _≤_, _<_}
-use native.Mathlib.Nat.{le-refl}
 use native.Mathlib.Omega.{arith}
 use lib.Dec.{leb}
-use lib.ListN.{length, take, drop}
-use lib.Seq.{take-all, drop-length}
 use borrow.Author.Tests.{lt-ltb, le-leb, lt-leb, leb-true, not-false}
 use Rattle.signal.specs.Signal.{getBits, putBits, inWord, getOf, putOf}
-use Rattle.signal.specs.Payload.{numberOf, bytesOf, storedIn}
 use Rattle.signal.proofs.Complement.{half-of}
 use Rattle.signal.proofs.RawLaws.{both}
-
--- ---- signals
 
 pub word-yes : (s w : ℕ) → 1 ≤ w → s + w ≤ 64 → inWord s w ≡ true
 word-yes s w o h = ap₂ (λ (x y : Bool). x && y) (le-leb 1 w o) (le-leb (s + w) 64 h)
@@ -46,23 +39,3 @@ pub put-in : (n s w v : ℕ) → 1 ≤ w → s + w ≤ 64 → v < 2 ^ w → putO
 unfolding putOf
 put-in n s w v o h l =
     ap₂ (λ (a b : Bool). cond (a && b) (putBits n s w v) n) (word-yes s w o h) (lt-ltb v (2 ^ w) l)
-
--- ---- bytes
-
-pub number-in : (big : Bool) (bs : List ℕ) → length bs ≤ 8 → numberOf big (take 8 bs) ≡ numberOf big bs
-number-in big bs h = ap (numberOf big) (take-all 8 bs h)
-
-pub stored-in : (big : Bool) (k n : ℕ) (buf : List ℕ) → k ≤ length buf → storedIn big k n buf ≡ bytesOf big k n ++ drop k buf
-unfolding storedIn
-stored-in big k n buf h = ap (λ (b : Bool). cond b (bytesOf big k n ++ drop k buf) buf) (le-leb k (length buf) h)
-
-pub stored-not : (big : Bool) (k n : ℕ) (buf : List ℕ) → length buf < k → storedIn big k n buf ≡ buf
-unfolding storedIn
-stored-not big k n buf h = ap (λ (b : Bool). cond b (bytesOf big k n ++ drop k buf) buf) (lt-leb k (length buf) h)
-
--- a buffer that is filled
-pub stored-all : (big : Bool) (bs : List ℕ) (n : ℕ) → storedIn big (length bs) n bs ≡ bytesOf big (length bs) n
-stored-all big bs n =
-    stored-in big (length bs) n bs (le-refl (length bs))
-    ∙ ap (λ (l : List ℕ). bytesOf big (length bs) n ++ l) (drop-length bs)
-    ∙ append-nil (bytesOf big (length bs) n)

@@ -13,7 +13,7 @@ use Rattle.pages.specs.Table.{rows, ofKind, firstAt, covered}
 use Rattle.pages.specs.Judge.{unlabelled, strayBelow, judgedNumber, judgeOf}
 use Rattle.pages.specs.Raws.{wholesOf, pad, rawsOf}
 use Rattle.signal.specs.Signal.{getBits}
-use Rattle.signal.specs.Payload.{leNumber}
+use Rattle.payload.specs.Payload.{leNumber}
 use Rattle.signal.specs.Twos.{toSigned}
 use Rattle.messages.specs.Parts.{statusIn, parametersIn, sessionIn, controlIn}
 use Rattle.post.specs.declared.PlainLimits.{PlainLimits}

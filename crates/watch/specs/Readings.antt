@@ -12,7 +12,7 @@ use Rattle.pages.specs.Table.{rows, ofKind, firstAt, covered}
 use Rattle.pages.specs.Judge.{unlabelled, offender, strayBelow, judgedNumber, judgeOf}
 use Rattle.pages.specs.Raws.{wholesOf, pad, rawsOf}
 use Rattle.signal.specs.Signal.{getBits}
-use Rattle.signal.specs.Payload.{leNumber, beNumber}
+use Rattle.payload.specs.Payload.{leNumber, beNumber}
 use Rattle.signal.specs.Twos.{toSigned}
 use Rattle.messages.specs.declared.CpState.the-variants as cp
 use Rattle.messages.specs.declared.PpState.the-variants as pp

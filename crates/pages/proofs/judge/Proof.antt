@@ -8,9 +8,9 @@ use mathlib.Core.List.{List}
 use native.Mathlib.Omega.{arith}
 use Prim.Native.Nat.{ℕ, _*_, _^_, _<_, _≤_}
 use lib.ListN.{length, getD, drop, take}
-use Rattle.signal.specs.Payload.{numberOf, Bytes}
-use Rattle.signal.proofs.Orders.{number-bound}
-use Rattle.signal.proofs.Totals.{number-in}
+use Rattle.payload.specs.Payload.{numberOf, Bytes}
+use Rattle.payload.proofs.Orders.{number-bound}
+use Rattle.payload.proofs.Stored.{number-in}
 use Rattle.pages.specs.declared.Found.{Found}
 use Rattle.pages.specs.declared.Found.the-variants.{At, Nothing}
 use Rattle.pages.specs.declared.FoundRow.the-variants as foundrow

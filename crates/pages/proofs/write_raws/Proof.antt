@@ -9,8 +9,8 @@ use Prim.Native.Nat.{ℕ, _≤_, _<_}
 use lib.Dec.{leb}
 use lib.IntN.{ℤ}
 use lib.ListN.{length}
-use Rattle.signal.specs.Payload.{storedIn}
-use Rattle.signal.proofs.Totals.{stored-not}
+use Rattle.payload.specs.Payload.{storedIn}
+use Rattle.payload.proofs.Stored.{stored-not}
 use Rattle.pages.specs.declared.Row.{Row}
 use Rattle.pages.specs.declared.Refusal.the-variants.{NoRawNumber, ShortBuffer}
 use Rattle.pages.specs.declared.Written.{Written}

@@ -9,8 +9,8 @@ use mathlib.Core.List.{List, [], _∷_}
 use Prim.Native.Nat.{ℕ, _≤_}
 use lib.Dec.{leb}
 use lib.ListN.{length, drop, set}
-use Rattle.signal.specs.Payload.{storedIn}
-use Rattle.signal.proofs.Totals.{stored-in}
+use Rattle.payload.specs.Payload.{storedIn}
+use Rattle.payload.proofs.Stored.{stored-in}
 use Rattle.pages.specs.declared.Refusal.the-variants.{ShortBuffer}
 use Rattle.pages.specs.Table.{lengthOf, bigOf}
 use Rattle.pages.proofs.Rules.{short-length}

@@ -7,8 +7,8 @@ use native.Mathlib.Omega.{arith}
 use lib.ListN.{length, take, drop, drop-of-length-le}
 use borrow.Rule.Slice.PartMut.{mid-len, post-is}
 use borrow.Author.Needs.{needs}
-use Rattle.signal.specs.Payload.{bytesOf}
-use Rattle.signal.proofs.Totals.{stored-in}
+use Rattle.payload.specs.Payload.{bytesOf}
+use Rattle.payload.proofs.Stored.{stored-in}
 use Rattle.pages.proofs.whole.put_whole.Statement.{statement}
 use Rattle.pages.proofs.whole.put_whole.Tie as tie
 

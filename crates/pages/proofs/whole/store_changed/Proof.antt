@@ -8,9 +8,9 @@ use lib.Dec.{eqb}
 use lib.ListN.{length}
 use borrow.Author.Needs.{needs}
 use borrow.Author.Tests.{eqb-true}
-use Rattle.signal.specs.Payload.{bytesOf}
-use Rattle.signal.proofs.Totals.{stored-all}
-use Rattle.signal.proofs.WholeBytes.{edge, WholeFacts, whole-facts, whole-stored}
+use Rattle.payload.specs.Payload.{bytesOf}
+use Rattle.payload.proofs.Stored.{stored-all}
+use Rattle.payload.proofs.WholeBytes.{edge, WholeFacts, whole-facts, whole-stored}
 use Rattle.pages.specs.declared.Row.{Row}
 use Rattle.pages.proofs.Rules.{both-true}
 use Rattle.pages.proofs.whole.store_changed.Statement.{statement}

@@ -11,10 +11,10 @@ use lib.Bits.{bitAnd, and-mask}
 use lib.Pow.{shr-shr}
 use mir.Facts.{fits-mask}
 use borrow.Author.Needs.{needs}
-use Rattle.signal.specs.Payload.{leBytes}
-use Rattle.signal.proofs.Bytes.{stored-more}
-use Rattle.signal.proofs.le_store.Statement.{statement}
-use Rattle.signal.proofs.le_store.Tie as tie
+use Rattle.payload.specs.Payload.{leBytes}
+use Rattle.payload.proofs.Bytes.{stored-more}
+use Rattle.payload.proofs.le_store.Statement.{statement}
+use Rattle.payload.proofs.le_store.Tie as tie
 
 abbrev Inv-loop : tie.InvT-loop
 Inv-loop buf₀ n len rest₀ i₀ buf rest i =

@@ -9,13 +9,13 @@ use Prim.Native.Nat.{ℕ, _+_, _-_, _*_, _/_, _%_, _^_, _≤_, _<_}
 use native.Mathlib.Omega.{arith}
 use lib.ListN.{length, getD, take, drop, length-append, length-drop, List·getD-append}
 use lib.Seq.{ext-getD, length-take-le, getD-take, getD-drop, getD-append-add}
 use Rattle.signal.specs.Signal.{getBits, putBits}
-use Rattle.signal.specs.Payload.{numberOf, bytesOf, Bytes}
-use Rattle.signal.specs.Order.{spot, lowest, Inside}
+use Rattle.payload.specs.Payload.{numberOf, bytesOf, Bytes}
+use Rattle.payload.specs.Order.{spot, lowest, Inside}
 use Rattle.signal.proofs.Laws.{get-get, get-put, get-put-apart, Apart}
 use Rattle.signal.proofs.Complement.{half-of}
-use Rattle.signal.proofs.Orders.{length-of}
-use Rattle.signal.proofs.Words.{byte-of, byte-in}
+use Rattle.payload.proofs.Orders.{length-of}
+use Rattle.payload.proofs.Words.{byte-of, byte-in}
 
 -- the bit of a byte at which a signal of whole bytes starts: the lowest, or where byte 0 is highest the highest
 abbrev pub edge : Bool → ℕ

@@ -9,11 +9,11 @@ use native.Mathlib.Omega.{arith}
 use lib.Dec.{leb, ltb}
 use lib.ListN.{length}
 use borrow.Author.Tests.{ltb-true, leb-true}
-use Rattle.signal.specs.Payload.{numberOf, bytesOf, Bytes}
-use Rattle.signal.specs.Order.{place, lowest, Inside, inside}
+use Rattle.payload.specs.Payload.{numberOf, bytesOf, Bytes}
+use Rattle.payload.specs.Order.{place, lowest, Inside, inside}
 use Rattle.signal.proofs.RawLaws.{both}
-use Rattle.signal.proofs.Bytes.{number-lt, length-bytes, bytes-are, number-bytes, bytes-number}
-use Rattle.signal.proofs.BigBytes.{be-lt, length-be, be-are, be-number-bytes, be-bytes-number}
+use Rattle.payload.proofs.Bytes.{number-lt, length-bytes, bytes-are, number-bytes, bytes-number}
+use Rattle.payload.proofs.BigBytes.{be-lt, length-be, be-are, be-number-bytes, be-bytes-number}
 
 -- ---- number and bytes
 

@@ -9,10 +9,10 @@ use lib.ListN.{length, take, drop, set, length-set, take-append-drop}
 use lib.Bits.{bitAnd, and-mask}
 use lib.Pow.{shr-shr}
 use mir.Facts.{fits-mask}
-use Rattle.signal.specs.Payload.{beBytes}
-use Rattle.signal.proofs.BigBytes.{stored-before}
-use Rattle.signal.proofs.be_store.Statement.{statement}
-use Rattle.signal.proofs.be_store.Tie as tie
+use Rattle.payload.specs.Payload.{beBytes}
+use Rattle.payload.proofs.BigBytes.{stored-before}
+use Rattle.payload.proofs.be_store.Statement.{statement}
+use Rattle.payload.proofs.be_store.Tie as tie
 
 abbrev Inv-loop : tie.InvT-loop
 Inv-loop buf₀ n len rest₀ i₀ buf rest i =

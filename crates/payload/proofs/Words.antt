@@ -12,12 +12,12 @@ use lib.Arith.{digits-div, digits-mod}
 use lib.ListN.{length, getD}
 use lib.Pow.{low, high}
 use borrow.Author.Tests.{eq-eqb, ne-eqb}
 use Rattle.signal.specs.Signal.{getBits}
-use Rattle.signal.specs.Payload.{leNumber, leBytes, beNumber, beBytes, numberOf, bytesOf, bitAt, Bytes}
-use Rattle.signal.specs.Order.{spot, place, lowest, Inside, next, walk, bitOf}
+use Rattle.payload.specs.Payload.{leNumber, leBytes, beNumber, beBytes, numberOf, bytesOf, bitAt, Bytes}
+use Rattle.payload.specs.Order.{spot, place, lowest, Inside, next, walk, bitOf}
 use Rattle.signal.proofs.Laws.{get-of-mod, get-of-div, get-get}
 use Rattle.signal.proofs.Complement.{half-of}
-use Rattle.signal.proofs.BigBytes.{be-lt}
+use Rattle.payload.proofs.BigBytes.{be-lt}
 
 -- ---- bytes
 

@@ -4,10 +4,10 @@ use mathlib.Core.Bool.{Bool}
 use mathlib.Core.List.{_++_}
 use lib.ListN.{drop}
 use borrow.Author.Needs.{needs}
-use Rattle.signal.specs.Payload.{bytesOf}
-use Rattle.signal.proofs.Totals.{stored-in, stored-not}
-use Rattle.signal.proofs.store.Statement.{statement}
-use Rattle.signal.proofs.store.Tie as tie
+use Rattle.payload.specs.Payload.{bytesOf}
+use Rattle.payload.proofs.Stored.{stored-in, stored-not}
+use Rattle.payload.proofs.store.Statement.{statement}
+use Rattle.payload.proofs.store.Tie as tie
 
 returns : tie.Need-returns
 returns c =

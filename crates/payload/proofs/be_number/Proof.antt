@@ -8,9 +8,9 @@ use native.Mathlib.Numerals.{add-one}
 use lib.ListN.{length, getD, take, length-take}
 use lib.Seq.{getD-take}
 use lib.Bits.{bitOr}
-use Rattle.signal.proofs.BigBytes.{Taken, taken-none, taken-more, taken-all}
-use Rattle.signal.proofs.be_number.Statement.{statement}
-use Rattle.signal.proofs.be_number.Tie as tie
+use Rattle.payload.proofs.BigBytes.{Taken, taken-none, taken-more, taken-all}
+use Rattle.payload.proofs.be_number.Statement.{statement}
+use Rattle.payload.proofs.be_number.Tie as tie
 
 abbrev Inv-loop : tie.InvT-loop
 Inv-loop bytes end n₀ i₀ n i = (i ≤ end) × (end ≡ length (take 8 bytes)) × Taken (take 8 bytes) i n

@@ -10,10 +10,10 @@ use lib.ListN.{length, getD, take, drop, set, length-drop}
 use lib.Seq.{drop-cons, drop-length, take-suc, set-at, append-snoc, length-take-le}
 use lib.Bits.{bitOr, or-shifted}
 use lib.Pow.{pow-pos, shl-exact, mod-pow-add, low, high}
 use Rattle.signal.specs.Signal.{getBits}
-use Rattle.signal.specs.Payload.{beNumber, beBytes, Bytes}
+use Rattle.payload.specs.Payload.{beNumber, beBytes, Bytes}
 use Rattle.signal.proofs.Laws.{get-of-mod}
-use Rattle.signal.proofs.Bytes.{pow8}
+use Rattle.payload.proofs.Bytes.{pow8}
 
 pub be-lt : (bs : List ℕ) → Bytes bs → beNumber bs < 2 ^ (8 * length bs)
 unfolding beNumber

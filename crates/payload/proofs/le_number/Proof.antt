@@ -7,10 +7,10 @@ use native.Mathlib.Omega.{arith}
 use lib.ListN.{length, getD, take, drop, length-take}
 use lib.Seq.{getD-take}
 use lib.Bits.{bitOr}
-use Rattle.signal.specs.Payload.{leNumber}
-use Rattle.signal.proofs.Bytes.{Gathered, gathered-none, gathered-more}
-use Rattle.signal.proofs.le_number.Statement.{statement}
-use Rattle.signal.proofs.le_number.Tie as tie
+use Rattle.payload.specs.Payload.{leNumber}
+use Rattle.payload.proofs.Bytes.{Gathered, gathered-none, gathered-more}
+use Rattle.payload.proofs.le_number.Statement.{statement}
+use Rattle.payload.proofs.le_number.Tie as tie
 
 abbrev Inv-loop : tie.InvT-loop
 Inv-loop bytes n₀ i₀ n i = (i ≤ length (take 8 bytes)) × Gathered (take 8 bytes) i n

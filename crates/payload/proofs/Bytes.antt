@@ -10,7 +10,7 @@ use lib.ListN.{length, getD, drop, set}
 use lib.Seq.{drop-cons, drop-length, set-at, append-snoc}
 use lib.Bits.{bitOr, or-shifted}
 use lib.Pow.{pow-pos, pow-add, shr-lt, shr-shr, shl-exact}
-use Rattle.signal.specs.Payload.{leNumber, leBytes, Bytes}
+use Rattle.payload.specs.Payload.{leNumber, leBytes, Bytes}
 
 pub pow8 : (k : ℕ) → 2 ^ (8 * suc k) ≡ 2 ^ (8 * k) * 256
 pow8 k = ap (λ (x : ℕ). 2 ^ x) (mul-suc 8 k) ∙ pow-add 2 (8 * k) 8

@@ -3,9 +3,9 @@ use mathlib.Core.Path.{sym, ap, _∙_}
 use mathlib.Core.Bool.{Bool}
 use lib.ListN.{take}
 use borrow.Author.Needs.{needs}
-use Rattle.signal.specs.Payload.{numberOf}
-use Rattle.signal.proofs.number.Statement.{statement}
-use Rattle.signal.proofs.number.Tie as tie
+use Rattle.payload.specs.Payload.{numberOf}
+use Rattle.payload.proofs.number.Statement.{statement}
+use Rattle.payload.proofs.number.Tie as tie
 
 be-number-requires : tie.Need-be-number-requires
 be-number-requires c κs = search needs

@@ -1,0 +1,6 @@
+pub mod Bytes
+pub mod BigBytes
+pub mod Orders
+pub mod Words
+pub mod Stored
+pub mod WholeBytes
