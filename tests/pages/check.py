@@ -1,5 +1,5 @@
 #!/usr/bin/env python3
-"""Holds the tables of the crates to the maker's documents: every row of pages (the code's and the definitions'), and every label of messages.
+"""Holds the tables of the crates to the maker's documents: every message and row of page_rows (the code's and the definitions'), and every label of messages.
 
 000.txt and 004.txt were extracted from documents 000 and 004 by extract.py. A table typed wrongly in src/ and specs/ alike is proved equal and is wrong: here
 it fails.
@@ -10,17 +10,17 @@ from collections import namedtuple
 from pathlib import Path
 
 ROOT = Path(__file__).resolve().parents[2]
-# a document: its messages in the order of their kinds (01, "Frames and signals"; 02, Req 04), the form of its identifiers (ours), and the helper
-# that its rows in specs/ stand behind
-Document = namedtuple('Document', 'text, messages, extended, code, specs, helper')
+# a document: its messages in the order of their kinds (01, "Frames and signals"; 02, Req 04), the form of its identifiers (ours), and where its rows stand
+Document = namedtuple('Document', 'text, messages, extended, code, specs')
 DOCUMENTS = (
     Document('000.txt', ['Power_Modules_Status', 'DC_Power_Parameters', 'Advantics_Controller_Status', 'New_Charge_Session', 'Charge_Status_Change',
                          'DC_Power_Control', 'Charge_Session_Finished', 'Emergency_Stop', 'EV_ID_CCS_Part2_DIN'],
-             True, 'src/charger.rt', 'specs/Charger.antt', 'charger k i b s w g l = row k i true b false s w g l'),
+             True, 'src/charger.rt', 'specs/Charger.antt'),
     Document('004.txt', ['ChargeControl1', 'ChargeState1', 'PT1000State'],
-             False, 'src/safety.rt', 'specs/Safety.antt', 'safety k i s w g l = row k i false 8 true s w g l'),
+             False, 'src/safety.rt', 'specs/Safety.antt'),
 )
 KINDS = [m for d in DOCUMENTS for m in d.messages]
+ROWS = ROOT / 'crates/page_rows'
 # label type, and the names of its number and label functions
 LABELS = {
     ('Power_Modules_Status', 'System_Enable'): 'enable',
@@ -74,7 +74,7 @@ def lowest(big, size, start, width):
 
 
 def paper_signals(document):
-    """Each signal of the document's messages that are built: its names, its row, its labels, and the document's words for its type."""
+    """Each signal of the document's messages that are built: its names, its message's and its own row, its labels, and the document's words for its type."""
     signals = []
     for line in (Path(__file__).parent / document.text).read_text().splitlines():
         message, ident, size, signal, start, width, words, _, _, labels = line.split(' ')
@@ -83,65 +83,87 @@ def paper_signals(document):
         words = words.split(',')
         pairs = [] if labels == '-' else [(n, int(v)) for n, v in (p.rsplit('=', 1) for p in labels.split(';')) if n not in SPECIAL]
         big, size, start, width = 'Big_Endian' in words, int(size), int(start), int(width)
-        row = (KINDS.index(message), int(ident, 16), document.extended, size, big, start, width, lowest(big, size, start, width), 'Signed' in words,
-               sum(1 << v for _, v in pairs))
-        signals.append((message, signal, row, sorted(pairs, key=lambda p: p[1]), words))
-    return sorted(signals, key=lambda s: s[2][0])
+        page = (int(ident, 16), document.extended, size, big)
+        row = (KINDS.index(message), start, width, lowest(big, size, start, width), 'Signed' in words, sum(1 << v for _, v in pairs))
+        signals.append((message, signal, page, row, sorted(pairs, key=lambda p: p[1]), words))
+    return sorted(signals, key=lambda s: s[3][0])
 
 
 def number(text):
     return {'true': True, 'false': False}[text] if text in ('true', 'false') else int(text, 0)
 
 
-FIELDS = ['kind', 'id', 'extended', 'bytes', 'big', 'start', 'width', 'low', 'signed', 'labels']
+def numbers(text):
+    return tuple(number(word) for word in re.split(r'[ ,]+', text.strip()))
 
 
-def code_rows(text):
-    for body in re.findall(r'\bRow \{([^}]*)\}', text):
-        fields = dict(re.findall(r'(\w+):\s*([\w]+)', body))
-        yield tuple(number(fields[f]) for f in FIELDS)
+def alike(name, words):
+    """A constant's name, or the word behind a row, is the document's."""
+    return name.replace('_', '').upper() == words.replace('_', '').upper()
 
 
-def code_names(text):
-    """The names of the rows' constants, their order in ROWS, and the arms of row_at, key and name."""
-    names = re.findall(r'^const (\w+): Row = Row', text, re.M)
-    listed = re.search(r'const ROWS: \[Row; \d+\] = \[(.*?)\];', text, re.S).group(1)
-    arms = re.search(r'fn row_at.*?match i \{(.*?)\}', text, re.S).group(1)
-    return names, re.findall(r'\w+', listed), re.findall(r'(\w+) => (\w+)', arms)
+def constants(text, type_name):
+    """Each constant of the type: its name and what it holds, in order."""
+    return [(name, numbers(held)) for name, held in re.findall(rf'^(?:pub )?const (\w+): {type_name} = {type_name}\(([^)]*)\);$', text, re.M)]
 
 
-def spec_rows(text, helper):
-    """The rows behind the document's helper, each argument in the place that the helper puts it; the lowest bit is computed there, and so here."""
-    left, right = (side.split() for side in helper.split(' = row '))
-    if text.count(f'\n{helper}\n') != 1:
-        fault(f'{left[0]}: the helper is not "{helper}"')
-    for line in re.findall(rf'^\s*(?:∷ )?{left[0]}((?: \w+)+)\s*$', text, re.M):
-        given = dict(zip(left[1:], line.split()))
-        kind, ident, extended, size, big, start, width, signed, labels = (number(given.get(word, word)) for word in right)
-        yield kind, ident, extended, size, big, start, width, lowest(big, size, start, width), signed, labels
+def arms(text, function):
+    """The arms of a function's one match, key and name."""
+    body = re.search(rf'fn {function}\b.*?match \w+ \{{(.*?)\n    \}}', text, re.S).group(1)
+    return re.findall(r'^\s*(\w+) => (\w+),$', body, re.M)
 
 
-labels = (ROOT / 'crates/messages/specs/Labels.antt').read_text()
+def held(place, have, wanted):
+    if len(have) != len(wanted):
+        fault(f'{place}: {len(have)} entries, the documents have {len(wanted)}')
+    for k, (h, w) in enumerate(zip(have, wanted)):
+        if h != w:
+            fault(f'{place}: entry {k} is {h}, the document says {w}')
+
+
+papers = [paper_signals(document) for document in DOCUMENTS]
+
+# ---- the messages: identifier, form, bytes, byte order, place of the first row
+pages = {}
+for k, (message, _, page, *_) in enumerate(s for signals in papers for s in signals):
+    if pages.setdefault(message, (page, k))[0] != page:
+        fault(f'{message}: its signals disagree on the message')
+wanted = [(*pages[m][0], pages[m][1]) for m in KINDS]
+code = (ROWS / 'src/messages.rt').read_text()
+specs = (ROWS / 'specs/Messages.antt').read_text()
+listed = constants(code, 'Message')[:-1]
+held('src/messages.rt', [page for _, page in listed], wanted)
+array = re.findall(r'\w+', re.search(r'const MESSAGES: \[Message; \d+\] = \[(.*?)\];', code, re.S).group(1))
+names = [name for name, _ in listed]
+if names != array or arms(code, 'message_at') != [(str(k), name) for k, name in enumerate(names)] + [('_', 'NO_MESSAGE')]:
+    fault('src/messages.rt: the constants, MESSAGES and message_at do not list the same names in the same order')
+said = re.findall(r'^\s*(?:∷ )?\(([^)]*)\)  -- (\w+)$', specs, re.M)
+held('specs/Messages.antt', [numbers(page) for page, _ in said], wanted)
+for place, have in (('src/messages.rt', names), ('specs/Messages.antt', [name for _, name in said])):
+    for name, message in zip(have, KINDS):
+        if not alike(name, message):
+            fault(f'{place}: {name} stands where the document has {message}')
+
+# ---- the rows, and the labels
+labels = (ROOT / 'crates/message_types/specs/Labels.antt').read_text()
 rows = seen = 0
-for document in DOCUMENTS:
-    signals = paper_signals(document)
-    code = (ROOT / 'crates/pages' / document.code).read_text()
-    specs = (ROOT / 'crates/pages' / document.specs).read_text()
-    for name, have in ((document.code, list(code_rows(code))), (document.specs, list(spec_rows(specs, document.helper)))):
-        if len(have) != len(signals):
-            fault(f'{name}: {len(have)} rows, the document has {len(signals)}')
-        for k, (h, s) in enumerate(zip(have, signals)):
-            if h != s[2]:
-                fault(f'{name}: row {k} is {h}, the document says {s[2]}')
+for document, signals in zip(DOCUMENTS, papers):
+    code = (ROWS / document.code).read_text()
+    specs = (ROWS / document.specs).read_text()
+    listed = constants(code, 'Line')
+    held(document.code, [row for _, row in listed], [row for _, _, _, row, *_ in signals])
+    names = [name for name, _ in listed]
+    if arms(code, 'line_at') != [(str(rows + k), name) for k, name in enumerate(names)] + [('_', 'NO_LINE')]:
+        fault(f'{document.code}: the constants and line_at do not list the same names in the same order')
+    # in specs/ the lowest bit is computed
+    said = re.findall(r'^\s*(?:∷ )?line((?: \w+)+)  -- (\w+)$', specs, re.M)
+    held(document.specs, [numbers(row) for row, _ in said], [row[:3] + row[4:] for _, _, _, row, *_ in signals])
+    for place, have in ((document.code, names), (document.specs, [name for _, name in said])):
+        for name, (message, signal, *_) in zip(have, signals):
+            if not alike(name, signal) and not name.endswith('_' + signal.upper()):
+                fault(f'{place}: {name} stands where the document has {message}.{signal}')
 
-    names, listed, arms = code_names(code)
-    if names != listed or arms != [(str(k), name) for k, name in enumerate(names)] + [('_', 'NO_ROW')]:
-        fault(f'{document.code}: the constants, ROWS and row_at do not list the same names in the same order')
-    for name, (message, signal, *_) in zip(names, signals):
-        if name.replace('_', '') != signal.replace('_', '').upper() and not name.endswith('_' + signal.upper()):
-            fault(f'{document.code}: {name} stands where the document has {message}.{signal}')
-
-    for message, signal, _, pairs, words in signals:
+    for message, signal, _, _, pairs, words in signals:
         # 004 has no word for a label set
         if document.text == '000.txt' and ('Label_set' in words) != bool(pairs):
             fault(f'{message}.{signal}: {words} with {len(pairs)} labels')
@@ -154,9 +176,9 @@ for document in DOCUMENTS:
             fault(f'{message}.{signal}: the labels are {have}, the document says {wanted}')
         seen += len(have)
     rows += len(signals)
-if (rows, seen) != (61, 62):
-    fault(f'{rows} signals and {seen} labels were compared, not 61 and 62')
+if (len(KINDS), rows, seen) != (12, 61, 62):
+    fault(f'{len(KINDS)} messages, {rows} signals and {seen} labels were compared, not 12, 61 and 62')
 
 if faults:
     sys.exit(f'pages: {len(faults)} faults')
-print(f'pages: {rows} signals and {seen} labels are those of the documents')
+print(f'pages: {len(KINDS)} messages, {rows} signals and {seen} labels are those of the documents')
