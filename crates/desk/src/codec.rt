@@ -9,10 +9,10 @@ use messages::Reading;
 use notation::answer;
 use notation::fields;
 use notation::fields::Head;
-use pages::Judged;
-use pages::Refusal;
-use pages::Written;
+use page_read::Judged;
+use page_write::Written;
 use post::KINDS;
+use refusals::Refusal;
 use text::Bytes;
 use text::Field;
 use text::Pen;
@@ -99,7 +99,7 @@ pub fn change(s: &[u8], at: usize, room: &mut [u8], out: &mut [u8], pen: Pen) ->
     if length > room.len() {
         return answer::unknown(out, pen);
     }
-    let changed = pages::change(id, extended, &mut room[0..length], start, raw);
+    let changed = page_change::change(id, extended, &mut room[0..length], start, raw);
     put_changed(out, pen, changed, &room[0..length])
 }
 

@@ -9,7 +9,7 @@ use notation::answer;
 use notation::ending;
 use notation::fields;
 use notation::fields::Head;
-use pages::Refusal;
+use refusals::Refusal;
 use text::Bytes;
 use text::Field;
 use text::Pen;

@@ -101,7 +101,7 @@ fn put_form(out: &mut [u8], listed: Listed, r: Record, extended: bool) -> Listed
     while k < KINDS {
         let latest = r.latest[k];
         let d = latest.message;
-        let is_in = pages::is_extended(k) == extended;
+        let is_in = page_rows::is_extended(k) == extended;
         l = put_next(out, l, is_in, d);
         k += 1;
     }

@@ -5,10 +5,10 @@ use notation::answer;
 use notation::ending;
 use notation::setup;
 use notation::setup::Asked;
-use pages::Refusal;
 use playing::Played;
 use playing::Replay;
 use post::PlainLimits;
+use refusals::Refusal;
 use text::Bytes;
 use text::Pen;
 

@@ -3,8 +3,8 @@ use Prim.Native.Nat.{ℕ}
 use native.Mathlib.Omega.{arith}
 use mathlib.Core.Path.{_≡_, refl, sym, ap, _∙_}
 use mathlib.Core.Bool.{Bool, true, false, cond, _&&_}
-use Rattle.pages.specs.declared.Judged.{Judged}
-use Rattle.pages.specs.declared.Refusal.the-variants.{ChannelFree, Earlier}
+use Rattle.page_read.specs.declared.Judged.{Judged}
+use Rattle.refusals.specs.declared.Refusal.the-variants.{ChannelFree, Earlier}
 use Rattle.post.specs.declared.Post.{Post}
 use Rattle.post.specs.Step.{isEarly}
 use Rattle.watch.specs.declared.Arrival.{Arrival}

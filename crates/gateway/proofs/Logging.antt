@@ -7,7 +7,7 @@ use Prim.Native.Nat.{ℕ, _≤_, _<_}
 use native.Mathlib.Omega.{arith}
 use lib.Dec.{leb}
 use lib.ListN.{length, drop}
-use Rattle.pages.specs.declared.Refusal.the-variants.{ShortBuffer}
+use Rattle.refusals.specs.declared.Refusal.the-variants.{ShortBuffer}
 use Rattle.log.specs.declared.Found.{Found}
 use Rattle.log.specs.declared.Found.the-variants as found
 use Rattle.log.specs.declared.Logged.{Logged}

@@ -11,14 +11,14 @@ use lib.Seq.{drop-at}
 use borrow.Author.Tests.{leb-true}
 use Rattle.signal.specs.Payload.{Bytes, bytesOf}
 use Rattle.signal.proofs.Orders.{length-of}
-use Rattle.pages.specs.declared.Judged.the-variants.{Frame}
-use Rattle.pages.specs.declared.Refusal.the-variants.{UnknownIdentifier, ShortBuffer}
-use Rattle.pages.specs.Judge.{judgeOf}
-use Rattle.pages.specs.Charger.{chargerRows}
-use Rattle.pages.specs.Safety.{safetyRows}
-use Rattle.pages.specs.Table.{rows, ofKind, lengthOf, bigOf}
-use Rattle.pages.proofs.Rules.{short-length}
-use Rattle.pages.proofs.Trips.{accepted, raws-back}
+use Rattle.page_read.specs.declared.Judged.the-variants.{Frame}
+use Rattle.refusals.specs.declared.Refusal.the-variants.{UnknownIdentifier, ShortBuffer}
+use Rattle.page_read.specs.Judge.{judgeOf}
+use Rattle.page_rows.specs.Charger.{chargerRows}
+use Rattle.page_rows.specs.Safety.{safetyRows}
+use Rattle.page_rows.specs.Table.{rows, ofKind, lengthOf, bigOf}
+use Rattle.page_rows.proofs.Rules.{short-length}
+use Rattle.page_write.proofs.Trips.{accepted, raws-back}
 use Rattle.post.specs.declared.Dated.the-variants as dated
 use Rattle.post.specs.declared.Latest.{Latest}
 use Rattle.post.specs.declared.LastTime.{LastTime}

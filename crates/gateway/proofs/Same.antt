@@ -8,7 +8,7 @@ use lib.Dec.{ltb}
 use lib.ListN.{length, getD}
 use lib.Seq.{set-getD}
 use borrow.Author.Tests.{lt-leb, le-leb, ltb-true, ltb-false}
-use Rattle.pages.specs.Judge.{judgeOf}
+use Rattle.page_read.specs.Judge.{judgeOf}
 use Rattle.post.specs.declared.Post.{Post}
 use Rattle.watch.specs.declared.Table.{Table}
 use Rattle.watch.specs.declared.Arrival.{Arrival}

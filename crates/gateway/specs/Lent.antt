@@ -2,7 +2,7 @@
 use Prim.Native.Nat.{ℕ}
 use mathlib.Core.List.{List}
 use mathlib.Core.Bool.{Bool}
-use Rattle.pages.specs.Judge.{judgeOf}
+use Rattle.page_read.specs.Judge.{judgeOf}
 use Rattle.post.specs.declared.PlainLimits.{PlainLimits}
 use Rattle.watch.specs.declared.Table.{Table}
 use Rattle.watch.specs.declared.Fed.{Fed}

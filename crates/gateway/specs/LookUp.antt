@@ -5,8 +5,8 @@ use mathlib.Core.List.{List, [], _∷_, _++_}
 use lib.Dec.{ltb, leb}
 use lib.ListN.{length, getD, drop}
 use Rattle.signal.specs.Payload.{bytesOf}
-use Rattle.pages.specs.declared.Refusal.the-variants.{UnknownIdentifier, ShortBuffer}
-use Rattle.pages.specs.Table.{lengthOf, bigOf}
+use Rattle.refusals.specs.declared.Refusal.the-variants.{UnknownIdentifier, ShortBuffer}
+use Rattle.page_rows.specs.Table.{lengthOf, bigOf}
 use Rattle.messages.specs.Labels.{protocolNumber, plugNumber}
 use Rattle.post.specs.declared.LastTime.{LastTime}
 use Rattle.post.specs.declared.LastTime.the-variants as last

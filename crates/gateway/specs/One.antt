@@ -4,8 +4,8 @@ use mathlib.Core.List.{List}
 use mathlib.Core.Bool.{Bool, cond, _&&_}
 use lib.Dec.{ltb}
 use lib.ListN.{getD}
-use Rattle.pages.specs.declared.Refusal.the-variants.{ChannelFree}
-use Rattle.pages.specs.Judge.{judgeOf}
+use Rattle.refusals.specs.declared.Refusal.the-variants.{ChannelFree}
+use Rattle.page_read.specs.Judge.{judgeOf}
 use Rattle.post.specs.declared.Post.{Post}
 use Rattle.watch.specs.declared.Table.{Table}
 use Rattle.watch.specs.declared.Heard.{Heard}

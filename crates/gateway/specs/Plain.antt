@@ -5,14 +5,15 @@ use mathlib.Core.List.{List, _++_}
 use lib.Dec.{leb}
 use lib.IntN.{ℤ}
 use lib.ListN.{length, take, drop}
-use Rattle.pages.specs.declared.Refusal.the-variants.{NoRawNumber, ShortBuffer}
-use Rattle.pages.specs.declared.Judged.{Judged}
-use Rattle.pages.specs.declared.Judged.the-variants as judged
-use Rattle.pages.specs.declared.Written.{Written}
-use Rattle.pages.specs.declared.Written.the-variants as written
-use Rattle.pages.specs.Judge.{judgeOf}
-use Rattle.pages.specs.Raws.{signalCount, rawsOf, writeRawsOf, bufferAfter}
-use Rattle.pages.specs.Change.{changeOf}
+use Rattle.refusals.specs.declared.Refusal.the-variants.{NoRawNumber, ShortBuffer}
+use Rattle.page_read.specs.declared.Judged.{Judged}
+use Rattle.page_read.specs.declared.Judged.the-variants as judged
+use Rattle.page_write.specs.declared.Written.{Written}
+use Rattle.page_write.specs.declared.Written.the-variants as written
+use Rattle.page_read.specs.Judge.{judgeOf}
+use Rattle.page_rows.specs.Table.{signalCount}
+use Rattle.page_write.specs.Raws.{rawsOf, writeRawsOf, bufferAfter}
+use Rattle.page_change.specs.Change.{changeOf}
 use Rattle.gateway.specs.Words.{refusalWord}
 
 -- ---- reading: the kind, or the refusal; 8 where the lent numbers are fewer than a message's signals can be. Kinds and lengths are below 65,536

@@ -15,12 +15,12 @@ pub mod look; // look.rt: a post's numbers, and the latest frame of a kind
 pub mod night; // night.rt: records of the night log, written and read
 pub mod screen; // screen.rt: probes and a duty for the service screen
 
-use pages::Judged;
-use pages::Refusal;
+use page_read::Judged;
 use post::KINDS;
 use post::PlainLimits;
 use post::Post;
 use post::Slot;
+use refusals::Refusal;
 use watch::Answer;
 use watch::Setting;
 use watch::Table;
@@ -40,7 +40,7 @@ pub struct Stepped {
 pub fn refusal_word(w: Refusal) -> u32
     ensures { λ r. ⌜ r ≡ refusalWord w ⌝ }
 {
-    65536 + pages::refusal_number(w) + 256 * pages::refusal_start(w)
+    65536 + refusals::refusal_number(w) + 256 * refusals::refusal_start(w)
 }
 
 pub fn answer_word(a: Answer) -> u32
@@ -154,7 +154,7 @@ pub fn frame_on(
     let mut q = p;
     let mut answer = refused(p, channel, time);
     if answer == 0 {
-        let j = pages::judge(id, extended, payload);
+        let j = page_read::judge(id, extended, payload);
         match j {
             Judged::Refused(w) => {
                 answer = refusal_word(w);

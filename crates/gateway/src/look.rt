@@ -10,12 +10,12 @@ ghost use Rattle.gateway.specs.LookUp.{hasRoom, keptWord, timeLeft, byte
 use crate::refusal_word;
 use messages::labels::plug_number;
 use messages::labels::protocol_number;
-use pages::Refusal;
 use post::KINDS;
 use post::Post;
 use post::Slot;
 use post::kept::sensor_number;
 use post::kept::sensor_of;
+use refusals::Refusal;
 use watch::Table;
 
 // ---- a post's numbers
@@ -100,12 +100,12 @@ fn hand_out(l: Slot, kind: usize, time: &mut [u32], buf: &mut [u8]) -> u32
     if time.len() < 1 {
         return refusal_word(Refusal::ShortBuffer);
     }
-    let len = pages::length_of(kind);
+    let len = page_rows::length_of(kind);
     if buf.len() < len {
         return refusal_word(Refusal::ShortBuffer);
     }
     time[0] = l.time;
-    signal::store(pages::is_big(kind), buf, l.raw, len);
+    signal::store(page_rows::is_big(kind), buf, l.raw, len);
     len as u32
 }
 

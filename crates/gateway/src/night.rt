@@ -12,7 +12,7 @@ use crate::refusal_word;
 use log::Entry;
 use log::Found;
 use log::Logged;
-use pages::Refusal;
+use refusals::Refusal;
 
 // ---- writing
 

@@ -3,15 +3,15 @@ ghost use mathlib.Core.Path.{_≡_};
 ghost use mathlib.Core.List.{_++_};
 ghost use Prim.Native.Nat.{_≤_};
 ghost use lib.ListN.{length, take, drop};
-ghost use Rattle.pages.specs.Raws.{signalCount};
-ghost use Rattle.pages.specs.Change.{changeOf, bytesAfter};
+ghost use Rattle.page_rows.specs.Table.{signalCount};
+ghost use Rattle.page_change.specs.Change.{changeOf, bytesAfter};
 ghost use Rattle.gateway.specs.Plain.{readWord, rawsAfter, writeWord, bufferLeft, changeWord};
 use crate::refusal_word;
-use pages::Judged;
-use pages::Refusal;
-use pages::Written;
+use page_read::Judged;
+use page_write::Written;
+use refusals::Refusal;
 
-// The places that a message's raw numbers have, as in `pages::raws_of`.
+// The places that a message's raw numbers have, as in `page_write::raws_of`.
 const SIGNALS: usize = 16;
 
 fn store_raws(raws: &mut [i64], zs: [i64; SIGNALS])
@@ -44,13 +44,13 @@ pub extern "C" fn rokemaipu_read(id: u32, extended: bool, payload: &[u8], raws: 
     ensures { λ r. ⌜ (r ≡ readWord id extended (now (payload .entry)) (now (raws .entry)))
         × (now (raws .exit) ≡ rawsAfter id extended (now (payload .entry)) (now (raws .entry))) ⌝ }
 {
-    let j = pages::judge(id, extended, payload);
+    let j = page_read::judge(id, extended, payload);
     match j {
         Judged::Frame(kind, n) => {
             if raws.len() < SIGNALS {
                 return refusal_word(Refusal::ShortBuffer);
             }
-            store_raws(raws, pages::raws_of(kind, n));
+            store_raws(raws, page_write::raws_of(kind, n));
             (kind % 65536) as u32
         }
         Judged::Refused(w) => refusal_word(w),
@@ -67,7 +67,7 @@ pub extern "C" fn rokemaipu_write(kind: u32, raws: &[i64], buf: &mut [u8]) -> u3
         return refusal_word(Refusal::NoRawNumber);
     }
     let zs = load_raws(raws);
-    let w = pages::write_raws(kind as usize, zs, buf);
+    let w = page_write::write_raws(kind as usize, zs, buf);
     match w {
         Written::Wrote(_, len) => (len % 65536) as u32,
         Written::Refused(r) => refusal_word(r),
@@ -86,7 +86,7 @@ pub extern "C" fn rokemaipu_change(
     ensures { λ r. ⌜ (r ≡ changeWord id extended (now (payload .entry)) start raw)
         × (now (payload .exit) ≡ bytesAfter (now (payload .entry)) (changeOf id extended (now (payload .entry)) start raw)) ⌝ }
 {
-    let j = pages::change(id, extended, payload, start, raw);
+    let j = page_change::change(id, extended, payload, start, raw);
     match j {
         Judged::Frame(_, _) => 0,
         Judged::Refused(w) => refusal_word(w),

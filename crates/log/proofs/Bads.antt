@@ -9,8 +9,8 @@ use lib.ListN.{length, drop, length-drop}
 use lib.Seq.{drop-drop, getD-drop}
 use lib.Dec.{ltb, leb, eqb}
 use borrow.Author.Tests.{ltb-true, ltb-false, lt-ltb, le-ltb, leb-true, leb-false, le-leb, lt-leb, eqb-true, eqb-false, eq-eqb, ne-eqb}
-use Rattle.pages.specs.declared.Refusal.{Refusal}
-use Rattle.pages.specs.declared.Refusal.the-variants.{IllNumber, LogChannel, LogLength, LogTick}
+use Rattle.refusals.specs.declared.Refusal.{Refusal}
+use Rattle.refusals.specs.declared.Refusal.the-variants.{IllNumber, LogChannel, LogLength, LogTick}
 use Rattle.log.specs.declared.Num.{Num}
 use Rattle.log.specs.declared.Num.the-variants as num
 use Rattle.log.specs.declared.Taken.{Taken}

@@ -6,7 +6,7 @@ use mathlib.Core.Logic.{inl, inr}
 use Prim.Native.Nat.{ℕ}
 use native.Mathlib.Omega.{arith}
 use lib.ListN.{take}
-use Rattle.pages.specs.declared.Refusal.the-variants.{LogChannel}
+use Rattle.refusals.specs.declared.Refusal.the-variants.{LogChannel}
 use Rattle.log.specs.declared.Taken.the-variants.{Bad}
 use Rattle.log.specs.declared.Found.the-variants as found
 use Rattle.log.specs.Number.{groups, readGroups}

@@ -9,7 +9,7 @@ use lib.ListN.{length, take, drop, length-append, length-drop}
 use lib.Seq.{drop-append-seam, take-append-seam, take-append-le, take-append-add, drop-drop, length-take-le}
 use lib.Dec.{ltb, leb, eqb}
 use borrow.Author.Tests.{ltb-true, ltb-false, lt-ltb, le-ltb, lt-leb, eq-eqb, ne-eqb}
-use Rattle.pages.specs.declared.Refusal.the-variants.{LogChannel}
+use Rattle.refusals.specs.declared.Refusal.the-variants.{LogChannel}
 use Rattle.log.specs.declared.Num.{Num}
 use Rattle.log.specs.declared.Num.the-variants as num
 use Rattle.log.specs.declared.Entry.{Entry}

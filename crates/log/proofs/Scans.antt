@@ -7,7 +7,7 @@ use native.Mathlib.Omega.{arith}
 use lib.ListN.{length}
 use lib.Dec.{leb}
 use borrow.Author.Tests.{leb-true, leb-false}
-use Rattle.pages.specs.declared.Refusal.{Refusal}
+use Rattle.refusals.specs.declared.Refusal.{Refusal}
 use Rattle.log.specs.declared.Entry.{Entry}
 use Rattle.log.specs.declared.Taken.{Taken}
 use Rattle.log.specs.declared.Taken.the-variants.{Whole, Cut, Bad}

@@ -9,9 +9,9 @@ use lib.ListN.{length, take, drop}
 use lib.Seq.{sets, sets-eq, length-sets, take-at, drop-at}
 use lib.Dec.{ltb, leb}
 use borrow.Author.Tests.{lt-ltb, le-ltb, lt-leb, ltb-true, ltb-false, leb-false}
-use Rattle.pages.specs.declared.Refusal.{Refusal}
-use Rattle.pages.specs.declared.Refusal.the-variants.{LogChannel, LogLength, ShortBuffer}
-use Rattle.pages.specs.Refusals.{numberOf}
+use Rattle.refusals.specs.declared.Refusal.{Refusal}
+use Rattle.refusals.specs.declared.Refusal.the-variants.{LogChannel, LogLength, ShortBuffer}
+use Rattle.refusals.specs.Refusals.{numberOf}
 use Rattle.log.specs.declared.Logged.{Logged}
 use Rattle.log.specs.declared.Logged.the-variants.{Bytes, Refused}
 use Rattle.log.specs.Number.{InWord}

@@ -7,8 +7,8 @@ use mathlib.Core.Logic.{_⊎_}
 use mathlib.Core.Bool.{Bool}
 use mathlib.Core.List.{List, [], _∷_, _++_}
 use lib.Dec.{eqb}
-use Rattle.pages.specs.declared.Refusal.{Refusal}
-use Rattle.pages.specs.declared.Refusal.the-variants.{IllNumber, LogChannel, LogLength, LogTick}
+use Rattle.refusals.specs.declared.Refusal.{Refusal}
+use Rattle.refusals.specs.declared.Refusal.the-variants.{IllNumber, LogChannel, LogLength, LogTick}
 use Rattle.log.specs.Number.{numberBytes, InWord}
 use Rattle.log.specs.Record.{identifiers}
 use Rattle.log.specs.Reading.{aboveOf}

@@ -5,8 +5,8 @@ use mathlib.Core.Bool.{Bool, true, false, cond}
 use mathlib.Core.List.{List, [], _∷_}
 use lib.ListN.{length, drop, take}
 use lib.Dec.{ltb, leb, eqb}
-use Rattle.pages.specs.declared.Refusal.{Refusal}
-use Rattle.pages.specs.declared.Refusal.the-variants.{IllNumber, LogChannel, LogStandard, LogExtended, LogLength, LogTick}
+use Rattle.refusals.specs.declared.Refusal.{Refusal}
+use Rattle.refusals.specs.declared.Refusal.the-variants.{IllNumber, LogChannel, LogStandard, LogExtended, LogLength, LogTick}
 use Rattle.log.specs.declared.Num.{Num}
 use Rattle.log.specs.declared.Num.the-variants as num
 use Rattle.log.specs.declared.Entry.{Entry}

@@ -3,7 +3,7 @@ use mathlib.Core.Path.{_≡_, refl}
 use mathlib.Core.Bool.{true, false}
 use mathlib.Core.List.{List, [], _∷_, map}
 use Prim.Native.Nat.{ℕ}
-use Rattle.pages.specs.declared.Refusal.the-variants.{IllNumber, LogChannel, LogStandard, LogExtended, LogLength, LogTick}
+use Rattle.refusals.specs.declared.Refusal.the-variants.{IllNumber, LogChannel, LogStandard, LogExtended, LogLength, LogTick}
 use Rattle.log.specs.Number.{groups, readGroups}
 use Rattle.log.specs.Record.{Rec, tick, frame, recordBytes}
 use Rattle.log.specs.Reading.{lengthPart, identifierPart, channelPart, timePart, recordAt, readFrom, logOf, Log, ends, then, clean, piece, refused}

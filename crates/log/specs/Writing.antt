@@ -5,7 +5,7 @@ use mathlib.Core.List.{List, [], _∷_}
 use lib.ListN.{length}
 use lib.Seq.{sets}
 use lib.Dec.{ltb, leb}
-use Rattle.pages.specs.declared.Refusal.the-variants.{LogChannel, LogLength, ShortBuffer}
+use Rattle.refusals.specs.declared.Refusal.the-variants.{LogChannel, LogLength, ShortBuffer}
 use Rattle.log.specs.declared.Logged.{Logged}
 use Rattle.log.specs.declared.Logged.the-variants.{Bytes, Refused}
 use Rattle.log.specs.Record.{Rec, tick, frame, identifiers, recordBytes}

@@ -11,7 +11,7 @@ mod number; // number.rt: numbers in groups of seven bits
 mod stage; // stage.rt: a record, part by part
 mod store; // store.rt: a record's bytes into a buffer
 
-use pages::Refusal;
+use refusals::Refusal;
 use stage::record_from;
 use store::head_size;
 use store::part_of;

@@ -7,7 +7,7 @@ use crate::Entry;
 use crate::Num;
 use crate::Taken;
 use crate::number::number_at;
-use pages::Refusal;
+use refusals::Refusal;
 
 // 02: "A tick has length 9, identifier part 0 and no payload."
 fn length_part(s: &[u8], time: u32, channel: u32, p: u32, n: u32, at: usize) -> Taken

@@ -11,13 +11,13 @@ use borrow.Author.Tests.{ltb-true, eqb-true, not-false}
 use Rattle.signal.specs.Raw.{fitsIn}
 use Rattle.signal.proofs.Laws.{get-lt}
 use Rattle.signal.proofs.RawLaws.{value-fits}
-use Rattle.pages.specs.declared.Row.{Row}
-use Rattle.pages.specs.Charger.{chargerRows}
-use Rattle.pages.specs.Safety.{safetyRows}
-use Rattle.pages.specs.Table.{rows, noRow, keep, ofKind, rowsOf, hasKind, lowest, bitsAt, takes}
-use Rattle.pages.specs.Judge.{unlabelled}
-use Rattle.pages.specs.Raws.{wholeAt, wholesOf}
-use Rattle.pages.proofs.Rules.{both-true, either-false}
+use Rattle.page_rows.specs.declared.Row.{Row}
+use Rattle.page_rows.specs.Charger.{chargerRows}
+use Rattle.page_rows.specs.Safety.{safetyRows}
+use Rattle.page_rows.specs.Table.{rows, noRow, keep, ofKind, rowsOf, hasKind, lowest, bitsAt, takes}
+use Rattle.page_read.specs.Judge.{unlabelled}
+use Rattle.page_write.specs.Raws.{wholeAt, wholesOf}
+use Rattle.page_rows.proofs.Rules.{both-true, either-false}
 use Rattle.messages.specs.declared.Message.{Message}
 use Rattle.messages.specs.KindNumbers.{statusKind, parametersKind, controllerKind, sessionKind, changeKind, controlKind, finishedKind, stopKind, idKind, safetyControlKind, safetyStateKind, probesKind, kindCount}
 use Rattle.messages.specs.Read.{at, builtOf}

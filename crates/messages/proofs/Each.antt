@@ -9,14 +9,15 @@ use lib.Dec.{leb, lit≤}
 use lib.ListN.{length}
 use lib.IntN.{ℤ}
 use Rattle.signal.specs.Raw.{fitsIn, bitsIn}
-use Rattle.pages.specs.declared.Row.{Row}
-use Rattle.pages.specs.Charger.{chargerRows}
-use Rattle.pages.specs.Safety.{safetyRows}
-use Rattle.pages.specs.Table.{rows, ofKind, rowsOf, identifierOf, extendedOf, takes}
-use Rattle.pages.specs.Raws.{signalCount, wholesOf, pad, allTake}
-use Rattle.pages.specs.Raws as pages
-use Rattle.pages.proofs.Rules.{both-true, few}
-use Rattle.pages.proofs.Trips.{wholes-length, pad-same}
+use Rattle.page_rows.specs.declared.Row.{Row}
+use Rattle.page_rows.specs.Charger.{chargerRows}
+use Rattle.page_rows.specs.Safety.{safetyRows}
+use Rattle.page_rows.specs.Table.{rows, ofKind, rowsOf, identifierOf, extendedOf, takes}
+use Rattle.page_rows.specs.Table.{signalCount}
+use Rattle.page_write.specs.Raws.{wholesOf, pad, allTake}
+use Rattle.page_write.specs.Raws as pages
+use Rattle.page_rows.proofs.Rules.{both-true, few}
+use Rattle.page_write.proofs.Trips.{wholes-length, pad-same}
 use Rattle.messages.specs.declared.Message.{Message}
 use Rattle.messages.specs.declared.Message.the-variants.{Status, Parameters, Controller, Session, Change, Control, Finished, Stop, Id, SafetyControl, SafetyState, Probes}
 use Rattle.messages.specs.Read.{at, builtOf, messageOf}

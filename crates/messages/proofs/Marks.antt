@@ -9,10 +9,10 @@ use lib.Arith.{lt-of-le-ne}
 use lib.Dec.{T, eqb, ltb, eqb→eq}
 use lib.ListN.{getD}
 use borrow.Author.Tests.{ltb-true, eqb-true, eqb-false}
-use Rattle.pages.specs.declared.Row.{Row}
-use Rattle.pages.specs.Charger.{chargerRows}
-use Rattle.pages.specs.Safety.{safetyRows}
-use Rattle.pages.specs.Table.{rows, noRow, ofKind, rowsOf, takes}
+use Rattle.page_rows.specs.declared.Row.{Row}
+use Rattle.page_rows.specs.Charger.{chargerRows}
+use Rattle.page_rows.specs.Safety.{safetyRows}
+use Rattle.page_rows.specs.Table.{rows, noRow, ofKind, rowsOf, takes}
 use Rattle.messages.specs.declared.SystemEnable.{SystemEnable}
 use Rattle.messages.specs.declared.SystemEnable.the-variants as enable
 use Rattle.messages.specs.declared.ControllerState.{ControllerState}

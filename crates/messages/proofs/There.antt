@@ -9,12 +9,12 @@ use lib.Dec.{T, ltb, ltb→lt}
 use lib.ListN.{length, getD}
 use lib.IntN.{ℤ}
 use Rattle.signal.specs.Raw.{fitsIn, bitsIn}
-use Rattle.pages.specs.declared.Row.{Row}
-use Rattle.pages.specs.Charger.{chargerRows}
-use Rattle.pages.specs.Safety.{safetyRows}
-use Rattle.pages.specs.Table.{rows, noRow, ofKind, rowsOf, takes}
-use Rattle.pages.specs.Raws.{rowTakes, allTake}
-use Rattle.pages.proofs.Rules.{both-true}
+use Rattle.page_rows.specs.declared.Row.{Row}
+use Rattle.page_rows.specs.Charger.{chargerRows}
+use Rattle.page_rows.specs.Safety.{safetyRows}
+use Rattle.page_rows.specs.Table.{rows, noRow, ofKind, rowsOf, takes}
+use Rattle.page_write.specs.Raws.{rowTakes, allTake}
+use Rattle.page_rows.proofs.Rules.{both-true}
 use Rattle.messages.specs.declared.PowerModulesStatus.{PowerModulesStatus}
 use Rattle.messages.specs.declared.DcPowerParameters.{DcPowerParameters}
 use Rattle.messages.specs.declared.DcPowerControl.{DcPowerControl}

@@ -14,20 +14,21 @@ use borrow.Author.Tests.{le-leb, leb-true, leb-false}
 use Rattle.signal.specs.Payload.{bytesOf, storedIn, Bytes}
 use Rattle.signal.proofs.Orders.{length-of, are-of}
 use Rattle.signal.proofs.Totals.{stored-in, stored-not}
-use Rattle.pages.specs.declared.Judged.{Judged}
-use Rattle.pages.specs.declared.Judged.the-variants as judged
-use Rattle.pages.specs.declared.Refusal.{Refusal}
-use Rattle.pages.specs.declared.Refusal.the-variants.{NoRawNumber, ShortBuffer}
-use Rattle.pages.specs.declared.Written.{Written}
-use Rattle.pages.specs.declared.Written.the-variants as written
-use Rattle.pages.specs.Table.{rowsOf, identifierOf, extendedOf, lengthOf, bigOf}
-use Rattle.pages.specs.Judge.{judgeOf}
-use Rattle.pages.specs.Raws.{signalCount, wholesOf, pad, allTake, packedOn, canWrite}
-use Rattle.pages.specs.Raws as pages
-use Rattle.pages.specs.Change.{changeOf, bytesAfter}
-use Rattle.pages.proofs.Rules.{both-true, few}
-use Rattle.pages.proofs.Trips.{accepted, raws-back, raws-there, wholes-length, all-pad, packed-pad}
-use Rattle.pages.proofs.Changes.{change-read}
+use Rattle.page_read.specs.declared.Judged.{Judged}
+use Rattle.page_read.specs.declared.Judged.the-variants as judged
+use Rattle.refusals.specs.declared.Refusal.{Refusal}
+use Rattle.refusals.specs.declared.Refusal.the-variants.{NoRawNumber, ShortBuffer}
+use Rattle.page_write.specs.declared.Written.{Written}
+use Rattle.page_write.specs.declared.Written.the-variants as written
+use Rattle.page_rows.specs.Table.{rowsOf, identifierOf, extendedOf, lengthOf, bigOf}
+use Rattle.page_read.specs.Judge.{judgeOf}
+use Rattle.page_rows.specs.Table.{signalCount}
+use Rattle.page_write.specs.Raws.{wholesOf, pad, allTake, packedOn, canWrite}
+use Rattle.page_write.specs.Raws as pages
+use Rattle.page_change.specs.Change.{changeOf, bytesAfter}
+use Rattle.page_rows.proofs.Rules.{both-true, few}
+use Rattle.page_write.proofs.Trips.{accepted, raws-back, raws-there, wholes-length, all-pad, packed-pad}
+use Rattle.page_change.proofs.Changes.{change-read}
 use Rattle.messages.specs.declared.Message.{Message}
 use Rattle.messages.specs.declared.Reading.the-variants.{Accepted}
 use Rattle.messages.specs.Read.{at, builtOf, messageOf, readingOf, readOf}

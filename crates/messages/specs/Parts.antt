@@ -1,6 +1,6 @@
 -- The kinds that the session watch names, and the fields of a payload number of each.
 use Prim.Native.Nat.{ℕ}
-use Rattle.pages.specs.Raws.{rawsOf}
+use Rattle.page_write.specs.Raws.{rawsOf}
 use Rattle.messages.specs.declared.PowerModulesStatus.{PowerModulesStatus}
 use Rattle.messages.specs.declared.DcPowerParameters.{DcPowerParameters}
 use Rattle.messages.specs.declared.NewChargeSession.{NewChargeSession}

@@ -4,17 +4,17 @@ use mathlib.Core.Path.{_≡_, refl}
 use mathlib.Core.Bool.{Bool, true, false}
 use mathlib.Core.List.{List, [], _∷_}
 use lib.IntN.{ℤ, pos, negsuc}
-use Rattle.pages.specs.declared.Refusal.{Refusal}
-use Rattle.pages.specs.declared.Refusal.the-variants.{UnknownIdentifier, TooShort, TooLong, NoLabel, UncoveredBit, NoRawNumber}
-use Rattle.pages.specs.declared.Judged.the-variants as judged
-use Rattle.pages.specs.declared.Written.{Written}
-use Rattle.pages.specs.declared.Written.the-variants as written
-use Rattle.pages.specs.Charger.{chargerRows}
-use Rattle.pages.specs.Safety.{safetyRows}
-use Rattle.pages.specs.Table.{rows, ofKind, firstAt, covered, identifierOf, lengthOf, bigOf}
-use Rattle.pages.specs.Judge.{unlabelled, offender, strayBelow, judgedNumber, judgeOf}
-use Rattle.pages.specs.Raws as pages
-use Rattle.pages.specs.Change.{changeOf, bytesAfter}
+use Rattle.refusals.specs.declared.Refusal.{Refusal}
+use Rattle.refusals.specs.declared.Refusal.the-variants.{UnknownIdentifier, TooShort, TooLong, NoLabel, UncoveredBit, NoRawNumber}
+use Rattle.page_read.specs.declared.Judged.the-variants as judged
+use Rattle.page_write.specs.declared.Written.{Written}
+use Rattle.page_write.specs.declared.Written.the-variants as written
+use Rattle.page_rows.specs.Charger.{chargerRows}
+use Rattle.page_rows.specs.Safety.{safetyRows}
+use Rattle.page_rows.specs.Table.{rows, ofKind, firstAt, covered, identifierOf, lengthOf, bigOf}
+use Rattle.page_read.specs.Judge.{unlabelled, offender, strayBelow, judgedNumber, judgeOf}
+use Rattle.page_write.specs.Raws as pages
+use Rattle.page_change.specs.Change.{changeOf, bytesAfter}
 use Rattle.signal.specs.Signal.{getBits, putBits}
 use Rattle.signal.specs.Payload.{leNumber, leBytes, beNumber, beBytes, storedIn}
 use Rattle.signal.specs.Twos.{toSigned, ofSigned}

@@ -3,10 +3,10 @@ use Prim.Native.Nat.{ℕ}
 use mathlib.Core.Bool.{Bool, true, cond}
 use mathlib.Core.List.{List, [], _∷_}
 use lib.IntN.{ℤ, pos}
-use Rattle.pages.specs.declared.Refusal.the-variants.{NoRawNumber}
-use Rattle.pages.specs.declared.Written.{Written}
-use Rattle.pages.specs.declared.Written.the-variants.{Refused}
-use Rattle.pages.specs.Raws as pages
+use Rattle.refusals.specs.declared.Refusal.the-variants.{NoRawNumber}
+use Rattle.page_write.specs.declared.Written.{Written}
+use Rattle.page_write.specs.declared.Written.the-variants.{Refused}
+use Rattle.page_write.specs.Raws as pages
 use Rattle.messages.specs.declared.PowerModulesStatus.{PowerModulesStatus}
 use Rattle.messages.specs.declared.DcPowerParameters.{DcPowerParameters}
 use Rattle.messages.specs.declared.ControllerStatus.{ControllerStatus}

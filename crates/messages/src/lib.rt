@@ -9,9 +9,9 @@ pub mod fields; // fields.rt: a field's value and its raw number
 mod build; // build.rt: the messages of raw numbers
 mod take; // take.rt: the raw numbers of messages
 
-use pages::Judged;
-use pages::Refusal;
-use pages::Written;
+use page_read::Judged;
+use page_write::Written;
+use refusals::Refusal;
 
 // ---- labels: "a label is a named case of its own type"
 
@@ -270,7 +270,7 @@ pub enum Reading {
 pub fn message_of(kind: usize, number: u64) -> Message
     ensures { λ r. ⌜ r ≡ messageOf kind number ⌝ }
 {
-    build::built(kind, pages::raws_of(kind, number))
+    build::built(kind, page_write::raws_of(kind, number))
 }
 
 // ---- the fields of a payload number of the kinds that the session watch's rules name
@@ -279,12 +279,12 @@ pub fn status_in(number: u64) -> PowerModulesStatus
     ensures { λ r. ⌜ r ≡ statusIn number ⌝ }
 {
     let mut f = [0i64; 16];
-    f[0] = pages::raw_of(STATUS, 0, number);
-    f[1] = pages::raw_of(STATUS, 1, number);
-    f[2] = pages::raw_of(STATUS, 2, number);
-    f[3] = pages::raw_of(STATUS, 3, number);
-    f[4] = pages::raw_of(STATUS, 4, number);
-    f[5] = pages::raw_of(STATUS, 5, number);
+    f[0] = page_write::raw_of(STATUS, 0, number);
+    f[1] = page_write::raw_of(STATUS, 1, number);
+    f[2] = page_write::raw_of(STATUS, 2, number);
+    f[3] = page_write::raw_of(STATUS, 3, number);
+    f[4] = page_write::raw_of(STATUS, 4, number);
+    f[5] = page_write::raw_of(STATUS, 5, number);
     build::status(f)
 }
 
@@ -292,10 +292,10 @@ pub fn parameters_in(number: u64) -> DcPowerParameters
     ensures { λ r. ⌜ r ≡ parametersIn number ⌝ }
 {
     let mut f = [0i64; 16];
-    f[0] = pages::raw_of(PARAMETERS, 0, number);
-    f[1] = pages::raw_of(PARAMETERS, 1, number);
-    f[2] = pages::raw_of(PARAMETERS, 2, number);
-    f[3] = pages::raw_of(PARAMETERS, 3, number);
+    f[0] = page_write::raw_of(PARAMETERS, 0, number);
+    f[1] = page_write::raw_of(PARAMETERS, 1, number);
+    f[2] = page_write::raw_of(PARAMETERS, 2, number);
+    f[3] = page_write::raw_of(PARAMETERS, 3, number);
     build::parameters(f)
 }
 
@@ -303,8 +303,8 @@ pub fn session_in(number: u64) -> NewChargeSession
     ensures { λ r. ⌜ r ≡ sessionIn number ⌝ }
 {
     let mut f = [0i64; 16];
-    f[0] = pages::raw_of(SESSION, 0, number);
-    f[1] = pages::raw_of(SESSION, 1, number);
+    f[0] = page_write::raw_of(SESSION, 0, number);
+    f[1] = page_write::raw_of(SESSION, 1, number);
     build::session(f)
 }
 
@@ -312,14 +312,14 @@ pub fn control_in(number: u64) -> DcPowerControl
     ensures { λ r. ⌜ r ≡ controlIn number ⌝ }
 {
     let mut f = [0i64; 16];
-    f[0] = pages::raw_of(CONTROL, 0, number);
-    f[1] = pages::raw_of(CONTROL, 1, number);
-    f[2] = pages::raw_of(CONTROL, 2, number);
-    f[3] = pages::raw_of(CONTROL, 3, number);
-    f[4] = pages::raw_of(CONTROL, 4, number);
-    f[5] = pages::raw_of(CONTROL, 5, number);
-    f[6] = pages::raw_of(CONTROL, 6, number);
-    f[7] = pages::raw_of(CONTROL, 7, number);
+    f[0] = page_write::raw_of(CONTROL, 0, number);
+    f[1] = page_write::raw_of(CONTROL, 1, number);
+    f[2] = page_write::raw_of(CONTROL, 2, number);
+    f[3] = page_write::raw_of(CONTROL, 3, number);
+    f[4] = page_write::raw_of(CONTROL, 4, number);
+    f[5] = page_write::raw_of(CONTROL, 5, number);
+    f[6] = page_write::raw_of(CONTROL, 6, number);
+    f[7] = page_write::raw_of(CONTROL, 7, number);
     build::control(f)
 }
 
@@ -329,7 +329,7 @@ pub fn control_in(number: u64) -> DcPowerControl
 pub fn read(id: u32, extended: bool, bytes: &[u8]) -> Reading
     ensures { λ r. ⌜ r ≡ readOf id extended (now (bytes .entry)) ⌝ }
 {
-    match pages::judge(id, extended, bytes) {
+    match page_read::judge(id, extended, bytes) {
         Judged::Frame(kind, number) => Reading::Accepted(message_of(kind, number)),
         Judged::Refused(w) => Reading::Refused(w),
     }
@@ -361,5 +361,5 @@ pub fn write(m: Message, buf: &mut [u8]) -> Written
     if !take::has_raws(m) {
         return Written::Refused(Refusal::NoRawNumber);
     }
-    pages::write_raws(kind_of(m), take::raws(m), buf)
+    page_write::write_raws(kind_of(m), take::raws(m), buf)
 }

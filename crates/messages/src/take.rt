@@ -1,6 +1,7 @@
 // The raw numbers of each message's signals, in the table's order.
 ghost use mathlib.Core.Path.{_≡_};
-ghost use Rattle.pages.specs.Raws.{pad, signalCount};
+ghost use Rattle.page_write.specs.Raws.{pad};
+ghost use Rattle.page_rows.specs.Table.{signalCount};
 ghost use Rattle.messages.specs.Write.{statusRaws, parametersRaws, stateRaws, sessionRaws, changeRaws, controlRaws, finishedRaws, stopRaws, idRaws, safetyControlRaws, safetyStateRaws, probesRaws, oneRaw, rawsOf, hasRaws};
 use crate::fields::byte_raw;
 use crate::fields::celsius_raw;

@@ -24,7 +24,7 @@ fn taken(night: Night, s: &[u8], name: &[u8], room: &mut [u8], out: &mut [u8]) -
             night
         }
         Record::Refused(why) => {
-            say::refused(night.line, pages::refusal_number(why), out);
+            say::refused(night.line, refusals::refusal_number(why), out);
             night
         }
         Record::Bytes(size) => stored(night, size, name, out),

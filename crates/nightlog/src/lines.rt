@@ -2,7 +2,7 @@
 use log::Logged;
 use notation::heard;
 use notation::heard::Heard;
-use pages::Refusal;
+use refusals::Refusal;
 
 // A record's bytes are the first of the buffer that was lent for them; Bad where the line is no frame or tick.
 pub enum Record {

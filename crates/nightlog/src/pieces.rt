@@ -3,7 +3,7 @@
 use crate::say;
 use crate::show;
 use log::Found;
-use pages::Refusal;
+use refusals::Refusal;
 use std::num::wrapping_add_u64;
 use text::Pen;
 

@@ -5,8 +5,8 @@ use mathlib.Core.List.{List, [], _∷_, _++_}
 use Prim.Native.Nat.{ℕ, _-_, _/_, _%_}
 use lib.Dec.{ltb, eqb}
 use lib.ListN.{length}
-use Rattle.pages.specs.declared.Refusal.{Refusal}
-use Rattle.pages.specs.Refusals.{numberOf, startOf}
+use Rattle.refusals.specs.declared.Refusal.{Refusal}
+use Rattle.refusals.specs.Refusals.{numberOf, startOf}
 use Rattle.text.specs.Ascii.{space}
 use Rattle.text.specs.Numbers.{numeral}
 use Rattle.text.specs.Pens.{movedBy, inkedBy, hexWords}

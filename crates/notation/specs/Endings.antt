@@ -1,8 +1,8 @@
 -- How a log ends. desk.md: `CUT@BYTE`, `BAD R<n>@BYTE`, `SETUP R<n>`.
 use Prim.Native.Nat.{ℕ}
 use mathlib.Core.List.{List, [], _∷_, _++_}
-use Rattle.pages.specs.declared.Refusal.{Refusal}
-use Rattle.pages.specs.Refusals.{numberOf}
+use Rattle.refusals.specs.declared.Refusal.{Refusal}
+use Rattle.refusals.specs.Refusals.{numberOf}
 use Rattle.notation.specs.Answers.{namedWords}
 
 -- "@", and the words CUT@, BAD R and SETUP R, as ASCII codes them

@@ -2,7 +2,7 @@
 ghost use Prim.Native.Nat.{_/_, _%_};
 ghost use mathlib.Core.List.{_++_};
 ghost use Rattle.notation.specs.Answers.{Wrote, unknownWords, endWords, namedWords, numberedWords, refusedWords, refusalWords, findingsWords, settingWords, bytesWords};
-use pages::Refusal;
+use refusals::Refusal;
 use text::Pen;
 
 pub fn unknown(out: &mut [u8], pen: Pen) -> Pen
@@ -75,7 +75,12 @@ pub fn setting(out: &mut [u8], pen: Pen, word: u32) -> Pen
 fn refusal_name(out: &mut [u8], pen: Pen, w: Refusal) -> Pen
     ensures { λ r. ⌜ Wrote (now (out .entry)) pen (refusalWords w) r (now (out .exit)) ⌝ }
 {
-    refused(out, pen, pages::refusal_number(w), pages::refusal_start(w))
+    refused(
+        out,
+        pen,
+        refusals::refusal_number(w),
+        refusals::refusal_start(w),
+    )
 }
 
 pub fn refusal(out: &mut [u8], pen: Pen, w: Refusal) -> Pen

@@ -2,7 +2,7 @@
 ghost use Rattle.notation.specs.Answers.{Wrote};
 ghost use Rattle.notation.specs.Endings.{cutWords, badWords, setUpWords};
 use crate::answer;
-use pages::Refusal;
+use refusals::Refusal;
 use text::Pen;
 
 // A piece is left over and begins at this byte.
@@ -17,7 +17,7 @@ pub fn cut(out: &mut [u8], pen: Pen, at: u64) -> Pen
 pub fn bad(out: &mut [u8], pen: Pen, why: Refusal, at: u64) -> Pen
     ensures { λ r. ⌜ Wrote (now (out .entry)) pen (badWords why at) r (now (out .exit)) ⌝ }
 {
-    let p = answer::named(out, pen, b"BAD R", pages::refusal_number(why));
+    let p = answer::named(out, pen, b"BAD R", refusals::refusal_number(why));
     let q = text::put(out, p, b"@");
     text::put_decimal(out, q, at)
 }
@@ -25,5 +25,5 @@ pub fn bad(out: &mut [u8], pen: Pen, why: Refusal, at: u64) -> Pen
 pub fn set_up(out: &mut [u8], pen: Pen, why: Refusal) -> Pen
     ensures { λ r. ⌜ Wrote (now (out .entry)) pen (setUpWords why) r (now (out .exit)) ⌝ }
 {
-    answer::named(out, pen, b"SETUP R", pages::refusal_number(why))
+    answer::named(out, pen, b"SETUP R", refusals::refusal_number(why))
 }

@@ -17,7 +17,7 @@ use Rattle.playing.specs.Lines.{lineRoom, lineOf}
 use Rattle.playing.specs.Fed.{timeOf, channelOf, arrivalIn, fedWith, lineFor, linesFrom, line01, lines01From}
 use Rattle.playing.specs.Night.{Wanted, Ready, ready, stopped, onSetting, preparedFrom, prepared01, endingOf, nightOf, night01, stop, runOf}
 use Rattle.playing.specs.declared.Played.the-variants.{SetUp}
-use Rattle.pages.specs.declared.Refusal.{Refusal}
+use Rattle.refusals.specs.declared.Refusal.{Refusal}
 use Rattle.playing.proofs.Nights.{lines}
 
 -- ---- records

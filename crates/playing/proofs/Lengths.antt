@@ -7,7 +7,7 @@ use native.Mathlib.Omega.{arith}
 use lib.Dec.{eqb}
 use lib.ListN.{length, length-append}
 use borrow.Author.Tests.{eqb-true}
-use Rattle.pages.specs.Refusals.{numberOf, startOf}
+use Rattle.refusals.specs.Refusals.{numberOf, startOf}
 use Rattle.text.specs.Ascii.{space, dash}
 use Rattle.text.specs.Numbers.{numeral}
 use Rattle.text.specs.Pens.{textOf}

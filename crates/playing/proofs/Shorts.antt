@@ -6,13 +6,13 @@ use mathlib.Core.Bool.{Bool, true, false, cond, _&&_}
 use mathlib.Core.List.{List, [], _∷_}
 use lib.Dec.{ltb, eqb}
 use lib.ListN.{length, getD}
-use Rattle.pages.specs.declared.Row.{Row}
-use Rattle.pages.specs.declared.Found.{Found}
-use Rattle.pages.specs.declared.Found.the-variants.{At, Nothing}
-use Rattle.pages.specs.declared.Judged.{Judged}
-use Rattle.pages.specs.declared.Judged.the-variants as judged
-use Rattle.pages.specs.Table.{rows, rowsOf, noRow, firstAt, hasId}
-use Rattle.pages.specs.Judge.{unlabelled, offends, offender, strayBelow, judgedNumber, judgedAt, judgeOf}
+use Rattle.page_rows.specs.declared.Row.{Row}
+use Rattle.page_rows.specs.declared.Found.{Found}
+use Rattle.page_rows.specs.declared.Found.the-variants.{At, Nothing}
+use Rattle.page_read.specs.declared.Judged.{Judged}
+use Rattle.page_read.specs.declared.Judged.the-variants as judged
+use Rattle.page_rows.specs.Table.{rows, rowsOf, noRow, firstAt, hasId}
+use Rattle.page_read.specs.Judge.{unlabelled, offends, offender, strayBelow, judgedNumber, judgedAt, judgeOf}
 use Rattle.post.specs.declared.PlainLimits.{PlainLimits}
 use Rattle.post.specs.History.{Event, History, frame, tick, earlierIn}
 use Rattle.post.specs.Judgements.{bit}

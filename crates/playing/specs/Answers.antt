@@ -1,8 +1,8 @@
 -- The answers of set-ups and calls, by 01's numbers: the refusal that each stands for, and whether there is a line.
 use mathlib.Core.Bool.{Bool, true, false}
 use mathlib.Core.Option.{Option, none, some}
-use Rattle.pages.specs.declared.Refusal.{Refusal}
-use Rattle.pages.specs.declared.Refusal.the-variants.{ShortBuffer}
+use Rattle.refusals.specs.declared.Refusal.{Refusal}
+use Rattle.refusals.specs.declared.Refusal.the-variants.{ShortBuffer}
 use Rattle.playing.specs.declared.Preparing.{Preparing}
 use Rattle.playing.specs.declared.Preparing.the-variants as preparing
 use Rattle.playing.specs.declared.Played.{Played}

@@ -1,7 +1,7 @@
 -- The records of a log fed singly to the watch, and their lines. 02, Req 05: "Its lines must be those of the records fed singly".
 use Prim.Native.Nat.{ℕ, _+_}
 use mathlib.Core.List.{List, [], _∷_}
-use Rattle.pages.specs.Judge.{judgeOf}
+use Rattle.page_read.specs.Judge.{judgeOf}
 use Rattle.log.specs.Record.{Rec, tick, frame}
 use Rattle.watch.specs.declared.Table.{Table}
 use Rattle.watch.specs.declared.Fed.{Fed}

@@ -4,7 +4,7 @@ use mathlib.Core.Bool.{Bool, true, false, cond}
 use mathlib.Core.List.{List, [], _∷_, _++_}
 use lib.Dec.{eqb}
 use lib.ListN.{length, drop}
-use Rattle.pages.specs.Refusals.{numberOf, startOf}
+use Rattle.refusals.specs.Refusals.{numberOf, startOf}
 use Rattle.text.specs.Ascii.{space, dash}
 use Rattle.text.specs.Numbers.{numeral}
 use Rattle.text.specs.Pens.{textOf}

@@ -3,7 +3,7 @@ use mathlib.Core.Path.{_≡_, refl}
 use mathlib.Core.List.{List, [], _∷_, _++_, map}
 use Prim.Native.Nat.{ℕ}
 use lib.ListN.{replicate}
-use Rattle.pages.specs.declared.Refusal.the-variants.{ChannelFree, Earlier, NoLabel, LogChannel, NoSuchPost, ChannelTaken}
+use Rattle.refusals.specs.declared.Refusal.the-variants.{ChannelFree, Earlier, NoLabel, LogChannel, NoSuchPost, ChannelTaken}
 use Rattle.post.specs.declared.PlainLimits.{PlainLimits}
 use Rattle.post.specs.Step.{agedTo, silentIn, lateAfter, anyFindings, tickStep}
 use Rattle.log.specs.Number.{readGroups}

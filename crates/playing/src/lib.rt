@@ -13,8 +13,8 @@ mod line; // line.rt: a record's line
 
 use log::Entry;
 use log::Found;
-use pages::Refusal;
 use post::PlainLimits;
+use refusals::Refusal;
 use std::num::wrapping_add_u64;
 use watch::Fed;
 use watch::Setting;

@@ -6,7 +6,7 @@ ghost use lib.ListN.{length};
 ghost use Rattle.text.specs.Numbers.{numeral};
 ghost use Rattle.notation.specs.Answers.{Wrote};
 ghost use Rattle.playing.specs.Lines.{lineRoom, unheld, postWords, refusedWords, answerWords, lineWords, lineOf, InWords, laid, newPen};
-use pages::Refusal;
+use refusals::Refusal;
 use text::Pen;
 use watch::Answer;
 
@@ -15,7 +15,7 @@ fn is_unheld(a: Answer) -> bool
 {
     match a {
         Answer::Findings(_) => false,
-        Answer::Refused(w) => pages::refusal_number(w) == 1,
+        Answer::Refused(w) => refusals::refusal_number(w) == 1,
     }
 }
 
@@ -44,7 +44,12 @@ fn answer_word(out: &mut [u8], pen: Pen, a: Answer) -> Pen
     match a {
         Answer::Findings(f) => notation::answer::named(out, pen, b" A", f),
         Answer::Refused(w) => {
-            refused(out, pen, pages::refusal_number(w), pages::refusal_start(w))
+            refused(
+                out,
+                pen,
+                refusals::refusal_number(w),
+                refusals::refusal_start(w),
+            )
         }
     }
 }

@@ -2,9 +2,9 @@
 use crate::paper;
 use crate::tally;
 use crate::tally::Tally;
-use pages::Refusal;
 use playing::Played;
 use playing::Replay;
+use refusals::Refusal;
 use text::Pen;
 
 // What stands behind the records of a piece: Going while a record may follow.

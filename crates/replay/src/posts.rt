@@ -3,10 +3,10 @@ use crate::say;
 use notation::script;
 use notation::setup;
 use notation::setup::Asked;
-use pages::Refusal;
 use playing::Preparing;
 use playing::Replay;
 use post::PlainLimits;
+use refusals::Refusal;
 use std::num::wrapping_add_u64;
 
 // A replay with its set-ups; not ready where the file holds something else, or a set-up was refused, and that was said.

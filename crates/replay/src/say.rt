@@ -1,5 +1,5 @@
 // What is said on standard error. A message is made in a buffer of its own, since lines may wait in the output's, and written at once.
-use pages::Refusal;
+use refusals::Refusal;
 use text::Pen;
 
 // `replay: FILE`

@@ -6,10 +6,10 @@ use mathlib.Core.Bool.{Bool, true, false, cond, _&&_, true≢false}
 use lib.Dec.{eqb, ltb}
 use lib.ListN.{getD}
 use borrow.Author.Tests.{eqb-true, eq-eqb, ltb-true, lt-ltb}
-use Rattle.pages.specs.declared.Refusal.{Refusal}
-use Rattle.pages.specs.declared.Refusal.the-variants.{ChannelFree, Earlier}
-use Rattle.pages.specs.declared.Judged.the-variants as judged
-use Rattle.pages.specs.Judge.{judgeOf}
+use Rattle.refusals.specs.declared.Refusal.{Refusal}
+use Rattle.refusals.specs.declared.Refusal.the-variants.{ChannelFree, Earlier}
+use Rattle.page_read.specs.declared.Judged.the-variants as judged
+use Rattle.page_read.specs.Judge.{judgeOf}
 use Rattle.post.specs.declared.PlainLimits.{PlainLimits}
 use Rattle.post.specs.declared.Post.{Post}
 use Rattle.post.specs.History.{History, earlierIn}

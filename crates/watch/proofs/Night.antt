@@ -5,13 +5,13 @@ use borrow.Author.Tests.{ltb-true}
 use mathlib.Core.Path.{_≡_, refl, ap, sym, _∙_}
 use mathlib.Core.Bool.{Bool, true, false}
 use mathlib.Core.List.{List, [], _∷_}
-use Rattle.pages.specs.declared.Refusal.the-variants.{ChannelFree, ChannelTaken, TooShort}
-use Rattle.pages.specs.declared.Judged.the-variants as judged
-use Rattle.pages.specs.Charger.{chargerRows}
-use Rattle.pages.specs.Safety.{safetyRows}
-use Rattle.pages.specs.Table.{rows, ofKind, firstAt, covered}
-use Rattle.pages.specs.Judge.{unlabelled, strayBelow, judgedNumber, judgeOf}
-use Rattle.pages.specs.Raws.{wholesOf, pad, rawsOf}
+use Rattle.refusals.specs.declared.Refusal.the-variants.{ChannelFree, ChannelTaken, TooShort}
+use Rattle.page_read.specs.declared.Judged.the-variants as judged
+use Rattle.page_rows.specs.Charger.{chargerRows}
+use Rattle.page_rows.specs.Safety.{safetyRows}
+use Rattle.page_rows.specs.Table.{rows, ofKind, firstAt, covered}
+use Rattle.page_read.specs.Judge.{unlabelled, strayBelow, judgedNumber, judgeOf}
+use Rattle.page_write.specs.Raws.{wholesOf, pad, rawsOf}
 use Rattle.signal.specs.Signal.{getBits}
 use Rattle.signal.specs.Payload.{leNumber}
 use Rattle.signal.specs.Twos.{toSigned}

@@ -6,7 +6,7 @@ use mathlib.Core.Bool.{Bool, true, false, cond, true≢false}
 use lib.Dec.{leb}
 use lib.ListN.{getD}
 use lib.Seq.{set-getD}
-use Rattle.pages.specs.Judge.{judgeOf}
+use Rattle.page_read.specs.Judge.{judgeOf}
 use Rattle.post.specs.declared.PlainLimits.{PlainLimits}
 use Rattle.post.specs.declared.Post.{Post}
 use Rattle.post.specs.Step.{isEarly}

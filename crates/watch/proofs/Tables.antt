@@ -9,7 +9,7 @@ use lib.Dec.{eqb, ltb}
 use lib.ListN.{getD}
 use lib.Seq.{set-getD}
 use borrow.Author.Tests.{eqb-true, eqb-false, eq-eqb, ne-eqb, ltb-true, ltb-false, le-leb, lt-leb}
-use Rattle.pages.specs.declared.Refusal.the-variants.{NotSetUp}
+use Rattle.refusals.specs.declared.Refusal.the-variants.{NotSetUp}
 use Rattle.post.specs.declared.PlainLimits.{PlainLimits}
 use Rattle.post.specs.declared.Post.{Post}
 use Rattle.post.specs.History.{Event, frame, tick, History, earlierIn, countFrom}

@@ -5,12 +5,12 @@ use mathlib.Core.Bool.{Bool, true, false}
 use mathlib.Core.List.{List, [], _∷_}
 use lib.IntN.{pos, negsuc}
 use lib.ListN.{getD}
-use Rattle.pages.specs.declared.Refusal.the-variants.{UnknownIdentifier, TooShort, TooLong, NoLabel, UncoveredBit, ChannelTaken, LimitOutside}
-use Rattle.pages.specs.Charger.{chargerRows}
-use Rattle.pages.specs.Safety.{safetyRows}
-use Rattle.pages.specs.Table.{rows, ofKind, firstAt, covered}
-use Rattle.pages.specs.Judge.{unlabelled, offender, strayBelow, judgedNumber, judgeOf}
-use Rattle.pages.specs.Raws.{wholesOf, pad, rawsOf}
+use Rattle.refusals.specs.declared.Refusal.the-variants.{UnknownIdentifier, TooShort, TooLong, NoLabel, UncoveredBit, ChannelTaken, LimitOutside}
+use Rattle.page_rows.specs.Charger.{chargerRows}
+use Rattle.page_rows.specs.Safety.{safetyRows}
+use Rattle.page_rows.specs.Table.{rows, ofKind, firstAt, covered}
+use Rattle.page_read.specs.Judge.{unlabelled, offender, strayBelow, judgedNumber, judgeOf}
+use Rattle.page_write.specs.Raws.{wholesOf, pad, rawsOf}
 use Rattle.signal.specs.Signal.{getBits}
 use Rattle.signal.specs.Payload.{leNumber, beNumber}
 use Rattle.signal.specs.Twos.{toSigned}

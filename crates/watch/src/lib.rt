@@ -6,10 +6,9 @@ ghost use mathlib.Core.List.{[]};
 ghost use Prim.Native.Nat.{_<_, _≤_};
 ghost use Rattle.watch.specs.Table.{holds, placeOf, putIn, heardOf, arrivalOf, feedOf, emptyTable, limitsFit, isOther, setUpOf, releaseOf, lookUpOf, noRecord};
 ghost use Rattle.watch.specs.Steps.{Steps, Kept, FeedRight, SetUpRight, ReleaseRight, lookUp01};
-ghost use Rattle.pages.specs.Judge.{judgeOf};
+ghost use Rattle.page_read.specs.Judge.{judgeOf};
 ghost use Rattle.post.specs.Sensor.{plainOf};
-use pages::Judged;
-use pages::Refusal;
+use page_read::Judged;
 use post::Dated;
 use post::LastTime;
 use post::Latest;
@@ -20,6 +19,7 @@ use post::Record;
 use post::Session;
 use post::SessionPart;
 use post::Slot;
+use refusals::Refusal;
 
 pub const POSTS: usize = 8;
 
@@ -182,7 +182,7 @@ pub fn frame(t: Table, channel: u32, time: u32, id: u32, extended: bool, payload
     ensures by_record { λ r. ⌜ r ≡ feedOf t channel time (arrivalOf (judgeOf id extended (now (payload .entry)))) ⌝ }
     ensures by_history { λ r. ⌜ ((s : Steps) → Kept t s → FeedRight s channel time (arrivalOf (judgeOf id extended (now (payload .entry)))) r) ⌝ }
 {
-    let j = pages::judge(id, extended, payload);
+    let j = page_read::judge(id, extended, payload);
     let a = arriving(j);
     feed(t, channel, time, a)
 }

@@ -15,7 +15,7 @@ use Rattle.gateway.proofs.frame_on.Reads as reads
 use Rattle.gateway.proofs.frame_on.Lts as lts
 use Rattle.gateway.proofs.refusal_word.Reads as refusal-word-reads
 use Rattle.gateway.proofs.refused.Reads as refused-reads
-use Rattle.pages.proofs.judge.Reads as judge-reads
+use Rattle.page_read.proofs.judge.Reads as judge-reads
 use Rattle.post.proofs.frame.Reads as frame-reads
 
 refused-requires : tie.Need-refused-requires

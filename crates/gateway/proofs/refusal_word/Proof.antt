@@ -6,11 +6,11 @@ use denote.Laws.{Is}
 use denote.Enum.Laws.{owed}
 use mir.Val.{Val}
 use borrow.Author.Needs.{needs}
-use Rattle.pages.specs.declared.Refusal.{Refusal}
-use Rattle.pages.specs.declared.Refusal.the-variants.{ChannelFree, Earlier, UnknownIdentifier, TooShort, NoLabel, UncoveredBit, NoRawNumber, ShortBuffer, NoSuchPost, NoSuchChannel, ChannelTaken, LimitOutside, NoSignal, NotSetUp, TooLong, IllNumber, LogChannel, LogStandard, LogExtended, LogLength, LogTick}
-use Rattle.pages.proofs.Refusal.{the-type, the-row}
-use Rattle.pages.proofs.Refusal.Laws.{the-laws}
-use Rattle.pages.specs.Refusals.{startOf}
+use Rattle.refusals.specs.declared.Refusal.{Refusal}
+use Rattle.refusals.specs.declared.Refusal.the-variants.{ChannelFree, Earlier, UnknownIdentifier, TooShort, NoLabel, UncoveredBit, NoRawNumber, ShortBuffer, NoSuchPost, NoSuchChannel, ChannelTaken, LimitOutside, NoSignal, NotSetUp, TooLong, IllNumber, LogChannel, LogStandard, LogExtended, LogLength, LogTick}
+use Rattle.refusals.proofs.Refusal.{the-type, the-row}
+use Rattle.refusals.proofs.Refusal.Laws.{the-laws}
+use Rattle.refusals.specs.Refusals.{startOf}
 use Rattle.gateway.proofs.WordLaws.{number-small}
 use Rattle.gateway.proofs.refusal_word.Statement.{statement}
 use Rattle.gateway.proofs.refusal_word.Tie as tie

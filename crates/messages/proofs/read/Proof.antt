@@ -3,8 +3,8 @@ use mathlib.Core.Path.{_≡_, sym, ap, _∙_}
 use mathlib.Core.Bool.{Bool}
 use mathlib.Core.List.{List}
 use Prim.Native.Nat.{ℕ}
-use Rattle.pages.specs.declared.Judged.{Judged}
-use Rattle.pages.specs.Judge.{judgeOf}
+use Rattle.page_read.specs.declared.Judged.{Judged}
+use Rattle.page_read.specs.Judge.{judgeOf}
 use Rattle.messages.specs.declared.Reading.the-variants.{Accepted}
 use Rattle.messages.specs.Read.{readingOf, readOf}
 use borrow.Author.Needs.{needs}

@@ -5,10 +5,10 @@ use mathlib.Core.Bool.{Bool, true, false, cond}
 use mathlib.Core.List.{List}
 use Prim.Native.Nat.{ℕ}
 use lib.IntN.{ℤ}
-use Rattle.pages.specs.declared.Refusal.the-variants.{NoRawNumber}
-use Rattle.pages.specs.declared.Written.the-variants.{Refused}
-use Rattle.pages.specs.Raws.{writeRawsOf}
-use Rattle.pages.specs.Raws as pages
+use Rattle.refusals.specs.declared.Refusal.the-variants.{NoRawNumber}
+use Rattle.page_write.specs.declared.Written.the-variants.{Refused}
+use Rattle.page_write.specs.Raws.{writeRawsOf}
+use Rattle.page_write.specs.Raws as pages
 use Rattle.messages.specs.declared.Message.{Message}
 use Rattle.messages.specs.Write.{hasRaws, kindOf, padded, writeOf, bufferAfter}
 use borrow.Author.Needs.{needs}

@@ -11,9 +11,9 @@ use lib.Dec.{leb}
 use lib.ListN.{length, drop, set}
 use Rattle.signal.specs.Payload.{storedIn}
 use Rattle.signal.proofs.Totals.{stored-in}
-use Rattle.pages.specs.declared.Refusal.the-variants.{ShortBuffer}
-use Rattle.pages.specs.Table.{lengthOf, bigOf}
-use Rattle.pages.proofs.Rules.{short-length}
+use Rattle.refusals.specs.declared.Refusal.the-variants.{ShortBuffer}
+use Rattle.page_rows.specs.Table.{lengthOf, bigOf}
+use Rattle.page_rows.proofs.Rules.{short-length}
 use Rattle.post.specs.declared.Slot.{Slot}
 use Rattle.gateway.specs.Words.{refusalWord}
 use Rattle.gateway.specs.LookUp.{hasRoom, keptWord, timeLeft, bytesLeft}

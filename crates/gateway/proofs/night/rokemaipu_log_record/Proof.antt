@@ -8,7 +8,7 @@ use mathlib.Core.List.{List, _++_}
 use Prim.Native.Nat.{ℕ}
 use lib.Dec.{leb}
 use lib.ListN.{length, drop}
-use Rattle.pages.specs.declared.Refusal.the-variants.{ShortBuffer}
+use Rattle.refusals.specs.declared.Refusal.the-variants.{ShortBuffer}
 use Rattle.log.specs.declared.Found.{Found}
 use Rattle.log.specs.Reading.{foundAt}
 use Rattle.gateway.specs.Words.{refusalWord}

@@ -6,7 +6,7 @@ use Prim.Native.Nat.{ℕ, _-_, _≤_}
 use native.Mathlib.Omega.{arith}
 use lib.IntN.{ℤ, pos}
 use lib.ListN.{take, drop, replicate}
-use Rattle.pages.specs.Raws.{signalCount}
+use Rattle.page_rows.specs.Table.{signalCount}
 use Rattle.gateway.proofs.Copy.{copied-more}
 use Rattle.gateway.proofs.plain.load_raws.Statement.{statement}
 use Rattle.gateway.proofs.plain.load_raws.Tie as tie

@@ -8,10 +8,11 @@ use Prim.Native.Nat.{ℕ, _%_}
 use lib.Dec.{leb}
 use lib.IntN.{ℤ}
 use lib.ListN.{length, drop}
-use Rattle.pages.specs.declared.Refusal.the-variants.{ShortBuffer}
-use Rattle.pages.specs.declared.Judged.{Judged}
-use Rattle.pages.specs.Judge.{judgeOf}
-use Rattle.pages.specs.Raws.{signalCount, rawsOf}
+use Rattle.refusals.specs.declared.Refusal.the-variants.{ShortBuffer}
+use Rattle.page_read.specs.declared.Judged.{Judged}
+use Rattle.page_read.specs.Judge.{judgeOf}
+use Rattle.page_rows.specs.Table.{signalCount}
+use Rattle.page_write.specs.Raws.{rawsOf}
 use Rattle.gateway.specs.Words.{refusalWord}
 use Rattle.gateway.specs.Plain.{readAnswer, rawsLeft, readWord, rawsAfter}
 use Rattle.gateway.proofs.plain.rokemaipu_read.Statement.{statement}

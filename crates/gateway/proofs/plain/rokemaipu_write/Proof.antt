@@ -9,9 +9,10 @@ use Prim.Native.Nat.{ℕ, _≤_}
 use lib.Dec.{leb}
 use lib.IntN.{ℤ}
 use lib.ListN.{length, take}
-use Rattle.pages.specs.declared.Refusal.the-variants.{NoRawNumber}
-use Rattle.pages.specs.declared.Written.{Written}
-use Rattle.pages.specs.Raws.{signalCount, writeRawsOf, bufferAfter}
+use Rattle.refusals.specs.declared.Refusal.the-variants.{NoRawNumber}
+use Rattle.page_write.specs.declared.Written.{Written}
+use Rattle.page_rows.specs.Table.{signalCount}
+use Rattle.page_write.specs.Raws.{writeRawsOf, bufferAfter}
 use Rattle.gateway.specs.Words.{refusalWord}
 use Rattle.gateway.specs.Plain.{writtenWord, writeWord, bufferLeft}
 use Rattle.gateway.proofs.plain.rokemaipu_write.Statement.{statement}

@@ -8,7 +8,7 @@ use lib.IntN.{ℤ}
 use lib.ListN.{length, take, drop, length-set}
 use lib.Seq.{take-all}
 use borrow.Author.Needs.{needs}
-use Rattle.pages.specs.Raws.{signalCount}
+use Rattle.page_rows.specs.Table.{signalCount}
 use Rattle.gateway.proofs.Copy.{copied-more}
 use Rattle.gateway.proofs.plain.store_raws.Statement.{statement}
 use Rattle.gateway.proofs.plain.store_raws.Tie as tie

@@ -1,7 +1,7 @@
 -- `messages::take::one_raw` meets its contract. Assumes nothing.
 use mir.Facts.{toZ-ofZ}
 use borrow.Author.Needs.{needs}
-use Rattle.pages.specs.Raws.{pad}
+use Rattle.page_write.specs.Raws.{pad}
 use Rattle.messages.proofs.take.one_raw.Statement.{statement}
 use Rattle.messages.proofs.take.one_raw.Tie as tie
 

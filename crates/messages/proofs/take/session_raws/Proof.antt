@@ -1,7 +1,7 @@
 -- `messages::take::session_raws` meets its contract: each number is its label's. Assumes nothing.
 use mir.Facts.{toZ-ofZ}
 use borrow.Author.Needs.{needs, sfits-of}
-use Rattle.pages.specs.Raws.{pad}
+use Rattle.page_write.specs.Raws.{pad}
 use Rattle.messages.proofs.take.session_raws.Statement.{statement}
 use Rattle.messages.proofs.take.session_raws.Tie as tie
 

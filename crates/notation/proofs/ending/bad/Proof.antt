@@ -1,7 +1,7 @@
 -- `notation::ending::bad` meets its contract: the refusal's number, and then the byte.
 use mathlib.Core.Path.{ap}
 use mathlib.Core.List.{[], _∷_}
-use Rattle.pages.specs.Refusals.{numberOf}
+use Rattle.refusals.specs.Refusals.{numberOf}
 use Rattle.text.specs.Numbers.{numeral}
 use Rattle.notation.specs.Answers.{namedWords}
 use Rattle.notation.specs.Endings.{atSign, badName}
