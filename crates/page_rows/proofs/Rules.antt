@@ -139,6 +139,9 @@ row-kept i h = kept (getD rows i noRow) (every-at rowFine rows (table-parts .1) 
 pub row-fine : (i : ℕ) → i < rowCount → Fine (getD rows i noRow)
 row-fine i h = kept-fine (getD rows i noRow) (row-kept i h)
 
+pub fine-at : (i : ℕ) (r : Row) → i < rowCount → r ≡ getD rows i noRow → Fine r
+fine-at i r h e = subst Fine (sym e) (row-fine i h)
+
 -- a mask of k bits has labels below k only
 pub label-lt : (labels k x : ℕ) → labels < 2 ^ k → labelled labels x ≡ true → x < k
 label-lt labels k x h e = go (half-of k x)

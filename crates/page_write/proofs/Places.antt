@@ -9,13 +9,10 @@ use lib.IntN.{ℤ, pos}
 use lib.ListN.{getD, drop}
 use Rattle.signal.proofs.Complement.{half-of}
 use Rattle.page_rows.specs.declared.Row.{Row}
-use Rattle.page_rows.specs.Table.{rows, noRow, rowCount, block}
+use Rattle.page_rows.specs.Table.{rows, rowAt, rowCount, block}
 use Rattle.page_write.specs.Raws.{wholeAt, wholesOf, pad}
 use Rattle.page_rows.proofs.Rules.{kind-is, kind-between}
 use Rattle.page_rows.proofs.Walk.{block-in, block-out, block-end}
-
-abbrev pub rowAt : ℕ → Row
-rowAt i = getD rows i noRow
 
 -- the number at a place among those of the rows of kind k that stand together from row i on
 abbrev numberAt : ℕ → ℕ → ℕ → ℕ → ℤ

@@ -15,10 +15,10 @@ use Rattle.page_read.specs.declared.Judged.{Judged}
 use Rattle.page_read.specs.declared.Judged.the-variants.{Frame, Refused}
 use Rattle.refusals.specs.declared.Refusal.{Refusal}
 use Rattle.refusals.specs.declared.Refusal.the-variants.{NoSignal}
-use Rattle.page_rows.specs.Table.{isSignal}
+use Rattle.page_rows.specs.Table.{rows, firstAt, isSignal}
 use Rattle.page_read.specs.Judge.{judgeOf}
-use Rattle.page_read.specs.Steps.{signalFound}
 use Rattle.page_change.specs.Change.{changedRow, changedAt, changedIn, changeOf, bytesAfter}
+use Rattle.page_rows.proofs.Rules.{fine-at}
 use Rattle.page_rows.proofs.Firsts.{found-in}
 use Rattle.page_change.proofs.Stored.{Storing, storing}
 use Rattle.page_change.proofs.change.Statement.{statement}
@@ -36,7 +36,7 @@ read : (m : ℕ) (x : Bool) (bs : List ℕ) (s : ℕ) (z : ℤ) (j : Judged) →
 unfolding changeOf
 read m x bs s z j e = ap (changedIn s z) e
 
-sought : (m : ℕ) (x : Bool) (bs : List ℕ) (s : ℕ) (z : ℤ) (k n : ℕ) (f : Found) → judgeOf m x bs ≡ Frame k n → signalFound k s ≡ f
+sought : (m : ℕ) (x : Bool) (bs : List ℕ) (s : ℕ) (z : ℤ) (k n : ℕ) (f : Found) → judgeOf m x bs ≡ Frame k n → firstAt (isSignal k s) 0 rows ≡ f
     → changeOf m x bs s z ≡ changedAt k n z f
 sought m x bs s z k n f e g = read m x bs s z (Frame k n) e ∙ ap (changedAt k n z) g
 
@@ -99,19 +99,19 @@ returns-2 c =
 place : (c : tie.After-i) → ℕ
 place c = c .i .given .0 .0
 
-found : (c : tie.After-i) → (let f = c .before .before in signalFound (kind f) (start f .args .start) ≡ At (place c))
+found : (c : tie.After-i) → (let f = c .before .before in firstAt (isSignal (kind f) (start f .args .start)) 0 rows ≡ At (place c))
 unfolding start kind number place
 found c = sym (c .before .before .signal-at .ensures) ∙ c .i .given .1
 
-row-to-change-requires : tie.Need-row-to-change-requires
-unfolding start kind number place
-row-to-change-requires c κs =
-    let i = c .before in
-    let f = i .before .before in
-    found-in (isSignal (kind f) (start f .args .start)) (place i) (found i) .0
+row-at-requires : tie.Need-row-at-requires
+row-at-requires c κs = search needs
 
 change-row-requires : tie.Need-change-row-requires
-change-row-requires c κs = c .row-to-change .ensures .1
+unfolding start kind number place
+change-row-requires c κs =
+    let i = c .before .before in
+    let f = i .before .before in
+    fine-at _ _ (found-in (isSignal (kind f) (start f .args .start)) (place i) (found i) .0) (c .row-at .ensures)
 
 enum-known-changed : tie.Need-enum-known-changed
 enum-known-changed c = search needs
@@ -138,7 +138,7 @@ changed c =
     let s = asked c in
     let a = s .args in
     c .change-row .ensures
-    ∙ ap₂ (λ (q : Row) (z : ℤ). changedRow q (kind f) (number f) z) (r .row-to-change .ensures .0) (toZ-ofZ (s .fits .raw))
+    ∙ ap₂ (λ (q : Row) (z : ℤ). changedRow q (kind f) (number f) z) (r .row-at .ensures) (toZ-ofZ (s .fits .raw))
     ∙ sym (sought (a .id) (a .extended) (a .bytes .now) (a .start) (a .raw) (kind f) (number f) (At (place i)) (frame f) (found i))
 
 returns-3 : tie.Need-returns-3
@@ -154,7 +154,7 @@ bits-requires c κs = search needs
 stored : (c : tie.After-bits) → (
     let g = c .before .before .before in
     let d = g .before .before in
-    Storing (d .before .row-to-change .result) (asked d .args .bytes .now) (g .changed .given .0 .0) (g .changed .given .0 .1 .0) (c .bits .result))
+    Storing (d .before .row-at .result) (asked d .args .bytes .now) (g .changed .given .0 .0) (g .changed .given .0 .1 .0) (c .bits .result))
 unfolding start kind number place sought-at asked
 stored c =
     let g = c .before .before .before in
@@ -164,8 +164,8 @@ stored c =
     let f = sought-at d in
     let s = asked d in
     let a = s .args in
-    storing (a .id) (a .extended) (a .bytes .now) (a .start) (a .raw) (kind f) (number f) (place i) _ _ (c .bits .result) (r .row-to-change .result)
-    (frame f) (found i) (r .row-to-change .ensures .0) (sym (changed d) ∙ g .changed .given .1) (s .fits .raw) (c .bits .ensures)
+    storing (a .id) (a .extended) (a .bytes .now) (a .start) (a .raw) (kind f) (number f) (place i) _ _ (c .bits .result) (r .row-at .result)
+    (frame f) (found i) (r .row-at .ensures) (sym (changed d) ∙ g .changed .given .1) (s .fits .raw) (c .bits .ensures)
 
 store-changed-requires : tie.Need-store-changed-requires
 unfolding start kind number place sought-at asked
@@ -199,7 +199,7 @@ change-spec =
     enum-told-2
     same-length-2
     returns-2
-    row-to-change-requires
+    row-at-requires
     change-row-requires
     enum-known-changed
     enum-told-3

@@ -10,7 +10,7 @@ use Rattle.page_read.specs.declared.Judged.the-variants.{Frame, Refused}
 use Rattle.refusals.specs.declared.Refusal.the-variants.{NoLabel}
 use Rattle.page_rows.specs.Table.{takes}
 use Rattle.page_write.specs.Raws.{rowTakes, putRaw}
-use Rattle.page_write.proofs.AtRow.{fits-row, bits-row}
+use Rattle.page_write.proofs.AtRow.{fits-row, bits-row, put-raw-row}
 use Rattle.page_change.proofs.change_row.Statement.{statement}
 use Rattle.page_change.proofs.change_row.Tie as tie
 
@@ -57,19 +57,18 @@ held c =
     let t = c .before in
     rw (fitting (t .before .before), labelled t, not-false (t .label-holds .result) (c .if2 .left))
 
-put-raw-requires : tie.Need-put-raw-requires
-put-raw-requires c κs =
-    let s = c .before .before .before .before .before in
-    (s .pre, ap (rowTakes (s .args .r)) (toZ-ofZ (s .fits .z)) ∙ held c)
+put-requires : tie.Need-put-requires
+put-requires c κs = search needs
 
 returns-3 : tie.Need-returns-3
 returns-3 c =
     let q = c .before in
     let t = q .before in
-    let s = t .before .before .before .before in
+    let b = t .before in
+    let s = b .before .before .before in
     let a = s .args in
-    rw (fitting (t .before .before), labelled t, not-false (t .label-holds .result) (q .if2 .left))
-    (ap (Frame (a .kind)) (c .put-raw .ensures ∙ ap (putRaw (a .r) (a .n)) (toZ-ofZ (s .fits .z))))
+    rw (fitting (b .before), labelled t, not-false (t .label-holds .result) (q .if2 .left))
+    (ap (Frame (a .kind)) (c .put .ensures ∙ put-raw-row (a .r) (s .pre) (a .z) (s .fits .z) (a .n) (b .bits .result) (b .bits .ensures) (held q)))
 
 pub change-row-spec : {M : Type 1} → statement M
 change-row-spec =
@@ -81,5 +80,5 @@ change-row-spec =
     label-holds-requires
     start-bit-requires
     returns-2
-    put-raw-requires
+    put-requires
     returns-3)

@@ -82,7 +82,7 @@ returns c =
     (ap (λ (l : List Row). leb 1 (length l) && allTake l (a .raws)) (none-kind (a .kind) (sym (f .first-of-kind .ensures) ∙ c .enum-told .given .1)))
 
 row-at-requires : tie.Need-row-at-requires
-row-at-requires c κs = first-kind _ _ (sym (c .before .before .before .first-of-kind .ensures) ∙ c .before .i .given .1) .0
+row-at-requires c κs = search needs
 
 pack-requires : tie.Need-pack-requires
 pack-requires c κs = search needs
@@ -107,7 +107,7 @@ known c =
     let r = c .before in
     let i = r .before .before in
     let k = first-kind (start c .args .kind) _ (sym (i .before .before .first-of-kind .ensures) ∙ i .i .given .1) in
-    let head = r .row-at .ensures .0 ∙ k .2 in
+    let head = r .row-at .ensures ∙ k .2 in
     (c .pack .ensures ∙ ap (λ (l : List Row). packOf l (start c .args .raws)) (k .1), k .3, ap (λ (x : Row). x .id) head, ap (λ (x : Row). x .bytes) head, ap (λ (x : Row). x .big) head)
 
 returns-2 : tie.Need-returns-2

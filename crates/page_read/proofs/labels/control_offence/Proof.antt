@@ -1,8 +1,6 @@
 -- `page_read::labels::control_offence` meets its contract: the rows with labels of the message, one behind the other, since a row without labels takes
 -- every number.
 use borrow.Author.Needs.{needs}
-use Rattle.page_rows.specs.Charger.{chargerRows}
-use Rattle.page_rows.specs.Safety.{safetyRows}
 use Rattle.page_rows.specs.Table.{rows, ofKind}
 use Rattle.page_read.specs.Steps.{offenceOf}
 use Rattle.page_read.proofs.labels.control_offence.Statement.{statement}
@@ -21,7 +19,7 @@ offence-at-requires-4 : tie.Need-offence-at-requires-4
 offence-at-requires-4 c κs = search needs
 
 returns : tie.Need-returns
-unfolding rows chargerRows safetyRows ofKind offenceOf
+unfolding rows ofKind offenceOf
 returns c =
     let p = c .offence-at4 .ensures in
     let q = c .before .offence-at3 .ensures in

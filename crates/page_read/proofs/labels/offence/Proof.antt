@@ -3,8 +3,6 @@ use mathlib.Core.Path.{_≡_, sym, ap, _∙_}
 use Prim.Native.Nat.{ℕ, _≤_, _<_}
 use native.Mathlib.Omega.{arith}
 use borrow.Author.Needs.{needs}
-use Rattle.page_rows.specs.Charger.{chargerRows}
-use Rattle.page_rows.specs.Safety.{safetyRows}
 use Rattle.page_rows.specs.Table.{rows, rowsOf, ofKind}
 use Rattle.page_read.specs.Steps.{offenceOf}
 use Rattle.page_rows.proofs.Keys.{past-keys}
@@ -39,7 +37,7 @@ offence-at-requires-5 : tie.Need-offence-at-requires-5
 offence-at-requires-5 c κs = search needs
 
 pub offence-spec : {M : Type 1} → statement M
-unfolding rows chargerRows safetyRows ofKind offenceOf
+unfolding rows ofKind offenceOf
 offence-spec =
     tie.close
     (tie.spec

@@ -1,8 +1,6 @@
 -- `page_read::labels::session_offence` meets its contract: the rows with labels of the message, one behind the other, since a row without labels takes
 -- every number.
 use borrow.Author.Needs.{needs}
-use Rattle.page_rows.specs.Charger.{chargerRows}
-use Rattle.page_rows.specs.Safety.{safetyRows}
 use Rattle.page_rows.specs.Table.{rows, ofKind}
 use Rattle.page_read.specs.Steps.{offenceOf}
 use Rattle.page_read.proofs.labels.session_offence.Statement.{statement}
@@ -15,7 +13,7 @@ offence-at-requires-2 : tie.Need-offence-at-requires-2
 offence-at-requires-2 c κs = search needs
 
 returns : tie.Need-returns
-unfolding rows chargerRows safetyRows ofKind offenceOf
+unfolding rows ofKind offenceOf
 returns c =
     let p = c .offence-at2 .ensures in
     let q = c .before .offence-at .ensures in

@@ -20,6 +20,7 @@ use Rattle.page_rows.specs.Table.{rows, rowCount, block}
 use Rattle.page_rows.specs.Table.{signalCount}
 use Rattle.page_write.specs.Raws.{rowTakes, putRaw, allTake, packedOn}
 use Rattle.page_write.specs.Steps.{packOf}
+use Rattle.page_rows.proofs.Rules.{fine-at}
 use Rattle.page_rows.proofs.Walk.{block-in, block-out, block-end}
 use Rattle.page_write.proofs.signals.pack.Statement.{statement}
 use Rattle.page_write.proofs.signals.pack.Tie as tie
@@ -59,8 +60,8 @@ rows-holds : tie.Need-rows-holds Inv-rows μ-rows
 unfolding packFrom packOf
 rows-holds c = refl
 
-row-to-pack-requires : tie.Need-row-to-pack-requires Inv-rows μ-rows
-row-to-pack-requires c κs = omega arith
+row-at-requires : tie.Need-row-at-requires Inv-rows μ-rows
+row-at-requires c κs = search needs
 
 mul-z : tie.Need-mul-z Inv-rows μ-rows
 mul-z c = omega arith
@@ -69,14 +70,14 @@ array-copy-out-z : tie.Need-array-copy-out-z Inv-rows μ-rows
 array-copy-out-z c = omega arith
 
 row-takes-requires : tie.Need-row-takes-requires Inv-rows μ-rows
-row-takes-requires c κs = c .before .before .before .before .row-to-pack .ensures .1
+row-takes-requires c κs = fine-at _ _ (omega arith) (c .before .before .before .before .row-at .ensures)
 
 -- a turn's row and number, before those that are left
 step : (c : tie.After-z Inv-rows μ-rows) → (
     let k = c .before .before .before .before in
     let a = k .before .before in
     let g = a .before .args in
-    packFrom (a .rows .n) (k .row-to-pack .result ∷ block (g .kind) (drop (a .rows .i + 1) rows))
+    packFrom (a .rows .n) (k .row-at .result ∷ block (g .kind) (drop (a .rows .i + 1) rows))
     (getD (g .t3) (a .rows .j) (pos 0) ∷ drop (a .rows .j + 1) (g .t3)) ≡ packOf (block (g .kind) (drop (g .at) rows)) (g .t3))
 step c =
     let q = c .before .before in
@@ -86,23 +87,23 @@ step c =
     let room : a .rows .j < length (g .t3) = omega (arith, full (a .before), c .before .if3 .left) in
     sym
     (ap₂ (packFrom (a .rows .n))
-    (block-in (g .kind) (a .rows .i) (k .row-to-pack .result) (omega arith) (k .row-to-pack .ensures .0) (q .if2 .left))
+    (block-in (g .kind) (a .rows .i) (k .row-at .result) (omega arith) (k .row-at .ensures) (q .if2 .left))
     (rw (add-one (a .rows .j)) (drop-cons (g .t3) (a .rows .j) (pos 0) room)))
     ∙ a .rows .inv
 
 told : (c : tie.After-row-takes Inv-rows μ-rows) → (
     let k = c .before .before .before .before .before in
     let a = k .before .before in
-    rowTakes (k .row-to-pack .result) (getD (a .before .args .t3) (a .rows .j) (pos 0)) ≡ c .row-takes .result)
+    rowTakes (k .row-at .result) (getD (a .before .args .t3) (a .rows .j) (pos 0)) ≡ c .row-takes .result)
 told c =
     let k = c .before .before .before .before .before in
-    sym (c .row-takes .ensures ∙ ap (rowTakes (k .row-to-pack .result)) (toZ-ofZ {w = w64} (record { sfits = c .before .z .given })))
+    sym (c .row-takes .ensures ∙ ap (rowTakes (k .row-at .result)) (toZ-ofZ {w = w64} (record { sfits = c .before .z .given })))
 
 put-raw-requires : tie.Need-put-raw-requires Inv-rows μ-rows
 put-raw-requires c κs =
     let t = c .before in
     let k = t .before .before .before .before .before in
-    (k .row-to-pack .ensures .1, sym (t .row-takes .ensures) ∙ not-false (t .row-takes .result) (c .if4 .left))
+    (fine-at _ _ (omega arith) (k .row-at .ensures), sym (t .row-takes .ensures) ∙ not-false (t .row-takes .result) (c .if4 .left))
 
 add-j : tie.Need-add-j Inv-rows μ-rows
 add-j c = omega arith
@@ -119,7 +120,7 @@ rows-again c =
     let k = t .before .before .before .before .before in
     let a = k .before .before in
     let g = a .before .args in
-    let r = k .row-to-pack .result in
+    let r = k .row-at .result in
     let z = getD (g .t3) (a .rows .j) (pos 0) in
     let rs = block (g .kind) (drop (a .rows .i + 1) rows) in
     let zs = drop (a .rows .j + 1) (g .t3) in
@@ -142,7 +143,7 @@ returns-2 c =
     let k = c .before .before in
     let a = k .before .before in
     let g = a .before .args in
-    let e = block-out (g .kind) (a .rows .i) (k .row-to-pack .result) (omega arith) (k .row-to-pack .ensures .0) (c .if2 .taken) in
+    let e = block-out (g .kind) (a .rows .i) (k .row-at .result) (omega arith) (k .row-at .ensures) (c .if2 .taken) in
     sym
     (ap (λ (l : List Row). packFrom (a .rows .n) l (drop (a .rows .j) (g .t3))) e ∙ from-none (a .rows .n) (drop (a .rows .j) (g .t3)))
     ∙ a .rows .inv
@@ -156,9 +157,9 @@ returns-3 c =
     let over : length (g .t3) ≤ a .rows .j = omega (arith, full (a .before), c .if3 .taken) in
     sym
     (ap₂ (packFrom (a .rows .n))
-    (block-in (g .kind) (a .rows .i) (k .row-to-pack .result) (omega arith) (k .row-to-pack .ensures .0) (q .if2 .left))
+    (block-in (g .kind) (a .rows .i) (k .row-at .result) (omega arith) (k .row-at .ensures) (q .if2 .left))
     (drop-of-length-le (g .t3) over)
-    ∙ from-short (a .rows .n) (k .row-to-pack .result) (block (g .kind) (drop (a .rows .i + 1) rows)))
+    ∙ from-short (a .rows .n) (k .row-at .result) (block (g .kind) (drop (a .rows .i + 1) rows)))
     ∙ a .rows .inv
 
 returns-4 : tie.Need-returns-4 Inv-rows μ-rows
@@ -168,7 +169,7 @@ returns-4 c =
     let a = k .before .before in
     let g = a .before .args in
     sym
-    (from-refused (a .rows .n) (k .row-to-pack .result) (block (g .kind) (drop (a .rows .i + 1) rows)) (getD (g .t3) (a .rows .j) (pos 0))
+    (from-refused (a .rows .n) (k .row-at .result) (block (g .kind) (drop (a .rows .i + 1) rows)) (getD (g .t3) (a .rows .j) (pos 0))
     (drop (a .rows .j + 1) (g .t3)) (told t ∙ not-true (t .row-takes .result) (c .if4 .taken)))
     ∙ step (t .before)
 
@@ -179,7 +180,7 @@ pack-spec =
     Inv-rows
     μ-rows
     rows-holds
-    row-to-pack-requires
+    row-at-requires
     mul-z
     array-copy-out-z
     row-takes-requires

@@ -6,6 +6,7 @@ use mir.Facts.{toZ-ofZ}
 use borrow.Author.Needs.{needs}
 use Rattle.page_rows.specs.declared.Row.{Row}
 use Rattle.page_write.specs.Raws.{wholeAt}
+use Rattle.page_rows.proofs.Rules.{fine-at}
 use Rattle.page_write.proofs.Places.{number-in, number-out}
 use Rattle.page_write.proofs.signals.raw_after.Statement.{statement}
 use Rattle.page_write.proofs.signals.raw_after.Tie as tie
@@ -25,17 +26,17 @@ returns-2 : tie.Need-returns-2
 returns-2 c =
     let k = c .before .before in
     let g = k .before .before .args in
-    sym (number-out (g .n) (g .kind) (g .place) (g .at) (inr (λ e. c .if2 .taken (ap (λ (r : Row). r .kind) (k .row-at .ensures .0) ∙ e))))
+    sym (number-out (g .n) (g .kind) (g .place) (g .at) (inr (λ e. c .if2 .taken (ap (λ (r : Row). r .kind) (k .row-at .ensures) ∙ e))))
 
 signal-whole-requires : tie.Need-signal-whole-requires
-signal-whole-requires c κs = search needs
+signal-whole-requires c κs = let k = c .before .before in fine-at _ _ (k .before .if1 .left) (k .row-at .ensures)
 
 returns-3 : tie.Need-returns-3
 returns-3 c =
     let q = c .before in
     let k = q .before .before in
     let g = k .before .before .args in
-    let e = k .row-at .ensures .0 in
+    let e = k .row-at .ensures in
     toZ-ofZ {w = w64} (record { sfits = c .signal-whole .ok })
     ∙ c .signal-whole .ensures
     ∙ ap (wholeAt (g .n)) e
