@@ -8,7 +8,7 @@ use page_read::judge;
 use page_rows::Found;
 use page_rows::Row;
 use page_rows::label_holds;
-use page_rows::table::row_at;
+use page_rows::table::row_to_change;
 use page_rows::table::signal_at;
 use refusals::Refusal;
 use whole::store_changed;
@@ -51,7 +51,7 @@ pub fn change(id: u32, extended: bool, bytes: &mut [u8], start: u32, raw: i64) -
     let Found::At(i) = signal_at(kind, start) else {
         return Judged::Refused(Refusal::NoSignal);
     };
-    let r = row_at(i);
+    let r = row_to_change(i);
     let changed = change_row(r, kind, n, raw);
     let Judged::Frame(_, m) = changed else {
         return changed;

@@ -13,7 +13,7 @@ use page_rows::Row;
 use page_rows::label_holds;
 use page_rows::row_of;
 use page_rows::table::ROW_COUNT;
-use page_rows::table::row_at;
+use page_rows::table::row_to_sift;
 use refusals::Refusal;
 
 // The start as refusal 5 carries it: no signal of 8 bytes starts above bit 63.
@@ -57,7 +57,7 @@ fn sifted(at: usize, kind: usize, n: u64) -> Sifted
                 rest,
             };
         }
-        let r = row_at(i);
+        let r = row_to_sift(i);
         if r.kind != kind {
             break 'rows Sifted {
                 offence: Offence::Nothing,

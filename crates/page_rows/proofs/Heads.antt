@@ -17,8 +17,8 @@ use Rattle.page_rows.specs.declared.Found.{Found}
 use Rattle.page_rows.specs.declared.Found.the-variants.{At, Nothing}
 use Rattle.page_rows.specs.declared.FoundMessage.{FoundMessage}
 use Rattle.page_rows.specs.declared.FoundMessage.the-variants as message
-use Rattle.page_rows.specs.Messages.{kindCount, messages, noMessage, messageOf, same, named}
-use Rattle.page_rows.specs.Table.{rows, noRow, rowAt, rowCount, hasKind, hasId, rowsOf, headRow, firstAt, withMessage, identifierOf, extendedOf, lengthOf, bigOf}
+use Rattle.page_rows.specs.Messages.{kindCount, messages, noMessage, messageOf, same, keyOf}
+use Rattle.page_rows.specs.Table.{rows, noRow, rowAt, rowCount, hasKind, hasId, rowsOf, headRow, firstAt, kindFound, withMessage, identifierOf, extendedOf, lengthOf, bigOf}
 use Rattle.page_rows.specs.Rules.{every}
 use Rattle.page_rows.proofs.Rules.{both-true, same-true, not-both, rows-length, every-at, every-so, id-true}
 use Rattle.page_rows.proofs.Firsts.{found-in, first-kind, none-kind, id-kind, known}
@@ -120,33 +120,64 @@ says k = go (half-of kindCount k)
 
 -- ---- an identifier in its form
 
-named-true : (m : ℕ) (x : Bool) (k : ℕ) → named m x (messageOf k) ≡ true → (messageOf k .0 ≡ m) × (x ≡ messageOf k .1)
-named-true m x k e =
-    let p = both-true (eqb (messageOf k .0) m) (same x (messageOf k .1)) e in
-    (eqb-true (messageOf k .0) m (p .0), same-true x (messageOf k .1) (p .1))
+pub key-same : (i j : ℕ) (x y : Bool) → keyOf i x ≡ keyOf j y → (i ≡ j) × (x ≡ y)
+key-same i j true true e = (omega arith, refl)
+key-same i j false false e = (omega arith, refl)
+key-same i j true false e = absurd (omega arith)
+key-same i j false true e = absurd (omega arith)
 
--- it is that of kind k
-pub id-found : (m : ℕ) (x : Bool) (k : ℕ) → k < kindCount → named m x (messageOf k) ≡ true
-    → message.At k (messageOf k .4) (messageOf k .2) (messageOf k .3) ≡ withMessage (firstAt (hasId m x) 0 rows)
-id-found m x k h e =
+-- that of kind k
+abbrev kindKey : ℕ → ℕ
+kindKey k = keyOf (messageOf k .0) (messageOf k .1)
+
+-- it is that of kind k, whose first row is the first with the identifier
+id-place : (m : ℕ) (x : Bool) (k : ℕ) → k < kindCount → kindKey k ≡ keyOf m x
+    → (firstAt (hasId m x) 0 rows ≡ At (messageOf k .4)) × (rowAt (messageOf k .4) .kind ≡ k)
+id-place m x k h e =
     let p = first-place k h in
     let n = known k (first-kind k (messageOf k .4) p .3) in
     let i = n .0 in
-    let t = named-true m x k e in
+    let t = key-same (messageOf k .0) m (messageOf k .1) x e in
     let s = says k in
     let place : At (messageOf k .4) ≡ At i = sym p ∙ subst (λ (j : ℕ). firstAt (hasKind j) 0 rows ≡ At i) (n .2) (id-kind (identifierOf k) (extendedOf k) i (n .1)) in
     let at : messageOf k .4 ≡ i = cc in
     let found : firstAt (hasId m x) 0 rows ≡ At i
-    = ap₂ (λ (j : ℕ) (y : Bool). firstAt (hasId j y) 0 rows) (sym (t .0) ∙ s .0) (t .1 ∙ s .1) ∙ n .1 in
-    ap₂ (λ (a b : ℕ). message.At a b (messageOf k .2) (messageOf k .3)) (sym (n .2)) at
-    ∙ ap₂ (λ (a : ℕ) (b : Bool). message.At (rowAt i .kind) i a b) (s .2 ∙ sym (n .3)) (s .3 ∙ sym (n .4))
-    ∙ ap withMessage (sym found)
+    = ap₂ (λ (j : ℕ) (y : Bool). firstAt (hasId j y) 0 rows) (sym (t .0) ∙ s .0) (sym (t .1) ∙ s .1) ∙ n .1 in
+    (found ∙ ap At (sym at), ap (λ (j : ℕ). rowAt j .kind) at ∙ n .2)
+
+pub id-found : (m : ℕ) (x : Bool) (k : ℕ) → k < kindCount → kindKey k ≡ keyOf m x → At k ≡ kindFound (firstAt (hasId m x) 0 rows)
+id-found m x k h e = let p = id-place m x k h e in sym (ap kindFound (p .0) ∙ ap At (p .1))
 
 -- it is that of no kind
-pub id-none : (m : ℕ) (x : Bool) → ((k : ℕ) → k < kindCount → named m x (messageOf k) ≡ false) → message.Nothing ≡ withMessage (firstAt (hasId m x) 0 rows)
-id-none m x n = ap withMessage (sym (none-found (hasId m x) 0 rows (every-so agrees (λ r. not (hasId m x r)) one rows rows-agree)))
+pub id-none : (m : ℕ) (x : Bool) → ((k : ℕ) → k < kindCount → kindKey k ≡ keyOf m x → ⊥) → Nothing ≡ kindFound (firstAt (hasId m x) 0 rows)
+id-none m x n = ap kindFound (sym (none-found (hasId m x) 0 rows (every-so agrees (λ r. not (hasId m x r)) one rows rows-agree)))
   where
     one : (r : Row) → agrees r ≡ true → not (hasId m x r) ≡ true
-    one r e =
-        let a = agreed r e in
-        ap not (ap₂ (λ (i : ℕ) (y : Bool). eqb i m && same x y) (sym (a .id)) (sym (a .extended)) ∙ n (r .kind) (a .kind))
+    one r e = go (hasId m x r) refl
+      where
+        go : (b : Bool) → hasId m x r ≡ b → not b ≡ true
+        go true t =
+            let a = agreed r e in
+            let w = id-true m x r t in
+            absurd (n (r .kind) (a .kind) (ap₂ keyOf (a .id ∙ w .0) (a .extended ∙ sym (w .1))))
+        go false t = refl
+
+-- the message of a kind that was found is that of the row
+pub kind-message : (k : ℕ) (f : Found) → kindFound f ≡ At k → ((i : ℕ) → f ≡ At i → firstAt (hasKind (rowAt i .kind)) 0 rows ≡ At i)
+    → message.At k (messageOf k .4) (messageOf k .2) (messageOf k .3) ≡ withMessage f
+kind-message k (At i) e first =
+    let q : rowAt i .kind ≡ k = cc in
+    let p : firstAt (hasKind k) 0 rows ≡ At i = subst (λ (j : ℕ). firstAt (hasKind j) 0 rows ≡ At i) q (first i refl) in
+    let f = found-in (hasKind k) i p in
+    let a = agreed (rowAt i) (every-at agrees rows rows-agree i (rw rows-length (f .0))) in
+    let below : k < kindCount = subst (λ (j : ℕ). j < kindCount) q (a .kind) in
+    let place : At (messageOf k .4) ≡ At i = sym (first-place k below) ∙ p in
+    let at : messageOf k .4 ≡ i = cc in
+    ap₂ (λ (u v : ℕ). message.At u v (messageOf k .2) (messageOf k .3)) (sym q) at
+    ∙ ap₂ (λ (u : ℕ) (v : Bool). message.At (rowAt i .kind) i u v)
+    (ap (λ (j : ℕ). messageOf j .2) (sym q) ∙ a .bytes) (ap (λ (j : ℕ). messageOf j .3) (sym q) ∙ a .big)
+kind-message k Nothing e first = absurd (let z : _≡_ {A = ℕ} 0 1 = cc in omega arith)
+
+pub kind-nothing : (f : Found) → kindFound f ≡ Nothing → message.Nothing ≡ withMessage f
+kind-nothing (At i) e = absurd (let z : _≡_ {A = ℕ} 0 1 = cc in omega arith)
+kind-nothing Nothing e = refl

@@ -1,9 +1,8 @@
 -- The messages, by their kinds: 0 is the first. Identifier, its form (extended or not), bytes, byte order (byte 0 is highest or not), and the place of the
 -- message's first row in the table.
-use Prim.Native.Nat.{ℕ}
-use mathlib.Core.Bool.{Bool, true, false, cond, not, _&&_}
+use Prim.Native.Nat.{ℕ, _+_, _*_}
+use mathlib.Core.Bool.{Bool, true, false, cond, not}
 use mathlib.Core.List.{List, [], _∷_}
-use lib.Dec.{eqb}
 use lib.ListN.{getD}
 use Rattle.page_rows.specs.declared.Message.{Message}
 
@@ -39,6 +38,6 @@ messageOf k = getD messages k noMessage
 abbrev pub same : Bool → Bool → Bool
 same x y = cond x y (not y)
 
--- the message's identifier, in its form
-abbrev pub named : ℕ → Bool → Message → Bool
-named i x m = eqb (m .0) i && same x (m .1)
+-- an identifier and its form as one number
+abbrev pub keyOf : ℕ → Bool → ℕ
+keyOf i x = 2 * i + cond x 1 0

@@ -72,9 +72,14 @@ unfoldable pub firstAt : (Row → Bool) → ℕ → List Row → Found
 firstAt p i [] = Nothing
 firstAt p i (r ∷ rs) = cond (p r) (At i) (firstAt p (suc i) rs)
 
+-- the kind of the row at a place
+abbrev pub kindFound : Found → Found
+kindFound (At i) = At (rowAt i .kind)
+kindFound Nothing = Nothing
+
 -- the message of the row at a place: its kind, that place, its bytes and its byte order
 abbrev pub withMessage : Found → FoundMessage
-withMessage (At i) = message.At (getD rows i noRow .kind) i (getD rows i noRow .bytes) (getD rows i noRow .big)
+withMessage (At i) = message.At (rowAt i .kind) i (rowAt i .bytes) (rowAt i .big)
 withMessage Nothing = message.Nothing
 
 -- what a kind's first row says of the message; 0 and false for a number that is no kind

@@ -1,8 +1,9 @@
 // The messages, by their kinds: what every row of a message says of it. A search by identifier goes through them, and a row names its own by its kind.
 ghost use mathlib.Core.Path.{_≡_};
 ghost use lib.ListN.{getD};
-ghost use Rattle.page_rows.specs.Messages.{messages, noMessage, named};
-ghost use Rattle.page_rows.specs.Table.{rows, firstAt, hasId, withMessage};
+ghost use Rattle.page_rows.specs.Messages.{messages, noMessage, keyOf};
+ghost use Rattle.page_rows.specs.Table.{rows, firstAt, hasId, kindFound, withMessage};
+use crate::Found;
 use crate::FoundMessage;
 use crate::Message;
 
@@ -73,33 +74,42 @@ pub fn message_at(kind: usize) -> Message
     }
 }
 
-// Whether the identifier is the message's, in its form.
-fn is_named(m: Message, id: u32, extended: bool) -> bool
-    ensures { λ r. ⌜ r ≡ named id extended m ⌝ }
+// An identifier and its form as one number, so that the compiler makes one jump by it.
+fn key(id: u32, extended: bool) -> u64
+    ensures { λ r. ⌜ r ≡ keyOf id extended ⌝ }
 {
-    if m.0 != id {
-        return false;
-    }
     if extended {
-        return m.1;
+        return 2 * (id as u64) + 1;
     }
-    !m.1
+    2 * (id as u64)
 }
 
-// The message with an identifier of this form. The array is copied once and searched in a loop, which the compiler unrolls to a jump by identifier.
-pub fn message_with_id(id: u32, extended: bool) -> FoundMessage
-    ensures { λ r. ⌜ r ≡ withMessage (firstAt (hasId id extended) 0 rows) ⌝ }
+// The kind of the message with an identifier of this form. The array is copied once and searched in a loop, which the compiler unrolls to a jump.
+fn kind_with_id(id: u32, extended: bool) -> Found
+    ensures { λ r. ⌜ r ≡ kindFound (firstAt (hasId id extended) 0 rows) ⌝ }
 {
+    let wanted = key(id, extended);
     let messages = MESSAGES;
     let mut k: usize = 0;
     'messages: loop {
         if KIND_COUNT <= k {
-            break 'messages FoundMessage::Nothing;
+            break 'messages Found::Nothing;
         }
         let m = messages[k];
-        if is_named(m, id, extended) {
-            break 'messages FoundMessage::At(k, m.4, m.2, m.3);
+        if key(m.0, m.1) == wanted {
+            break 'messages Found::At(k);
         }
         k += 1;
     }
+}
+
+// The message with an identifier of this form.
+pub fn message_with_id(id: u32, extended: bool) -> FoundMessage
+    ensures { λ r. ⌜ r ≡ withMessage (firstAt (hasId id extended) 0 rows) ⌝ }
+{
+    let Found::At(k) = kind_with_id(id, extended) else {
+        return FoundMessage::Nothing;
+    };
+    let m = message_at(k);
+    FoundMessage::At(k, m.4, m.2, m.3)
 }

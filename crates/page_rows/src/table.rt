@@ -24,6 +24,57 @@ pub fn row_at(i: usize) -> Row
     row_of(safety::line_at(i))
 }
 
+// `row_at` again, for the loops that sift, unpack and seek and for the row that is changed: the compiler builds a function with a single call into its caller
+// whatever its size, and of one with many it makes a call for each row, by which reading a frame of 000 took 44 ns instead of 30, one of 004 54 instead of 41,
+// and changing a signal 30 instead of 23. Writing loses nothing by the call.
+pub fn row_to_sift(i: usize) -> Row
+    ensures { λ r. ⌜ r ≡ getD rows i noRow ⌝ }
+{
+    if ROW_COUNT <= i {
+        return NO_ROW;
+    }
+    if i < charger::END {
+        return row_of(charger::line_at(i));
+    }
+    row_of(safety::line_at(i))
+}
+
+pub fn row_to_unpack(i: usize) -> Row
+    ensures { λ r. ⌜ r ≡ getD rows i noRow ⌝ }
+{
+    if ROW_COUNT <= i {
+        return NO_ROW;
+    }
+    if i < charger::END {
+        return row_of(charger::line_at(i));
+    }
+    row_of(safety::line_at(i))
+}
+
+pub fn row_to_seek(i: usize) -> Row
+    ensures { λ r. ⌜ r ≡ getD rows i noRow ⌝ }
+{
+    if ROW_COUNT <= i {
+        return NO_ROW;
+    }
+    if i < charger::END {
+        return row_of(charger::line_at(i));
+    }
+    row_of(safety::line_at(i))
+}
+
+pub fn row_to_change(i: usize) -> Row
+    ensures { λ r. ⌜ r ≡ getD rows i noRow ⌝ }
+{
+    if ROW_COUNT <= i {
+        return NO_ROW;
+    }
+    if i < charger::END {
+        return row_of(charger::line_at(i));
+    }
+    row_of(safety::line_at(i))
+}
+
 pub fn first_of_kind(kind: usize) -> Found
     ensures { λ r. ⌜ r ≡ firstAt (hasKind kind) 0 rows ⌝ }
 {
@@ -45,7 +96,7 @@ pub fn signal_at(kind: usize, start: u32) -> Found
         if ROW_COUNT <= i {
             break 'rows Found::Nothing;
         }
-        let r = row_at(i);
+        let r = row_to_seek(i);
         if r.kind != kind {
             break 'rows Found::Nothing;
         }

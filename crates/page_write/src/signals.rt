@@ -12,6 +12,7 @@ use page_rows::Row;
 use page_rows::label_holds;
 use page_rows::table::ROW_COUNT;
 use page_rows::table::row_at;
+use page_rows::table::row_to_unpack;
 
 fn signal_whole(r: Row, n: u64) -> i64
     requires { ⌜ Fine r ⌝ }
@@ -33,7 +34,7 @@ pub fn unpack(at: usize, kind: usize, n: u64) -> [i64; 16]
         if 16 <= j {
             break 'rows raws;
         }
-        let r = row_at(i);
+        let r = row_to_unpack(i);
         if r.kind != kind {
             break 'rows raws;
         }

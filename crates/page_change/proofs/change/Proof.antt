@@ -103,15 +103,15 @@ found : (c : tie.After-i) → (let f = c .before .before in firstAt (isSignal (k
 unfolding start kind number place
 found c = sym (c .before .before .signal-at .ensures) ∙ c .i .given .1
 
-row-at-requires : tie.Need-row-at-requires
-row-at-requires c κs = search needs
+row-to-change-requires : tie.Need-row-to-change-requires
+row-to-change-requires c κs = search needs
 
 change-row-requires : tie.Need-change-row-requires
 unfolding start kind number place
 change-row-requires c κs =
     let i = c .before .before in
     let f = i .before .before in
-    fine-at _ _ (found-in (isSignal (kind f) (start f .args .start)) (place i) (found i) .0) (c .row-at .ensures)
+    fine-at _ _ (found-in (isSignal (kind f) (start f .args .start)) (place i) (found i) .0) (c .row-to-change .ensures)
 
 enum-known-changed : tie.Need-enum-known-changed
 enum-known-changed c = search needs
@@ -138,7 +138,7 @@ changed c =
     let s = asked c in
     let a = s .args in
     c .change-row .ensures
-    ∙ ap₂ (λ (q : Row) (z : ℤ). changedRow q (kind f) (number f) z) (r .row-at .ensures) (toZ-ofZ (s .fits .raw))
+    ∙ ap₂ (λ (q : Row) (z : ℤ). changedRow q (kind f) (number f) z) (r .row-to-change .ensures) (toZ-ofZ (s .fits .raw))
     ∙ sym (sought (a .id) (a .extended) (a .bytes .now) (a .start) (a .raw) (kind f) (number f) (At (place i)) (frame f) (found i))
 
 returns-3 : tie.Need-returns-3
@@ -154,7 +154,7 @@ bits-requires c κs = search needs
 stored : (c : tie.After-bits) → (
     let g = c .before .before .before in
     let d = g .before .before in
-    Storing (d .before .row-at .result) (asked d .args .bytes .now) (g .changed .given .0 .0) (g .changed .given .0 .1 .0) (c .bits .result))
+    Storing (d .before .row-to-change .result) (asked d .args .bytes .now) (g .changed .given .0 .0) (g .changed .given .0 .1 .0) (c .bits .result))
 unfolding start kind number place sought-at asked
 stored c =
     let g = c .before .before .before in
@@ -164,8 +164,8 @@ stored c =
     let f = sought-at d in
     let s = asked d in
     let a = s .args in
-    storing (a .id) (a .extended) (a .bytes .now) (a .start) (a .raw) (kind f) (number f) (place i) _ _ (c .bits .result) (r .row-at .result)
-    (frame f) (found i) (r .row-at .ensures) (sym (changed d) ∙ g .changed .given .1) (s .fits .raw) (c .bits .ensures)
+    storing (a .id) (a .extended) (a .bytes .now) (a .start) (a .raw) (kind f) (number f) (place i) _ _ (c .bits .result) (r .row-to-change .result)
+    (frame f) (found i) (r .row-to-change .ensures) (sym (changed d) ∙ g .changed .given .1) (s .fits .raw) (c .bits .ensures)
 
 store-changed-requires : tie.Need-store-changed-requires
 unfolding start kind number place sought-at asked
@@ -199,7 +199,7 @@ change-spec =
     enum-told-2
     same-length-2
     returns-2
-    row-at-requires
+    row-to-change-requires
     change-row-requires
     enum-known-changed
     enum-told-3

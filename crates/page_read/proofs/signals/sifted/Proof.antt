@@ -30,17 +30,17 @@ abbrev μ-rows : tie.MeasureT-rows
 rows-holds : tie.Need-rows-holds Inv-rows μ-rows
 rows-holds c = (refl, refl)
 
-row-at-requires : tie.Need-row-at-requires Inv-rows μ-rows
-row-at-requires c κs = search needs
+row-to-sift-requires : tie.Need-row-to-sift-requires Inv-rows μ-rows
+row-to-sift-requires c κs = search needs
 
 signal-bits-requires : tie.Need-signal-bits-requires Inv-rows μ-rows
-signal-bits-requires c κs = fine-at _ _ (omega arith) (c .before .before .row-at .ensures)
+signal-bits-requires c κs = fine-at _ _ (omega arith) (c .before .before .row-to-sift .ensures)
 
 label-holds-requires : tie.Need-label-holds-requires Inv-rows μ-rows
 label-holds-requires c κs = search needs
 
 start-bit-requires : tie.Need-start-bit-requires Inv-rows μ-rows
-start-bit-requires c κs = fine-at _ _ (omega arith) (c .before .before .before .before .before .row-at .ensures)
+start-bit-requires c κs = fine-at _ _ (omega arith) (c .before .before .before .before .before .row-to-sift .ensures)
 
 put-requires : tie.Need-put-requires Inv-rows μ-rows
 put-requires c κs = search needs
@@ -53,9 +53,9 @@ rows-less c = omega arith
 
 held : (c : tie.After-label-holds Inv-rows μ-rows) → (
     let k = c .before .before .before .before in
-    takes (k .row-at .result .labels) (bitsAt (k .before .before .before .args .n) (k .row-at .result)) ≡ c .label-holds .result)
+    takes (k .row-to-sift .result .labels) (bitsAt (k .before .before .before .args .n) (k .row-to-sift .result)) ≡ c .label-holds .result)
 held c =
-    let r = c .before .before .before .before .row-at .result in
+    let r = c .before .before .before .before .row-to-sift .result in
     sym (c .label-holds .ensures ∙ ap (takes (r .labels)) (c .before .signal-bits .ensures))
 
 rows-again : tie.Need-rows-again Inv-rows μ-rows
@@ -67,9 +67,9 @@ rows-again c =
     let k = q .before .before in
     let a = k .before .before in
     let g = a .before .args in
-    let r = k .row-at .result in
-    let f = fine-at (a .rows .i) r (omega arith) (k .row-at .ensures) in
-    let e = block-in (g .kind) (a .rows .i) r (omega arith) (k .row-at .ensures) (q .if2 .left) in (
+    let r = k .row-to-sift .result in
+    let f = fine-at (a .rows .i) r (omega arith) (k .row-to-sift .ensures) in
+    let e = block-in (g .kind) (a .rows .i) r (omega arith) (k .row-to-sift .ensures) (q .if2 .left) in (
       sym (ap (offenceOf (g .n)) e ∙ rw (held t, not-false (t .label-holds .result) (x .if3 .left))) ∙ a .rows .inv .0,
       ap (cleared (block (g .kind) (drop (a .rows .i + 1) rows)))
           (c .put .ensures
@@ -97,7 +97,7 @@ returns-2 c =
     let a = k .before .before in
     let g = a .before .args in
     ended (g .kind) (g .n) (a .rows .rest) (block (g .kind) (drop (a .rows .i) rows)) (block (g .kind) (drop (g .at) rows))
-    (block-out (g .kind) (a .rows .i) (k .row-at .result) (omega arith) (k .row-at .ensures) (c .if2 .taken)) (a .rows .inv .0) (a .rows .inv .1)
+    (block-out (g .kind) (a .rows .i) (k .row-to-sift .result) (omega arith) (k .row-to-sift .ensures) (c .if2 .taken)) (a .rows .inv .0) (a .rows .inv .1)
 
 returns-3 : tie.Need-returns-3 Inv-rows μ-rows
 unfolding offenceOf
@@ -109,8 +109,8 @@ returns-3 c =
     let a = k .before .before in
     let g = a .before .args in
     let l = block (g .kind) (drop (g .at) rows) in
-    let e = block-in (g .kind) (a .rows .i) (k .row-at .result) (omega arith) (k .row-at .ensures) (q .if2 .left) in
-    let first : Start (k .row-at .result .start) ≡ offenceOf (g .n) l =
+    let e = block-in (g .kind) (a .rows .i) (k .row-to-sift .result) (omega arith) (k .row-to-sift .ensures) (q .if2 .left) in
+    let first : Start (k .row-to-sift .result .start) ≡ offenceOf (g .n) l =
     sym (ap (offenceOf (g .n)) e ∙ rw (held t, not-true (t .label-holds .result) (b .if3 .taken))) ∙ a .rows .inv .0 in
     ap (λ (s : ℕ). judgedBy (g .kind) (g .n) (Start s) (cleared l (g .n))) (c .start-bit .ensures)
     ∙ ap (λ (o : Offence). judgedBy (g .kind) (g .n) o (cleared l (g .n))) first
@@ -122,7 +122,7 @@ sifted-spec =
     Inv-rows
     μ-rows
     rows-holds
-    row-at-requires
+    row-to-sift-requires
     signal-bits-requires
     label-holds-requires
     start-bit-requires

@@ -67,8 +67,8 @@ rows-holds c =
     let g = f .before .args in
     kind-search (g .kind) (isSignal (g .kind) (g .start)) (no-kind (g .kind) (g .start)) _ (sym (f .first-of-kind .ensures) ∙ k .at .given .1)
 
-row-at-requires : tie.Need-row-at-requires Inv-rows μ-rows
-row-at-requires c κs = omega arith
+row-to-seek-requires : tie.Need-row-to-seek-requires Inv-rows μ-rows
+row-to-seek-requires c κs = omega arith
 
 add-i : tie.Need-add-i Inv-rows μ-rows
 add-i c = omega arith
@@ -87,10 +87,10 @@ rows-again c =
     let k = q .before .before in
     let a = k .before .before in
     let g = asked a .args in
-    let r = k .row-at .result in
+    let r = k .row-to-seek .result in
     let i = a .rows .i in
     first-later (isSignal (g .kind) (g .start)) i r (block (g .kind) (drop i rows)) (block (g .kind) (drop (i + 1) rows))
-    (block-in (g .kind) i r (omega arith) (k .row-at .ensures) (q .if2 .left)) (no-start (g .kind) (g .start) r (c .if3 .left))
+    (block-in (g .kind) i r (omega arith) (k .row-to-seek .ensures) (q .if2 .left)) (no-start (g .kind) (g .start) r (c .if3 .left))
     ∙ a .rows .inv
 
 returns-2 : tie.Need-returns-2 Inv-rows μ-rows
@@ -109,7 +109,7 @@ returns-3 c =
     let g = asked a .args in
     let i = a .rows .i in
     first-none (isSignal (g .kind) (g .start)) i (block (g .kind) (drop i rows))
-    (block-out (g .kind) i (k .row-at .result) (omega arith) (k .row-at .ensures) (c .if2 .taken))
+    (block-out (g .kind) i (k .row-to-seek .result) (omega arith) (k .row-to-seek .ensures) (c .if2 .taken))
     ∙ a .rows .inv
 
 returns-4 : tie.Need-returns-4 Inv-rows μ-rows
@@ -119,10 +119,10 @@ returns-4 c =
     let k = q .before .before in
     let a = k .before .before in
     let g = asked a .args in
-    let r = k .row-at .result in
+    let r = k .row-to-seek .result in
     let i = a .rows .i in
     first-here (isSignal (g .kind) (g .start)) i r (block (g .kind) (drop i rows)) (block (g .kind) (drop (i + 1) rows))
-    (block-in (g .kind) i r (omega arith) (k .row-at .ensures) (q .if2 .left)) (the-signal (g .kind) (g .start) r (q .if2 .left) (c .if3 .taken))
+    (block-in (g .kind) i r (omega arith) (k .row-to-seek .ensures) (q .if2 .left)) (the-signal (g .kind) (g .start) r (q .if2 .left) (c .if3 .taken))
     ∙ a .rows .inv
 
 pub signal-at-spec : {M : Type 1} → statement M
@@ -136,7 +136,7 @@ signal-at-spec =
     enum-told
     returns
     rows-holds
-    row-at-requires
+    row-to-seek-requires
     add-i
     rows-less
     rows-again

@@ -52,11 +52,11 @@ rows-holds : tie.Need-rows-holds Inv-rows μ-rows
 unfolding pad
 rows-holds c = (refl, sets-pad signalCount (wholesOf (c .args .n) (block (c .args .kind) (drop (c .args .at) rows))))
 
-row-at-requires : tie.Need-row-at-requires Inv-rows μ-rows
-row-at-requires c κs = search needs
+row-to-unpack-requires : tie.Need-row-to-unpack-requires Inv-rows μ-rows
+row-to-unpack-requires c κs = search needs
 
 signal-whole-requires : tie.Need-signal-whole-requires Inv-rows μ-rows
-signal-whole-requires c κs = fine-at _ _ (omega arith) (c .before .before .row-at .ensures)
+signal-whole-requires c κs = fine-at _ _ (omega arith) (c .before .before .row-to-unpack .ensures)
 
 mul-raws : tie.Need-mul-raws Inv-rows μ-rows
 mul-raws c = omega arith
@@ -81,8 +81,8 @@ rows-again c =
     let a = k .before .before .before in
     let g = a .before .args in
     let w = c .signal-whole .result in
-    let e = block-in (g .kind) (a .rows .i) (k .row-at .result) (omega arith) (k .row-at .ensures) (q .if3 .left) in
-    let z : toZ w64 (ofZ w64 w) ≡ wholeAt (g .n) (k .row-at .result)
+    let e = block-in (g .kind) (a .rows .i) (k .row-to-unpack .result) (omega arith) (k .row-to-unpack .ensures) (q .if3 .left) in
+    let z : toZ w64 (ofZ w64 w) ≡ wholeAt (g .n) (k .row-to-unpack .result)
     = toZ-ofZ {w = w64} (record { sfits = c .signal-whole .ok }) ∙ c .signal-whole .ensures in (
       length-set (a .rows .raws) (a .rows .j) (toZ w64 (ofZ w64 w)) ∙ a .rows .inv .0,
       rw (add-one (a .rows .j), z) (rw e at (a .rows .inv .1)),
@@ -109,7 +109,7 @@ returns-3 c =
     let k = c .before .before in
     let a = k .before .before .before in
     let g = a .before .args in
-    let e = block-out (g .kind) (a .rows .i) (k .row-at .result) (omega arith) (k .row-at .ensures) (c .if3 .taken) in
+    let e = block-out (g .kind) (a .rows .i) (k .row-to-unpack .result) (omega arith) (k .row-to-unpack .ensures) (c .if3 .taken) in
     sym (ap (λ (l : List Row). sets (a .rows .raws) (a .rows .j) (wholesOf (g .n) l)) e) ∙ a .rows .inv .1
 
 pub unpack-spec : {M : Type 1} → statement M
@@ -119,7 +119,7 @@ unpack-spec =
     Inv-rows
     μ-rows
     rows-holds
-    row-at-requires
+    row-to-unpack-requires
     signal-whole-requires
     mul-raws
     array-set-from-raws
