@@ -14,8 +14,6 @@ use Rattle.signal.proofs.Orders.{length-of}
 use Rattle.page_read.specs.declared.Judged.the-variants.{Frame}
 use Rattle.refusals.specs.declared.Refusal.the-variants.{UnknownIdentifier, ShortBuffer}
 use Rattle.page_read.specs.Judge.{judgeOf}
-use Rattle.page_rows.specs.Charger.{chargerRows}
-use Rattle.page_rows.specs.Safety.{safetyRows}
 use Rattle.page_rows.specs.Table.{rows, ofKind, lengthOf, bigOf}
 use Rattle.page_rows.proofs.Rules.{short-length}
 use Rattle.page_write.proofs.Trips.{accepted, raws-back}
@@ -105,7 +103,7 @@ latest-kept t i k times buf = handed-behind (handsOut t i k times buf) k (keptOf
 
 -- a kind has bytes, so that 0 says that no frame was accepted
 lengths : map (λ k. leb 1 (lengthOf k)) (countFrom 0 kindCount) ≡ replicate kindCount true
-unfolding lengthOf ofKind rows chargerRows safetyRows
+unfolding lengthOf ofKind rows
 lengths = refl
 
 pub some-bytes : (k : ℕ) → k < kindCount → 1 ≤ lengthOf k

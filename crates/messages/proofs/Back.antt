@@ -12,8 +12,6 @@ use Rattle.signal.specs.Raw.{fitsIn}
 use Rattle.signal.proofs.Laws.{get-lt}
 use Rattle.signal.proofs.RawLaws.{value-fits}
 use Rattle.page_rows.specs.declared.Row.{Row}
-use Rattle.page_rows.specs.Charger.{chargerRows}
-use Rattle.page_rows.specs.Safety.{safetyRows}
 use Rattle.page_rows.specs.Table.{rows, noRow, keep, ofKind, rowsOf, hasKind, lowest, bitsAt, takes}
 use Rattle.page_read.specs.Judge.{unlabelled}
 use Rattle.page_write.specs.Raws.{wholeAt, wholesOf}
@@ -61,7 +59,7 @@ label-back n k e j t l =
 -- ---- each kind
 
 status-back : (n : ℕ) → Return n statusKind
-unfolding rows chargerRows safetyRows ofKind wholesOf rawsOf builtOf
+unfolding rows ofKind wholesOf rawsOf builtOf
 status-back n e = (
   refl,
   λ i. field-back n statusKind 0 tt (words 16 tt) i
@@ -75,7 +73,7 @@ status-back n e = (
 )
 
 parameters-back : (n : ℕ) → Return n parametersKind
-unfolding rows chargerRows safetyRows ofKind wholesOf rawsOf builtOf
+unfolding rows ofKind wholesOf rawsOf builtOf
 parameters-back n e = (
   refl,
   λ i. field-back n parametersKind 0 tt (words 16 tt) i
@@ -87,19 +85,19 @@ parameters-back n e = (
 )
 
 controller-back : (n : ℕ) → Return n controllerKind
-unfolding rows chargerRows safetyRows ofKind wholesOf rawsOf builtOf
+unfolding rows ofKind wholesOf rawsOf builtOf
 controller-back n e = (refl, λ i. label-back n controllerKind e 0 tt state-label i ∷ [], refl)
 
 session-back : (n : ℕ) → Return n sessionKind
-unfolding rows chargerRows safetyRows ofKind wholesOf rawsOf builtOf
+unfolding rows ofKind wholesOf rawsOf builtOf
 session-back n e = (refl, λ i. label-back n sessionKind e 0 tt protocol-label i ∷ label-back n sessionKind e 1 tt plug-label i ∷ [], refl)
 
 change-back : (n : ℕ) → Return n changeKind
-unfolding rows chargerRows safetyRows ofKind wholesOf rawsOf builtOf
+unfolding rows ofKind wholesOf rawsOf builtOf
 change-back n e = (refl, λ i. label-back n changeKind e 0 tt status-label i ∷ [], refl)
 
 control-back : (n : ℕ) → Return n controlKind
-unfolding rows chargerRows safetyRows ofKind wholesOf rawsOf builtOf
+unfolding rows ofKind wholesOf rawsOf builtOf
 control-back n e = (
   refl,
   λ i. field-back n controlKind 0 tt (words 16 tt) i
@@ -115,15 +113,15 @@ control-back n e = (
 )
 
 finished-back : (n : ℕ) → Return n finishedKind
-unfolding rows chargerRows safetyRows ofKind wholesOf rawsOf builtOf
+unfolding rows ofKind wholesOf rawsOf builtOf
 finished-back n e = (refl, λ i. label-back n finishedKind e 0 tt end-label i ∷ [], refl)
 
 stop-back : (n : ℕ) → Return n stopKind
-unfolding rows chargerRows safetyRows ofKind wholesOf rawsOf builtOf
+unfolding rows ofKind wholesOf rawsOf builtOf
 stop-back n e = (refl, λ i. label-back n stopKind e 0 tt origin-label i ∷ [], refl)
 
 id-back : (n : ℕ) → Return n idKind
-unfolding rows chargerRows safetyRows ofKind wholesOf rawsOf builtOf
+unfolding rows ofKind wholesOf rawsOf builtOf
 id-back n e = (
   refl,
   λ i. field-back n idKind 0 tt bytes i
@@ -137,7 +135,7 @@ id-back n e = (
 )
 
 safety-control-back : (n : ℕ) → Return n safetyControlKind
-unfolding rows chargerRows safetyRows ofKind wholesOf rawsOf builtOf
+unfolding rows ofKind wholesOf rawsOf builtOf
 safety-control-back n e = (
   refl,
   λ i. field-back n safetyControlKind 0 tt duties i
@@ -149,7 +147,7 @@ safety-control-back n e = (
 )
 
 safety-state-back : (n : ℕ) → Return n safetyStateKind
-unfolding rows chargerRows safetyRows ofKind wholesOf rawsOf builtOf
+unfolding rows ofKind wholesOf rawsOf builtOf
 safety-state-back n e = (
   refl,
   λ i. field-back n safetyStateKind 0 tt duties i
@@ -172,7 +170,7 @@ safety-state-back n e = (
 )
 
 probes-back : (n : ℕ) → Return n probesKind
-unfolding rows chargerRows safetyRows ofKind wholesOf rawsOf builtOf
+unfolding rows ofKind wholesOf rawsOf builtOf
 probes-back n e = (
   refl,
   λ i. field-back n probesKind 0 tt (shorts 14 tt) i
@@ -210,7 +208,7 @@ kind-below k (r ∷ rs) e h =
     go false q l f o = f o
 
 pub kinds : (k : ℕ) → 1 ≤ length (rowsOf k) → k < kindCount
-unfolding rows chargerRows safetyRows ofKind
+unfolding rows ofKind
 kinds k h = kind-below k rows refl h
 
 -- P at each number below c

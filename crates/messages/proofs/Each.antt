@@ -10,8 +10,6 @@ use lib.ListN.{length}
 use lib.IntN.{ℤ}
 use Rattle.signal.specs.Raw.{fitsIn, bitsIn}
 use Rattle.page_rows.specs.declared.Row.{Row}
-use Rattle.page_rows.specs.Charger.{chargerRows}
-use Rattle.page_rows.specs.Safety.{safetyRows}
 use Rattle.page_rows.specs.Table.{rows, ofKind, rowsOf, identifierOf, extendedOf, takes}
 use Rattle.page_rows.specs.Table.{signalCount}
 use Rattle.page_write.specs.Raws.{wholesOf, pad, allTake}
@@ -35,7 +33,7 @@ abbrev InTable : Message → Type 0
 InTable m = (length (rawsOf m) ≡ length (rowsOf (kindOf m))) × (1 ≤ length (rowsOf (kindOf m))) × (extendedOf (kindOf m) ≡ longId (identifierOf (kindOf m)))
 
 in-table : (m : Message) → InTable m
-unfolding rows chargerRows safetyRows ofKind rawsOf identifierOf extendedOf
+unfolding rows ofKind rawsOf identifierOf extendedOf
 in-table (Status s) = (refl, lit≤ tt, refl)
 in-table (Parameters s) = (refl, lit≤ tt, refl)
 in-table (Controller s) = (refl, lit≤ tt, refl)
@@ -82,7 +80,7 @@ take-fit (r ∷ rs) (z ∷ zs) e =
     ap₂ (λ (x y : Bool). f && x && y) (b .0) (take-fit rs zs (b .1)) ∙ ap (λ (x : Bool). x && allFit rs zs) (and-true f)
 
 labels-in : (m : Message) → labelsAt (rowsOf (kindOf m)) (rawsOf m) ≡ true
-unfolding rows chargerRows safetyRows ofKind rawsOf
+unfolding rows ofKind rawsOf
 labels-in (Status s) = rw (enable-label .labelled (s .enable))
 labels-in (Parameters s) = refl
 labels-in (Controller s) = rw (state-label .labelled (s .state))

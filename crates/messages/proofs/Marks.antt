@@ -10,8 +10,6 @@ use lib.Dec.{T, eqb, ltb, eqb→eq}
 use lib.ListN.{getD}
 use borrow.Author.Tests.{ltb-true, eqb-true, eqb-false}
 use Rattle.page_rows.specs.declared.Row.{Row}
-use Rattle.page_rows.specs.Charger.{chargerRows}
-use Rattle.page_rows.specs.Safety.{safetyRows}
 use Rattle.page_rows.specs.Table.{rows, noRow, ofKind, rowsOf, takes}
 use Rattle.messages.specs.declared.SystemEnable.{SystemEnable}
 use Rattle.messages.specs.declared.SystemEnable.the-variants as enable
@@ -102,7 +100,7 @@ marked {L} {number} {of} {r} m t =
 -- ---- the label types, each at its signal
 
 pub enable-label : Label enableNumber enableOf (signalAt statusKind 4)
-unfolding rows chargerRows safetyRows ofKind
+unfolding rows ofKind
 enable-label = marked each tt
   where
     each : (l : SystemEnable) → Mark enableNumber enableOf (signalAt statusKind 4) l
@@ -110,7 +108,7 @@ enable-label = marked each tt
     each enable.Allowed = (refl, refl, refl)
 
 pub state-label : Label stateNumber stateOf (signalAt controllerKind 0)
-unfolding rows chargerRows safetyRows ofKind
+unfolding rows ofKind
 state-label = marked each tt
   where
     each : (l : ControllerState) → Mark stateNumber stateOf (signalAt controllerKind 0) l
@@ -130,7 +128,7 @@ state-label = marked each tt
     each state.ChargePause = (refl, refl, refl)
 
 pub protocol-label : Label protocolNumber protocolOf (signalAt sessionKind 0)
-unfolding rows chargerRows safetyRows ofKind
+unfolding rows ofKind
 protocol-label = marked each tt
   where
     each : (l : Protocol) → Mark protocolNumber protocolOf (signalAt sessionKind 0) l
@@ -144,7 +142,7 @@ protocol-label = marked each tt
     each protocol.CcsIso15118v2022 = (refl, refl, refl)
 
 pub plug-label : Label plugNumber plugOf (signalAt sessionKind 1)
-unfolding rows chargerRows safetyRows ofKind
+unfolding rows ofKind
 plug-label = marked each tt
   where
     each : (l : Plug) → Mark plugNumber plugOf (signalAt sessionKind 1) l
@@ -155,7 +153,7 @@ plug-label = marked each tt
     each plug.Mcs = (refl, refl, refl)
 
 pub status-label : Label statusNumber statusOf (signalAt changeKind 0)
-unfolding rows chargerRows safetyRows ofKind
+unfolding rows ofKind
 status-label = marked each tt
   where
     each : (l : ChargeStatus) → Mark statusNumber statusOf (signalAt changeKind 0) l
@@ -163,7 +161,7 @@ status-label = marked each tt
     each status.ChargeStarted = (refl, refl, refl)
 
 pub function-label : Label functionNumber functionOf (signalAt controlKind 3)
-unfolding rows chargerRows safetyRows ofKind
+unfolding rows ofKind
 function-label = marked each tt
   where
     each : (l : PowerFunction) → Mark functionNumber functionOf (signalAt controlKind 3) l
@@ -174,7 +172,7 @@ function-label = marked each tt
     each function.PowerTransfer = (refl, refl, refl)
 
 pub mode-label : Label modeNumber modeOf (signalAt controlKind 5)
-unfolding rows chargerRows safetyRows ofKind
+unfolding rows ofKind
 mode-label = marked each tt
   where
     each : (l : SetpointsMode) → Mark modeNumber modeOf (signalAt controlKind 5) l
@@ -182,7 +180,7 @@ mode-label = marked each tt
     each mode.RangeMode = (refl, refl, refl)
 
 pub contactors-label : Label contactorsNumber contactorsOf (signalAt controlKind 6)
-unfolding rows chargerRows safetyRows ofKind
+unfolding rows ofKind
 contactors-label = marked each tt
   where
     each : (l : OutputContactors) → Mark contactorsNumber contactorsOf (signalAt controlKind 6) l
@@ -190,7 +188,7 @@ contactors-label = marked each tt
     each contactors.Close = (refl, refl, refl)
 
 pub lowering-label : Label loweringNumber loweringOf (signalAt controlKind 7)
-unfolding rows chargerRows safetyRows ofKind
+unfolding rows ofKind
 lowering-label = marked each tt
   where
     each : (l : LowerOutput) → Mark loweringNumber loweringOf (signalAt controlKind 7) l
@@ -198,7 +196,7 @@ lowering-label = marked each tt
     each lowering.Lowering = (refl, refl, refl)
 
 pub end-label : Label endNumber endOf (signalAt finishedKind 0)
-unfolding rows chargerRows safetyRows ofKind
+unfolding rows ofKind
 end-label = marked each tt
   where
     each : (l : SessionEnd) → Mark endNumber endOf (signalAt finishedKind 0) l
@@ -206,7 +204,7 @@ end-label = marked each tt
     each end.RushedStop = (refl, refl, refl)
 
 pub origin-label : Label originNumber originOf (signalAt stopKind 0)
-unfolding rows chargerRows safetyRows ofKind
+unfolding rows ofKind
 origin-label = marked each tt
   where
     each : (l : StopOrigin) → Mark originNumber originOf (signalAt stopKind 0) l
@@ -214,7 +212,7 @@ origin-label = marked each tt
     each origin.Pev = (refl, refl, refl)
 
 pub cp-label : Label cpNumber cpOf (signalAt safetyStateKind 2)
-unfolding rows chargerRows safetyRows ofKind
+unfolding rows ofKind
 cp-label = marked each tt
   where
     each : (l : CpState) → Mark cpNumber cpOf (signalAt safetyStateKind 2) l
@@ -228,7 +226,7 @@ cp-label = marked each tt
     each cp.Invalid = (refl, refl, refl)
 
 pub pp-label : Label ppNumber ppOf (signalAt safetyStateKind 5)
-unfolding rows chargerRows safetyRows ofKind
+unfolding rows ofKind
 pp-label = marked each tt
   where
     each : (l : PpState) → Mark ppNumber ppOf (signalAt safetyStateKind 5) l

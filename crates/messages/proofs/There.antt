@@ -10,8 +10,6 @@ use lib.ListN.{length, getD}
 use lib.IntN.{ℤ}
 use Rattle.signal.specs.Raw.{fitsIn, bitsIn}
 use Rattle.page_rows.specs.declared.Row.{Row}
-use Rattle.page_rows.specs.Charger.{chargerRows}
-use Rattle.page_rows.specs.Safety.{safetyRows}
 use Rattle.page_rows.specs.Table.{rows, noRow, ofKind, rowsOf, takes}
 use Rattle.page_write.specs.Raws.{rowTakes, allTake}
 use Rattle.page_rows.proofs.Rules.{both-true}
@@ -47,7 +45,7 @@ fits-at k zs e j t =
 -- ---- each kind
 
 status-there : (s : PowerModulesStatus) → hasRaws (Status s) ≡ true → allTake (rowsOf statusKind) (statusRaws s) ≡ true → statusOf (at (statusRaws s)) ≡ s
-unfolding rows chargerRows safetyRows ofKind
+unfolding rows ofKind
 status-there s h e =
     let f = fits-at statusKind (statusRaws s) e in
     λ i. record {
@@ -60,7 +58,7 @@ status-there s h e =
     }
 
 parameters-there : (s : DcPowerParameters) → allTake (rowsOf parametersKind) (parametersRaws s) ≡ true → parametersOf (at (parametersRaws s)) ≡ s
-unfolding rows chargerRows safetyRows ofKind
+unfolding rows ofKind
 parameters-there s e =
     let f = fits-at parametersKind (parametersRaws s) e in
     λ i. record {
@@ -71,7 +69,7 @@ parameters-there s e =
     }
 
 control-there : (s : DcPowerControl) → allTake (rowsOf controlKind) (controlRaws s) ≡ true → controlOf (at (controlRaws s)) ≡ s
-unfolding rows chargerRows safetyRows ofKind
+unfolding rows ofKind
 control-there s e =
     let f = fits-at controlKind (controlRaws s) e in
     λ i. record {
@@ -86,7 +84,7 @@ control-there s e =
     }
 
 id-there : (s : EvId) → allTake (rowsOf idKind) (idRaws s) ≡ true → idOf (at (idRaws s)) ≡ s
-unfolding rows chargerRows safetyRows ofKind
+unfolding rows ofKind
 id-there s e =
     let f = fits-at idKind (idRaws s) e in
     λ i. record {
@@ -99,7 +97,7 @@ id-there s e =
     }
 
 safety-control-there : (s : ChargeControl1) → allTake (rowsOf safetyControlKind) (safetyControlRaws s) ≡ true → safetyControlOf (at (safetyControlRaws s)) ≡ s
-unfolding rows chargerRows safetyRows ofKind
+unfolding rows ofKind
 safety-control-there s e =
     let f = fits-at safetyControlKind (safetyControlRaws s) e in
     λ i. record {
@@ -110,7 +108,7 @@ safety-control-there s e =
     }
 
 safety-state-there : (s : ChargeState1) → allTake (rowsOf safetyStateKind) (safetyStateRaws s) ≡ true → safetyStateOf (at (safetyStateRaws s)) ≡ s
-unfolding rows chargerRows safetyRows ofKind
+unfolding rows ofKind
 safety-state-there s e =
     let f = fits-at safetyStateKind (safetyStateRaws s) e in
     λ i. record {
@@ -132,7 +130,7 @@ safety-state-there s e =
     }
 
 probes-there : (s : Pt1000State) → allTake (rowsOf probesKind) (probesRaws s) ≡ true → probesOf (at (probesRaws s)) ≡ s
-unfolding rows chargerRows safetyRows ofKind
+unfolding rows ofKind
 probes-there s e =
     let f = fits-at probesKind (probesRaws s) e in
     λ i. record {

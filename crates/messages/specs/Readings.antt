@@ -9,8 +9,6 @@ use Rattle.refusals.specs.declared.Refusal.the-variants.{UnknownIdentifier, Too
 use Rattle.page_read.specs.declared.Judged.the-variants as judged
 use Rattle.page_write.specs.declared.Written.{Written}
 use Rattle.page_write.specs.declared.Written.the-variants as written
-use Rattle.page_rows.specs.Charger.{chargerRows}
-use Rattle.page_rows.specs.Safety.{safetyRows}
 use Rattle.page_rows.specs.Table.{rows, ofKind, firstAt, covered, identifierOf, lengthOf, bigOf}
 use Rattle.page_read.specs.Judge.{unlabelled, offender, strayBelow, judgedNumber, judgeOf}
 use Rattle.page_write.specs.Raws as pages
@@ -161,5 +159,5 @@ table =
     ∷ []
 
 pub readings : All table
-unfolding readOf messageOf builtOf rawsOf writeOf bufferAfter rows chargerRows safetyRows ofKind firstAt covered identifierOf lengthOf bigOf unlabelled offender strayBelow judgedNumber judgeOf changeOf getBits putBits leNumber leBytes beNumber beBytes storedIn toSigned ofSigned pages.rawsOf pages.wholesOf pages.pad pages.allTake pages.packedOn pages.writeRawsOf pages.bufferAfter
+unfolding readOf messageOf builtOf rawsOf writeOf bufferAfter rows ofKind firstAt covered identifierOf lengthOf bigOf unlabelled offender strayBelow judgedNumber judgeOf changeOf getBits putBits leNumber leBytes beNumber beBytes storedIn toSigned ofSigned pages.rawsOf pages.wholesOf pages.pad pages.allTake pages.packedOn pages.writeRawsOf pages.bufferAfter
 readings = (refl, (refl, (refl, (refl, (refl, (refl, (refl, (refl, ((refl, refl), ((refl, refl), ((refl, refl), ((refl, refl), (refl, (refl, (refl, ((refl, refl), (refl, (refl, (refl, ((refl, refl), ((refl, refl), ((refl, refl), (refl, (refl, (refl, ((refl, refl), (refl, (refl, (refl, (refl, (refl, (refl, (refl, tt)))))))))))))))))))))))))))))))))

@@ -7,8 +7,6 @@ use mathlib.Core.Bool.{Bool, true, false}
 use mathlib.Core.List.{List, [], _∷_}
 use Rattle.refusals.specs.declared.Refusal.the-variants.{ChannelFree, ChannelTaken, TooShort}
 use Rattle.page_read.specs.declared.Judged.the-variants as judged
-use Rattle.page_rows.specs.Charger.{chargerRows}
-use Rattle.page_rows.specs.Safety.{safetyRows}
 use Rattle.page_rows.specs.Table.{rows, ofKind, firstAt, covered}
 use Rattle.page_read.specs.Judge.{unlabelled, strayBelow, judgedNumber, judgeOf}
 use Rattle.page_write.specs.Raws.{wholesOf, pad, rawsOf}
@@ -59,7 +57,7 @@ computed : (standing 0 (accepted night) ≡ held 4 limits heard) × (standing 0 
     × (judgeOf 0x6b001 true (2 ∷ []) ≡ judged.Refused TooShort) × (setUp01 (accepted night) 2 4 limits ≡ setting.Refused ChannelTaken) × (holder (accepted night) 5 ≡ 8)
     × (judgeOf 0x63000 true status ≡ judged.Frame 0 allowed) × (findings01 limits heard (history.frame 501 0 allowed) ≡ 1)
     × (otherHolds (accepted night) 2 4 0 postCount ≡ otherHolds (accepted alone) 2 4 0 postCount) × (lookUp01 (accepted night) 0 ≡ record { answer = setting.Done; shown = recordOf 4 limits heard })
-unfolding standing findFrom holder otherHolds feed01 setUp01 release01 lookUp01 feedSteps setUpSteps releaseSteps limitsFit accepted sinceFinished opening inSession earlierIn lowersBadly outside leaking badInsulation differs sessionStatus sessionControl limitOf f1 f2 f3 f4 f5 f6 f7 f8 f9 f10 f11 findings01 rows chargerRows safetyRows ofKind firstAt covered unlabelled strayBelow judgedNumber judgeOf wholesOf pad rawsOf getBits leNumber toSigned statusIn parametersIn sessionIn controlIn
+unfolding standing findFrom holder otherHolds feed01 setUp01 release01 lookUp01 feedSteps setUpSteps releaseSteps limitsFit accepted sinceFinished opening inSession earlierIn lowersBadly outside leaking badInsulation differs sessionStatus sessionControl limitOf f1 f2 f3 f4 f5 f6 f7 f8 f9 f10 f11 findings01 rows ofKind firstAt covered unlabelled strayBelow judgedNumber judgeOf wholesOf pad rawsOf getBits leNumber toSigned statusIn parametersIn sessionIn controlIn
 computed = (refl, refl, refl, refl, refl, refl, refl, refl, refl, refl, refl, refl, refl, refl)
 
 abbrev own : standing 0 (accepted night) ≡ held 4 limits heard
