@@ -8,8 +8,8 @@ use page_read::judge;
 use page_rows::Found;
 use page_rows::Row;
 use page_rows::label_holds;
-use page_rows::table::row_to_change;
-use page_rows::table::signal_at;
+use page_rows::row_to_change;
+use page_rows::signal_at;
 use refusals::Refusal;
 use whole::store_changed;
 

@@ -6,17 +6,17 @@ ghost use Rattle.page_read.specs.Steps.{offenceOf, judgedBy};
 use crate::Judged;
 use crate::Offence;
 use crate::signals::offence_at;
-use page_rows::charger::COMMUNICATION_PROTOCOL;
-use page_rows::charger::CONTROLLER_STATE;
-use page_rows::charger::FINISHED_STATE;
-use page_rows::charger::LOWER_OUTPUT_VOLTAGE;
-use page_rows::charger::OUTPUT_CONTACTORS;
-use page_rows::charger::PLUG_AND_PINS;
-use page_rows::charger::POWER_FUNCTION;
-use page_rows::charger::SETPOINTS_MODE;
-use page_rows::charger::STOP_ORIGIN;
-use page_rows::charger::SYSTEM_ENABLE;
-use page_rows::charger::VEHICLE_READY_FOR_CHARGING;
+use page_rows::COMMUNICATION_PROTOCOL;
+use page_rows::CONTROLLER_STATE;
+use page_rows::FINISHED_STATE;
+use page_rows::LOWER_OUTPUT_VOLTAGE;
+use page_rows::OUTPUT_CONTACTORS;
+use page_rows::PLUG_AND_PINS;
+use page_rows::POWER_FUNCTION;
+use page_rows::SETPOINTS_MODE;
+use page_rows::STOP_ORIGIN;
+use page_rows::SYSTEM_ENABLE;
+use page_rows::VEHICLE_READY_FOR_CHARGING;
 use refusals::Refusal;
 
 // Their kinds are 0 to 8.

@@ -9,11 +9,11 @@ use crate::Judged;
 use crate::Offence;
 use crate::Sifted;
 use page_rows::Line;
+use page_rows::ROW_COUNT;
 use page_rows::Row;
 use page_rows::label_holds;
 use page_rows::row_of;
-use page_rows::table::ROW_COUNT;
-use page_rows::table::row_to_sift;
+use page_rows::row_to_sift;
 use refusals::Refusal;
 
 // The start as refusal 5 carries it: no signal of 8 bytes starts above bit 63.

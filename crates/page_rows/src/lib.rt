@@ -5,11 +5,29 @@ ghost use Rattle.page_rows.specs.Layout.{rowOf};
 ghost use Rattle.page_rows.specs.Table.{identifierOf, lengthOf, extendedOf, bigOf, takes};
 
 mod messages; // messages.rt: the messages, and the search by identifier
-pub mod charger; // charger.rt: the rows of document 000
+mod charger; // charger.rt: the rows of document 000
 mod safety; // safety.rt: the rows of document 004
-pub mod table; // table.rt: all of them, and the searches by kind and start
+mod table; // table.rt: all of them, and the searches by kind and start
 
+pub use charger::COMMUNICATION_PROTOCOL;
+pub use charger::CONTROLLER_STATE;
+pub use charger::FINISHED_STATE;
+pub use charger::LOWER_OUTPUT_VOLTAGE;
+pub use charger::OUTPUT_CONTACTORS;
+pub use charger::PLUG_AND_PINS;
+pub use charger::POWER_FUNCTION;
+pub use charger::SETPOINTS_MODE;
+pub use charger::STOP_ORIGIN;
+pub use charger::SYSTEM_ENABLE;
+pub use charger::VEHICLE_READY_FOR_CHARGING;
 pub use messages::message_with_id;
+pub use table::ROW_COUNT;
+pub use table::first_of_kind;
+pub use table::row_at;
+pub use table::row_to_change;
+pub use table::row_to_sift;
+pub use table::row_to_unpack;
+pub use table::signal_at;
 
 // 01: "a row holds message, start, width, signedness and labels or none". The message is its kind, its identifier and that identifier's form, its length
 // in bytes and its byte order (`big`: byte 0 is highest, and a start names the highest bit). `low` is the signal's lowest bit in the payload

@@ -5,8 +5,8 @@ ghost use lib.IntN.{pos};
 ghost use lib.ListN.{getD};
 ghost use Rattle.page_write.specs.Raws.{rawsOf, writeRawsOf, bufferAfter};
 use page_rows::Found;
-use page_rows::table::first_of_kind;
-use page_rows::table::row_at;
+use page_rows::first_of_kind;
+use page_rows::row_at;
 use refusals::Refusal;
 use signals::pack;
 

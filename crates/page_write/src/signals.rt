@@ -8,11 +8,11 @@ ghost use Rattle.page_rows.specs.Table.{rows, noRow, rowCount, signalCount, Fin
 ghost use Rattle.page_write.specs.Raws.{wholeAt, wholesOf, pad, rowTakes, putRaw};
 ghost use Rattle.page_write.specs.Steps.{packOf};
 use crate::Packed;
+use page_rows::ROW_COUNT;
 use page_rows::Row;
 use page_rows::label_holds;
-use page_rows::table::ROW_COUNT;
-use page_rows::table::row_at;
-use page_rows::table::row_to_unpack;
+use page_rows::row_at;
+use page_rows::row_to_unpack;
 
 fn signal_whole(r: Row, n: u64) -> i64
     requires { ⌜ Fine r ⌝ }
