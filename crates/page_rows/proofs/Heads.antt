@@ -8,19 +8,18 @@ use mathlib.Core.List.{List, []}
 use Prim.Native.Nat.{ℕ, _≤_, _<_}
 use native.Mathlib.Omega.{arith}
 use lib.Dec.{eqb, ltb}
-use lib.ListN.{getD, List·getD-eq-default}
+use lib.ListN.{List·getD-eq-default}
 use borrow.Author.Tests.{eqb-true, ltb-true, ne-eqb}
 use Rattle.signal.proofs.Complement.{half-of}
 use Rattle.page_rows.specs.declared.Row.{Row}
 use Rattle.page_rows.specs.declared.Message.{Message}
 use Rattle.page_rows.specs.declared.Found.{Found}
 use Rattle.page_rows.specs.declared.Found.the-variants.{At, Nothing}
-use Rattle.page_rows.specs.declared.FoundMessage.{FoundMessage}
 use Rattle.page_rows.specs.declared.FoundMessage.the-variants as message
 use Rattle.page_rows.specs.Messages.{kindCount, messages, noMessage, messageOf, same, keyOf}
-use Rattle.page_rows.specs.Table.{rows, noRow, rowAt, rowCount, hasKind, hasId, rowsOf, headRow, firstAt, kindFound, withMessage, identifierOf, extendedOf, lengthOf, bigOf}
+use Rattle.page_rows.specs.Table.{rows, rowAt, hasKind, hasId, rowsOf, headRow, firstAt, kindFound, withMessage, identifierOf, extendedOf, lengthOf, bigOf}
 use Rattle.page_rows.specs.Rules.{every}
-use Rattle.page_rows.proofs.Rules.{both-true, same-true, not-both, rows-length, every-at, every-so, id-true}
+use Rattle.page_rows.proofs.Rules.{both-true, same-true, rows-length, every-at, every-so, id-true}
 use Rattle.page_rows.proofs.Firsts.{found-in, first-kind, none-kind, id-kind, known}
 use Rattle.page_rows.proofs.Searches.{none-found}
 use Rattle.page_rows.proofs.Below.{allBelow, below-at}

@@ -1,21 +1,18 @@
 -- The laws of the searches by kind: a list without what is searched for, and which part of the table a search for a kind's rows has to go through.
 use mathlib.Core.Path.{_≡_, refl, sym, ap, ap₂, _∙_, subst}
-use mathlib.Core.Bool.{Bool, true, false, cond, not, _&&_, and-false}
-use mathlib.Core.List.{List, [], _∷_, _++_}
-use Prim.Native.Nat.{ℕ, suc, _+_, _-_, _≤_, _<_}
-use native.Mathlib.Nat.{add-suc, suc-add, add-zero, zero-add}
-use native.Mathlib.Numerals.{add-one}
+use mathlib.Core.Bool.{Bool, true, false, cond, not, _&&_}
+use mathlib.Core.List.{List, [], _∷_}
+use Prim.Native.Nat.{ℕ, suc, _+_, _-_, _≤_}
 use native.Mathlib.Omega.{arith}
-use lib.Dec.{eqb, leb, ltb}
-use lib.ListN.{length, getD, drop, drop-of-length-le, List·getD-append}
-use lib.Seq.{drop-cons, getD-append-add}
-use borrow.Author.Tests.{eq-eqb, ne-eqb, eqb-true, eqb-false, le-leb, leb-true, ltb-true, not-true}
+use lib.Dec.{leb}
+use lib.ListN.{drop}
+use borrow.Author.Tests.{eqb-true, eqb-false, le-leb, leb-true, not-true}
 use Rattle.page_rows.specs.declared.Row.{Row}
 use Rattle.page_rows.specs.declared.Found.{Found}
 use Rattle.page_rows.specs.declared.Found.the-variants.{At, Nothing}
-use Rattle.page_rows.specs.Table.{rows, noRow, rowCount, Fine, hasForm, hasKind, hasId, block, firstAt}
+use Rattle.page_rows.specs.Table.{rows, hasKind, block, firstAt}
 use Rattle.page_rows.specs.Rules.{every, inTurn, allInTurn}
-use Rattle.page_rows.proofs.Rules.{both-true, table-parts, every-at, every-so, row-fine, kinds-up}
+use Rattle.page_rows.proofs.Rules.{both-true, table-parts, every-so, kinds-up}
 
 -- a list that has no row to find
 pub none-found : (p : Row → Bool) (i : ℕ) (l : List Row) → every (λ r. not (p r)) l ≡ true → firstAt p i l ≡ Nothing

@@ -2,14 +2,13 @@
 use mathlib.Core.Path.{_≡_, sym, ap, _∙_}
 use mathlib.Core.Bool.{true}
 use Prim.Native.Nat.{ℕ}
-use mir.Facts.{toZ-ofZ}
 use borrow.Author.Tests.{not-true, not-false}
 use borrow.Author.Needs.{needs}
 use Rattle.signal.specs.Raw.{fitsIn, bitsIn}
 use Rattle.page_read.specs.declared.Judged.the-variants.{Frame, Refused}
 use Rattle.refusals.specs.declared.Refusal.the-variants.{NoLabel}
 use Rattle.page_rows.specs.Table.{takes}
-use Rattle.page_write.specs.Raws.{rowTakes, putRaw}
+use Rattle.page_write.specs.Raws.{rowTakes}
 use Rattle.page_write.proofs.AtRow.{fits-row, bits-row, put-raw-row}
 use Rattle.page_change.proofs.change_row.Statement.{statement}
 use Rattle.page_change.proofs.change_row.Tie as tie

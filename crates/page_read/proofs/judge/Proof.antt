@@ -2,12 +2,12 @@
 -- where every bit is a signal's.
 use borrow.Author.Needs.{needs}
 use borrow.Author.Tests.{eq-eqb}
-use mathlib.Core.Path.{_≡_, refl, sym, ap, ap₂, _∙_, subst}
+use mathlib.Core.Path.{_≡_, refl, sym, ap, _∙_, subst}
 use mathlib.Core.Bool.{Bool, cond}
 use mathlib.Core.List.{List}
 use native.Mathlib.Omega.{arith}
 use Prim.Native.Nat.{ℕ, _*_, _^_, _<_, _≤_}
-use lib.ListN.{length, getD, drop, take}
+use lib.ListN.{length, drop, take}
 use Rattle.signal.specs.Payload.{numberOf, Bytes}
 use Rattle.signal.proofs.Orders.{number-bound}
 use Rattle.signal.proofs.Totals.{number-in}
@@ -16,7 +16,7 @@ use Rattle.page_rows.specs.declared.Found.the-variants.{At, Nothing}
 use Rattle.page_rows.specs.declared.FoundMessage.the-variants as message
 use Rattle.page_rows.specs.declared.Row.{Row}
 use Rattle.page_read.specs.declared.Judged.the-variants.{Refused}
-use Rattle.page_rows.specs.Table.{rows, rowAt, rowsOf, block, headRow, lengthOf, firstAt, hasId, withMessage}
+use Rattle.page_rows.specs.Table.{rows, rowAt, rowsOf, block, lengthOf, firstAt, hasId, withMessage}
 use Rattle.page_read.specs.Judge.{judgedNumber, wrongLength, judgedRow, judgedAt, judgeOf}
 use Rattle.page_read.specs.Steps.{offenceOf, cleared, judgedBy}
 use Rattle.page_rows.proofs.Rules.{short-length}

@@ -1,11 +1,10 @@
 -- `page_rows::messages::message_with_id` meets its contract: what the kind that was found says of its message.
-use mathlib.Core.Path.{_≡_, refl, sym, ap, _∙_}
+use mathlib.Core.Path.{sym, ap, _∙_}
 use borrow.Author.Needs.{needs}
 use Rattle.page_rows.specs.declared.Message.{Message}
-use Rattle.page_rows.specs.declared.Found.{Found}
-use Rattle.page_rows.specs.declared.Found.the-variants.{At, Nothing}
+use Rattle.page_rows.specs.declared.Found.the-variants.{At}
 use Rattle.page_rows.specs.declared.FoundMessage.the-variants as message
-use Rattle.page_rows.specs.Table.{rows, firstAt, hasId, kindFound, withMessage}
+use Rattle.page_rows.specs.Table.{rows, firstAt, hasId}
 use Rattle.page_rows.proofs.Firsts.{id-kind}
 use Rattle.page_rows.proofs.Heads.{kind-message, kind-nothing}
 use Rattle.page_rows.proofs.messages.message_with_id.Statement.{statement}
