@@ -12,7 +12,8 @@ use Rattle.page_rows.specs.declared.Row.{Row}
 use Rattle.page_write.specs.declared.Written.{Written}
 use Rattle.page_write.specs.declared.Written.the-variants.{Wrote, Refused}
 use Rattle.refusals.specs.declared.Refusal.the-variants.{NoRawNumber, ShortBuffer}
-use Rattle.page_rows.specs.Table.{signalCount, rowsOf, identifierOf, lengthOf, bigOf, lowest, bitsAt, takes}
+use Rattle.page_rows.specs.Table.{rowsOf, identifierOf, lengthOf, bigOf, lowest, bitsAt, takes}
+pub use Rattle.page_rows.specs.Table.{signalCount}
 
 -- ---- reading
 
