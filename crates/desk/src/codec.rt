@@ -4,7 +4,7 @@ use crate::message::MOST;
 use crate::message::Values;
 use crate::values;
 use crate::values::Made;
-use messages::Message;
+use message_types::Message;
 use messages::Reading;
 use notation::answer;
 use notation::fields;

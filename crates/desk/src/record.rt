@@ -1,9 +1,9 @@
 // A post's record as one line.
 use crate::message;
-use messages::Plug;
-use messages::Protocol;
-use messages::labels::plug_number;
-use messages::labels::protocol_number;
+use message_types::Plug;
+use message_types::Protocol;
+use message_types::labels::plug_number;
+use message_types::labels::protocol_number;
 use notation::answer::named;
 use post::Dated;
 use post::KINDS;

@@ -1,7 +1,7 @@
 // The steps of the service screen: a probe's degrees, the limited duty. A raw number that its signal of document 004 cannot hold is too large for
 // its place.
-use messages::fields::short;
-use messages::fields::word;
+use message_fields::short;
+use message_fields::word;
 use notation::answer;
 use service::Probe;
 use text::Pen;

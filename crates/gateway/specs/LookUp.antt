@@ -7,7 +7,7 @@ use lib.ListN.{length, getD, drop}
 use Rattle.signal.specs.Payload.{bytesOf}
 use Rattle.pages.specs.declared.Refusal.the-variants.{UnknownIdentifier, ShortBuffer}
 use Rattle.pages.specs.Table.{lengthOf, bigOf}
-use Rattle.messages.specs.Labels.{protocolNumber, plugNumber}
+use Rattle.message_types.specs.Labels.{protocolNumber, plugNumber}
 use Rattle.post.specs.declared.LastTime.{LastTime}
 use Rattle.post.specs.declared.LastTime.the-variants as last
 use Rattle.post.specs.declared.SessionPart.{SessionPart}

@@ -8,8 +8,8 @@ ghost use Rattle.post.specs.Step.{recordIn};
 ghost use Rattle.gateway.specs.LookUp.{numberCount, numbersOf, lookUpWord, numbersAfter};
 ghost use Rattle.gateway.specs.LookUp.{hasRoom, keptWord, timeLeft, bytesLeft, latestWord, timeAfter, frameAfter};
 use crate::refusal_word;
-use messages::labels::plug_number;
-use messages::labels::protocol_number;
+use message_types::labels::plug_number;
+use message_types::labels::protocol_number;
 use pages::Refusal;
 use post::KINDS;
 use post::Post;
@@ -38,7 +38,7 @@ fn numbers_of(p: Post) -> [u32; 12]
     let l = p.limits;
     let sensor = sensor_of(l.sensor);
     let s = p.session;
-    let n = messages::session_in(s.first);
+    let n = message_parts::session_in(s.first);
     let protocol = n.protocol;
     let plug = n.plug;
     [

@@ -1,29 +1,30 @@
 -- The raw numbers of a payload whose labels hold are those of the message that they make (`back`), of every kind of the table. Assumes nothing.
-use mathlib.Core.Path.{_≡_, refl, ap, subst}
-use mathlib.Core.Bool.{Bool, true, false, not, _&&_}
+use mathlib.Core.Path.{_≡_, refl, subst}
+use mathlib.Core.Bool.{Bool, true, false, _&&_}
 use mathlib.Core.List.{List, [], _∷_}
 use Prim.Native.Nat.{ℕ, zero, suc, _≤_, _<_}
 use native.Mathlib.Nat.{le-of-suc-le-suc, not-suc-le-zero}
-use lib.Dec.{T, ltb, leb, lit≤, ltb→lt}
-use lib.ListN.{length, getD}
-use lib.IntN.{ℤ, pos}
-use borrow.Author.Tests.{ltb-true, eqb-true, not-false}
-use Rattle.signal.specs.Raw.{fitsIn}
-use Rattle.signal.proofs.Laws.{get-lt}
-use Rattle.signal.proofs.RawLaws.{value-fits}
+use lib.Dec.{ltb}
+use lib.ListN.{length}
+use lib.IntN.{ℤ}
+use borrow.Author.Tests.{ltb-true, eqb-true}
 use Rattle.pages.specs.declared.Row.{Row}
 use Rattle.pages.specs.Charger.{chargerRows}
 use Rattle.pages.specs.Safety.{safetyRows}
-use Rattle.pages.specs.Table.{rows, noRow, keep, ofKind, rowsOf, hasKind, lowest, bitsAt, takes}
+use Rattle.pages.specs.Table.{rows, keep, ofKind, rowsOf, hasKind}
 use Rattle.pages.specs.Judge.{unlabelled}
 use Rattle.pages.specs.Raws.{wholeAt, wholesOf}
-use Rattle.pages.proofs.Rules.{both-true, either-false}
-use Rattle.messages.specs.declared.Message.{Message}
-use Rattle.messages.specs.KindNumbers.{statusKind, parametersKind, controllerKind, sessionKind, changeKind, controlKind, finishedKind, stopKind, idKind, safetyControlKind, safetyStateKind, probesKind, kindCount}
-use Rattle.messages.specs.Read.{at, builtOf}
-use Rattle.messages.specs.Write.{rawsOf, hasRaws, kindOf}
-use Rattle.messages.proofs.FieldLaws.{Field, bytes, words, duties, shorts, degrees, flags, kilohms-back, kilohms-even}
-use Rattle.messages.proofs.Marks.{Label, signalAt, enable-label, state-label, protocol-label, plug-label, status-label, function-label, mode-label, contactors-label, lowering-label, end-label, origin-label, cp-label, pp-label}
+use Rattle.pages.proofs.Rules.{both-true}
+use Rattle.message_types.specs.declared.Message.{Message}
+use Rattle.message_types.specs.KindNumbers.{statusKind, parametersKind, controllerKind, sessionKind, changeKind, controlKind, finishedKind, stopKind, idKind, safetyControlKind, safetyStateKind, probesKind, kindCount}
+use Rattle.message_fields.specs.Fields.{at}
+use Rattle.message_build.specs.Built.{builtOf}
+use Rattle.message_take.specs.Take.{rawsOf, hasRaws}
+use Rattle.message_types.specs.KindNumbers.{kindOf}
+use Rattle.message_fields.proofs.FieldLaws.{bytes, words, duties, shorts, degrees, flags, kilohms-back, kilohms-even}
+use Rattle.message_laws.proofs.Labelled.{signalAt}
+use Rattle.message_laws.proofs.Signals.{whole-fits, field-back, label-back}
+use Rattle.message_types.proofs.Marks.{enable-label, state-label, protocol-label, plug-label, status-label, function-label, mode-label, contactors-label, lowering-label, end-label, origin-label, cp-label, pp-label}
 
 -- what is asked of the message that a payload number makes
 abbrev pub Back : ℕ → List ℤ → Message → Type 0
@@ -32,31 +33,6 @@ Back k zs m = (kindOf m ≡ k) × (rawsOf m ≡ zs) × (hasRaws m ≡ true)
 -- of kind k
 abbrev Return : ℕ → ℕ → Type 0
 Return n k = unlabelled n (rowsOf k) ≡ false → Back k (wholesOf n (rowsOf k)) (builtOf k (at (wholesOf n (rowsOf k))))
-
--- ---- at each signal
-
-labelled-at : (n : ℕ) (rs : List Row) → unlabelled n rs ≡ false → (j : ℕ) → j < length rs → takes (getD rs j noRow .labels) (bitsAt n (getD rs j noRow)) ≡ true
-unfolding unlabelled
-labelled-at n [] e j h = absurd (not-suc-le-zero h)
-labelled-at n (r ∷ rs) e zero h = not-false (takes (r .labels) (bitsAt n r)) (either-false (not (takes (r .labels) (bitsAt n r))) (unlabelled n rs) e .0)
-labelled-at n (r ∷ rs) e (suc j) h = labelled-at n rs (either-false (not (takes (r .labels) (bitsAt n r))) (unlabelled n rs) e .1) j (le-of-suc-le-suc h)
-
-whole-fits : (n k j : ℕ) → T (leb 1 (signalAt k j .width)) → fitsIn (signalAt k j .signed) (signalAt k j .width) (wholeAt n (signalAt k j)) ≡ true
-whole-fits n k j t =
-    let r = signalAt k j in
-    value-fits (r .signed) (r .width) (lit≤ t) (bitsAt n r) (get-lt n (lowest r) (r .width))
-
-field-back : (n k j : ℕ) → T (leb 1 (signalAt k j .width))
-    → {A : Type 0} {raw : A → ℤ} {of : ℤ → A} → Field raw of (signalAt k j .signed) (signalAt k j .width)
-    → raw (of (wholeAt n (signalAt k j))) ≡ wholeAt n (signalAt k j)
-field-back n k j t f = f .back (wholeAt n (signalAt k j)) (whole-fits n k j t)
-
-label-back : (n k : ℕ) → unlabelled n (rowsOf k) ≡ false → (j : ℕ) → T (ltb j (length (rowsOf k)))
-    → {L : Type 0} {number : L → ℕ} {of : ℕ → L} → Label number of (signalAt k j)
-    → pos (number (of (bitsAt n (signalAt k j)))) ≡ pos (bitsAt n (signalAt k j))
-label-back n k e j t l =
-    let r = signalAt k j in
-    ap pos (l .back (bitsAt n r) (labelled-at n (rowsOf k) e j (ltb→lt j (length (rowsOf k)) t)) (get-lt n (lowest r) (r .width)))
 
 -- ---- each kind
 

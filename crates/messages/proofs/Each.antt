@@ -17,11 +17,13 @@ use Rattle.pages.specs.Raws.{signalCount, wholesOf, pad, allTake}
 use Rattle.pages.specs.Raws as pages
 use Rattle.pages.proofs.Rules.{both-true, few}
 use Rattle.pages.proofs.Trips.{wholes-length, pad-same}
-use Rattle.messages.specs.declared.Message.{Message}
-use Rattle.messages.specs.declared.Message.the-variants.{Status, Parameters, Controller, Session, Change, Control, Finished, Stop, Id, SafetyControl, SafetyState, Probes}
-use Rattle.messages.specs.Read.{at, builtOf, messageOf}
-use Rattle.messages.specs.Write.{rawsOf, kindOf}
-use Rattle.messages.proofs.Marks.{enable-label, state-label, protocol-label, plug-label, status-label, function-label, mode-label, contactors-label, lowering-label, end-label, origin-label, cp-label, pp-label}
+use Rattle.message_types.specs.declared.Message.{Message}
+use Rattle.message_types.specs.declared.Message.the-variants.{Status, Parameters, Controller, Session, Change, Control, Finished, Stop, Id, SafetyControl, SafetyState, Probes}
+use Rattle.message_fields.specs.Fields.{at}
+use Rattle.message_build.specs.Built.{builtOf, messageOf}
+use Rattle.message_take.specs.Take.{rawsOf}
+use Rattle.message_types.specs.KindNumbers.{kindOf}
+use Rattle.message_types.proofs.Marks.{enable-label, state-label, protocol-label, plug-label, status-label, function-label, mode-label, contactors-label, lowering-label, end-label, origin-label, cp-label, pp-label}
 
 -- ---- the table has each kind
 

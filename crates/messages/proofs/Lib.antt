@@ -1,7 +1,3 @@
-pub mod Signs
-pub mod Choices
-pub mod Marks
-pub mod FieldLaws
 pub mod Each
 pub mod There
 pub mod Back

@@ -1,48 +1,32 @@
 -- A message whose raw numbers fit their signals is the message that those numbers make (`there`), of every kind. Assumes nothing.
 use mathlib.Core.Path.{_≡_, ap}
 use mathlib.Core.Bool.{true}
-use mathlib.Core.List.{List, [], _∷_}
-use Prim.Native.Nat.{ℕ, zero, suc, _<_}
-use native.Mathlib.Nat.{le-of-suc-le-suc, not-suc-le-zero}
-use native.Mathlib.Omega.{arith}
-use lib.Dec.{T, ltb, ltb→lt}
-use lib.ListN.{length, getD}
-use lib.IntN.{ℤ}
-use Rattle.signal.specs.Raw.{fitsIn, bitsIn}
-use Rattle.pages.specs.declared.Row.{Row}
 use Rattle.pages.specs.Charger.{chargerRows}
 use Rattle.pages.specs.Safety.{safetyRows}
-use Rattle.pages.specs.Table.{rows, noRow, ofKind, rowsOf, takes}
-use Rattle.pages.specs.Raws.{rowTakes, allTake}
-use Rattle.pages.proofs.Rules.{both-true}
-use Rattle.messages.specs.declared.PowerModulesStatus.{PowerModulesStatus}
-use Rattle.messages.specs.declared.DcPowerParameters.{DcPowerParameters}
-use Rattle.messages.specs.declared.DcPowerControl.{DcPowerControl}
-use Rattle.messages.specs.declared.EvId.{EvId}
-use Rattle.messages.specs.declared.ChargeControl1.{ChargeControl1}
-use Rattle.messages.specs.declared.ChargeState1.{ChargeState1}
-use Rattle.messages.specs.declared.Pt1000State.{Pt1000State}
-use Rattle.messages.specs.declared.Message.{Message}
-use Rattle.messages.specs.declared.Message.the-variants.{Status, Parameters, Controller, Session, Change, Control, Finished, Stop, Id, SafetyControl, SafetyState, Probes}
-use Rattle.messages.specs.KindNumbers.{statusKind, parametersKind, controlKind, idKind, safetyControlKind, safetyStateKind, probesKind}
-use Rattle.messages.specs.Read.{at, statusOf, parametersOf, controlOf, idOf, safetyControlOf, safetyStateOf, probesOf, builtOf}
-use Rattle.messages.specs.Write.{statusRaws, parametersRaws, controlRaws, idRaws, safetyControlRaws, safetyStateRaws, probesRaws, rawsOf, hasRaws, kindOf}
-use Rattle.messages.proofs.FieldLaws.{bytes, words, duties, shorts, degrees, flags, kilohms-there}
-use Rattle.messages.proofs.Marks.{signalAt, enable-label, state-label, protocol-label, plug-label, status-label, function-label, mode-label, contactors-label, lowering-label, end-label, origin-label, cp-label, pp-label}
-
--- ---- number j of a message fits signal j of its kind
-
-takes-at : (rs : List Row) (zs : List ℤ) → allTake rs zs ≡ true → (j : ℕ) → j < length rs → rowTakes (getD rs j noRow) (at zs j) ≡ true
-unfolding allTake
-takes-at [] zs e j h = absurd (not-suc-le-zero h)
-takes-at (r ∷ rs) [] e j h = absurd (let z : _≡_ {A = ℕ} 0 1 = cc in omega arith)
-takes-at (r ∷ rs) (z ∷ zs) e zero h = both-true (rowTakes r z) (allTake rs zs) e .0
-takes-at (r ∷ rs) (z ∷ zs) e (suc j) h = takes-at rs zs (both-true (rowTakes r z) (allTake rs zs) e .1) j (le-of-suc-le-suc h)
-
-fits-at : (k : ℕ) (zs : List ℤ) → allTake (rowsOf k) zs ≡ true → (j : ℕ) → T (ltb j (length (rowsOf k))) → fitsIn (signalAt k j .signed) (signalAt k j .width) (at zs j) ≡ true
-fits-at k zs e j t =
-    both-true (fitsIn (signalAt k j .signed) (signalAt k j .width) (at zs j)) (takes (signalAt k j .labels) (bitsIn (signalAt k j .signed) (signalAt k j .width) (at zs j)))
-    (takes-at (rowsOf k) zs e j (ltb→lt j (length (rowsOf k)) t)) .0
+use Rattle.pages.specs.Table.{rows, ofKind, rowsOf}
+use Rattle.pages.specs.Raws.{allTake}
+use Rattle.message_types.specs.declared.PowerModulesStatus.{PowerModulesStatus}
+use Rattle.message_types.specs.declared.DcPowerParameters.{DcPowerParameters}
+use Rattle.message_types.specs.declared.DcPowerControl.{DcPowerControl}
+use Rattle.message_types.specs.declared.EvId.{EvId}
+use Rattle.message_types.specs.declared.ChargeControl1.{ChargeControl1}
+use Rattle.message_types.specs.declared.ChargeState1.{ChargeState1}
+use Rattle.message_types.specs.declared.Pt1000State.{Pt1000State}
+use Rattle.message_types.specs.declared.Message.{Message}
+use Rattle.message_types.specs.declared.Message.the-variants.{Status, Parameters, Controller, Session, Change, Control, Finished, Stop, Id, SafetyControl, SafetyState, Probes}
+use Rattle.message_types.specs.KindNumbers.{statusKind, parametersKind, controlKind, idKind, safetyControlKind, safetyStateKind, probesKind}
+use Rattle.message_fields.specs.Fields.{at}
+use Rattle.message_parts.specs.Watched.{statusOf, parametersOf, controlOf}
+use Rattle.message_charger.specs.Build.{idOf}
+use Rattle.message_safety.specs.Build.{safetyControlOf, safetyStateOf, probesOf}
+use Rattle.message_build.specs.Built.{builtOf}
+use Rattle.message_charger.specs.Take.{statusRaws, parametersRaws, controlRaws, idRaws}
+use Rattle.message_safety.specs.Take.{safetyControlRaws, safetyStateRaws, probesRaws}
+use Rattle.message_take.specs.Take.{rawsOf, hasRaws}
+use Rattle.message_types.specs.KindNumbers.{kindOf}
+use Rattle.message_fields.proofs.FieldLaws.{bytes, words, duties, shorts, degrees, flags, kilohms-there}
+use Rattle.message_laws.proofs.Signals.{fits-at}
+use Rattle.message_types.proofs.Marks.{enable-label, state-label, protocol-label, plug-label, status-label, function-label, mode-label, contactors-label, lowering-label, end-label, origin-label, cp-label, pp-label}
 
 -- ---- each kind
 

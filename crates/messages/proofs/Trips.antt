@@ -28,10 +28,14 @@ use Rattle.pages.specs.Change.{changeOf, bytesAfter}
 use Rattle.pages.proofs.Rules.{both-true, few}
 use Rattle.pages.proofs.Trips.{accepted, raws-back, raws-there, wholes-length, all-pad, packed-pad}
 use Rattle.pages.proofs.Changes.{change-read}
-use Rattle.messages.specs.declared.Message.{Message}
+use Rattle.message_types.specs.declared.Message.{Message}
 use Rattle.messages.specs.declared.Reading.the-variants.{Accepted}
-use Rattle.messages.specs.Read.{at, builtOf, messageOf, readingOf, readOf}
-use Rattle.messages.specs.Write.{rawsOf, hasRaws, kindOf, padded, writeOf, bufferAfter}
+use Rattle.message_fields.specs.Fields.{at}
+use Rattle.message_build.specs.Built.{builtOf, messageOf}
+use Rattle.messages.specs.Read.{readingOf, readOf}
+use Rattle.message_take.specs.Take.{rawsOf, hasRaws, padded}
+use Rattle.message_types.specs.KindNumbers.{kindOf}
+use Rattle.messages.specs.Write.{writeOf, bufferAfter}
 use Rattle.messages.proofs.Each.{counted, known-kind, one-form, allFit, labels-hold, message-is}
 use Rattle.messages.proofs.There.{there}
 use Rattle.messages.proofs.Back.{Back, back}

@@ -18,19 +18,21 @@ use Rattle.pages.specs.Change.{changeOf, bytesAfter}
 use Rattle.signal.specs.Signal.{getBits, putBits}
 use Rattle.signal.specs.Payload.{leNumber, leBytes, beNumber, beBytes, storedIn}
 use Rattle.signal.specs.Twos.{toSigned, ofSigned}
-use Rattle.messages.specs.declared.PowerModulesStatus.{PowerModulesStatus}
-use Rattle.messages.specs.declared.SystemEnable.the-variants.{Allowed}
-use Rattle.messages.specs.declared.ChargeControl1.{ChargeControl1}
-use Rattle.messages.specs.declared.ChargeState1.{ChargeState1}
-use Rattle.messages.specs.declared.Pt1000State.{Pt1000State}
-use Rattle.messages.specs.declared.CpState.the-variants as cp
-use Rattle.messages.specs.declared.PpState.the-variants as pp
-use Rattle.messages.specs.declared.Message.{Message}
-use Rattle.messages.specs.declared.Message.the-variants.{Status, SafetyControl, SafetyState, Probes}
+use Rattle.message_types.specs.declared.PowerModulesStatus.{PowerModulesStatus}
+use Rattle.message_types.specs.declared.SystemEnable.the-variants.{Allowed}
+use Rattle.message_types.specs.declared.ChargeControl1.{ChargeControl1}
+use Rattle.message_types.specs.declared.ChargeState1.{ChargeState1}
+use Rattle.message_types.specs.declared.Pt1000State.{Pt1000State}
+use Rattle.message_types.specs.declared.CpState.the-variants as cp
+use Rattle.message_types.specs.declared.PpState.the-variants as pp
+use Rattle.message_types.specs.declared.Message.{Message}
+use Rattle.message_types.specs.declared.Message.the-variants.{Status, SafetyControl, SafetyState, Probes}
 use Rattle.messages.specs.declared.Reading.{Reading}
 use Rattle.messages.specs.declared.Reading.the-variants.{Accepted, Refused}
-use Rattle.messages.specs.Read.{readOf, messageOf, builtOf}
-use Rattle.messages.specs.Write.{rawsOf, writeOf, bufferAfter}
+use Rattle.messages.specs.Read.{readOf}
+use Rattle.message_build.specs.Built.{messageOf, builtOf}
+use Rattle.message_take.specs.Take.{rawsOf}
+use Rattle.messages.specs.Write.{writeOf, bufferAfter}
 
 -- the form of an identifier
 abbrev standard : Bool

@@ -2,8 +2,8 @@
 use Prim.Native.Nat.{ℕ}
 use mathlib.Core.Path.{_≡_}
 use mathlib.Core.Bool.{true}
-use Rattle.messages.specs.declared.DcPowerParameters.{DcPowerParameters}
-use Rattle.messages.specs.Parts.{parametersIn}
+use Rattle.message_types.specs.declared.DcPowerParameters.{DcPowerParameters}
+use Rattle.message_parts.specs.Parts.{parametersIn}
 use Rattle.post.specs.declared.Slot.{Slot}
 use Rattle.post.specs.Judgements.{capped}
 use Rattle.post.specs.Step.{limitIn}

@@ -5,9 +5,9 @@ use mathlib.Core.Path.{_≡_, refl, sym, _∙_}
 use mathlib.Core.Bool.{true, _&&_}
 use mathlib.Core.Option.{Option, none, some}
 use lib.Dec.{ltb}
-use Rattle.messages.specs.declared.DcPowerParameters.{DcPowerParameters}
-use Rattle.messages.specs.declared.NewChargeSession.{NewChargeSession}
-use Rattle.messages.specs.Parts.{statusKind, sessionKind, controlKind, finishedKind, statusIn, sessionIn, controlIn}
+use Rattle.message_types.specs.declared.DcPowerParameters.{DcPowerParameters}
+use Rattle.message_types.specs.declared.NewChargeSession.{NewChargeSession}
+use Rattle.message_parts.specs.Parts.{statusKind, sessionKind, controlKind, finishedKind, statusIn, sessionIn, controlIn}
 use Rattle.post.specs.declared.PlainLimits.{PlainLimits}
 use Rattle.post.specs.History.{Event, frame, tick, History, timeOf, elapsed}
 use Rattle.post.specs.Judgements.{bit, differs, isCarrying}

@@ -7,7 +7,7 @@ use mathlib.Core.Bool.{true}
 use mathlib.Core.Option.{Option, none, some}
 use borrow.Author.Tests.{eq-eqb, ne-eqb}
 use lib.ListN.{set}
-use Rattle.messages.specs.Parts.{statusKind, controlKind}
+use Rattle.message_parts.specs.Parts.{statusKind, controlKind}
 use Rattle.post.specs.declared.PlainLimits.{PlainLimits}
 use Rattle.post.specs.declared.Latest.{Latest}
 use Rattle.post.specs.History.{frame, tick, History, newest, ofKind, sinceFinished, opening, earlierIn, countFrom}

@@ -5,7 +5,7 @@ use mathlib.Core.List.{_∷_}
 use mathlib.Core.Bool.{false}
 use mathlib.Core.Option.{Option, none, some}
 use lib.Dec.{eqb}
-use Rattle.messages.specs.Parts.{statusKind, sessionKind, controlKind, finishedKind}
+use Rattle.message_parts.specs.Parts.{statusKind, sessionKind, controlKind, finishedKind}
 use Rattle.post.specs.declared.Session.{Session}
 use Rattle.post.specs.History.{Event, frame, History, first, newest, oldest, onlyIf, afterOldest, ofKind, sinceFinished, opening, inSession}
 use Rattle.post.specs.Rules.{sessionStatus, sessionControl}

@@ -6,7 +6,7 @@ use mathlib.Core.Bool.{false}
 use mathlib.Core.Option.{none}
 use borrow.Author.Tests.{ne-eqb}
 use lib.Dec.{eqb}
-use Rattle.messages.specs.KindNumbers.{statusKind, sessionKind, controlKind, finishedKind, safetyControlKind}
+use Rattle.message_types.specs.KindNumbers.{statusKind, sessionKind, controlKind, finishedKind, safetyControlKind}
 use Rattle.post.specs.declared.PlainLimits.{PlainLimits}
 use Rattle.post.specs.History.{Event, frame, History, ofKind}
 use Rattle.post.specs.Judgements.{bit}

@@ -4,7 +4,7 @@ use mathlib.Core.List.{List, [], _∷_}
 use mathlib.Core.Bool.{Bool, false, cond}
 use mathlib.Core.Option.{Option, none, some}
 use lib.Dec.{ltb, eqb}
-use Rattle.messages.specs.Parts.{sessionKind, finishedKind}
+use Rattle.message_parts.specs.Parts.{sessionKind, finishedKind}
 
 -- a frame by its time, its kind and its payload number (its message is `messageOf` of the two), or a tick
 pub data Event : Type 0 where

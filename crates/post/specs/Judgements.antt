@@ -4,18 +4,18 @@ use mathlib.Core.Bool.{Bool, true, false, cond, not, _&&_, _||_}
 use lib.Dec.{eqb, ltb}
 use lib.IntN.{ℤ, pos, negsuc, negℤ}
 use lib.Signed.{ltZ}
-use Rattle.messages.specs.declared.SystemEnable.{SystemEnable}
-use Rattle.messages.specs.declared.SystemEnable.the-variants.{NotAllowed, Allowed}
-use Rattle.messages.specs.declared.PowerFunction.{PowerFunction}
-use Rattle.messages.specs.declared.PowerFunction.the-variants.{Off, Standby, InsulationTest, Precharge, PowerTransfer}
-use Rattle.messages.specs.declared.OutputContactors.{OutputContactors}
-use Rattle.messages.specs.declared.OutputContactors.the-variants.{Open, Close}
-use Rattle.messages.specs.declared.LowerOutput.{LowerOutput}
-use Rattle.messages.specs.declared.LowerOutput.the-variants.{NoLowering, Lowering}
-use Rattle.messages.specs.declared.PowerModulesStatus.{PowerModulesStatus}
-use Rattle.messages.specs.declared.NewChargeSession.{NewChargeSession}
-use Rattle.messages.specs.declared.DcPowerControl.{DcPowerControl}
-use Rattle.messages.specs.Labels.{protocolNumber, plugNumber}
+use Rattle.message_types.specs.declared.SystemEnable.{SystemEnable}
+use Rattle.message_types.specs.declared.SystemEnable.the-variants.{NotAllowed, Allowed}
+use Rattle.message_types.specs.declared.PowerFunction.{PowerFunction}
+use Rattle.message_types.specs.declared.PowerFunction.the-variants.{Off, Standby, InsulationTest, Precharge, PowerTransfer}
+use Rattle.message_types.specs.declared.OutputContactors.{OutputContactors}
+use Rattle.message_types.specs.declared.OutputContactors.the-variants.{Open, Close}
+use Rattle.message_types.specs.declared.LowerOutput.{LowerOutput}
+use Rattle.message_types.specs.declared.LowerOutput.the-variants.{NoLowering, Lowering}
+use Rattle.message_types.specs.declared.PowerModulesStatus.{PowerModulesStatus}
+use Rattle.message_types.specs.declared.NewChargeSession.{NewChargeSession}
+use Rattle.message_types.specs.declared.DcPowerControl.{DcPowerControl}
+use Rattle.message_types.specs.Labels.{protocolNumber, plugNumber}
 use Rattle.post.specs.declared.Sensor.{Sensor}
 use Rattle.post.specs.declared.Sensor.the-variants.{Measuring, YesNo}
 

@@ -5,9 +5,9 @@ use Prim.Native.Nat.{ℕ}
 use mathlib.Core.List.{List, [], _∷_, map}
 use mathlib.Core.Bool.{Bool, true, false}
 use mathlib.Core.Option.{Option, none, some}
-pub use Rattle.messages.specs.KindNumbers.{kindCount}
-use Rattle.messages.specs.Parts.{statusKind, controlKind, sessionIn}
-use Rattle.messages.specs.Read.{messageOf}
+pub use Rattle.message_types.specs.KindNumbers.{kindCount}
+use Rattle.message_parts.specs.Parts.{statusKind, controlKind, sessionIn}
+use Rattle.message_build.specs.Built.{messageOf}
 use Rattle.post.specs.declared.Slot.{Slot}
 use Rattle.post.specs.declared.PlainLimits.{PlainLimits}
 use Rattle.post.specs.declared.Session.{Session}

@@ -3,8 +3,8 @@ use Prim.Native.Nat.{ℕ, _+_, max}
 use mathlib.Core.Bool.{Bool, true, false, not, _&&_}
 use mathlib.Core.Option.{Option, none, some}
 use lib.Dec.{ltb}
-use Rattle.messages.specs.declared.DcPowerParameters.{DcPowerParameters}
-use Rattle.messages.specs.Parts.{statusKind, parametersKind, controllerKind, sessionKind, controlKind, finishedKind, statusIn, parametersIn, sessionIn, controlIn}
+use Rattle.message_types.specs.declared.DcPowerParameters.{DcPowerParameters}
+use Rattle.message_parts.specs.Parts.{statusKind, parametersKind, controllerKind, sessionKind, controlKind, finishedKind, statusIn, parametersIn, sessionIn, controlIn}
 use Rattle.post.specs.declared.PlainLimits.{PlainLimits}
 use Rattle.post.specs.History.{Event, History, timeOf, newest, ofKind, opening, inSession, elapsed}
 use Rattle.post.specs.Sensor.{sensorOf}

@@ -4,12 +4,12 @@ use mathlib.Core.List.{List, [], map}
 use mathlib.Core.Bool.{Bool, true, false, cond, not, _&&_}
 use lib.Dec.{ltb, leb, eqb}
 use lib.ListN.{getD, set, replicate}
-use Rattle.messages.specs.declared.DcPowerParameters.{DcPowerParameters}
-use Rattle.messages.specs.declared.DcPowerControl.{DcPowerControl}
-use Rattle.messages.specs.declared.PowerModulesStatus.{PowerModulesStatus}
-use Rattle.messages.specs.declared.NewChargeSession.{NewChargeSession}
-use Rattle.messages.specs.Parts.{statusKind, parametersKind, controllerKind, sessionKind, controlKind, finishedKind, statusIn, parametersIn, sessionIn, controlIn}
-use Rattle.messages.specs.Read.{messageOf}
+use Rattle.message_types.specs.declared.DcPowerParameters.{DcPowerParameters}
+use Rattle.message_types.specs.declared.DcPowerControl.{DcPowerControl}
+use Rattle.message_types.specs.declared.PowerModulesStatus.{PowerModulesStatus}
+use Rattle.message_types.specs.declared.NewChargeSession.{NewChargeSession}
+use Rattle.message_parts.specs.Parts.{statusKind, parametersKind, controllerKind, sessionKind, controlKind, finishedKind, statusIn, parametersIn, sessionIn, controlIn}
+use Rattle.message_build.specs.Built.{messageOf}
 use Rattle.post.specs.declared.Slot.{Slot}
 use Rattle.post.specs.declared.PlainLimits.{PlainLimits}
 use Rattle.post.specs.declared.Session.{Session}

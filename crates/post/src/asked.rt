@@ -3,15 +3,15 @@ ghost use mathlib.Core.Path.{_≡_};
 ghost use mathlib.Core.Bool.{_&&_, not};
 ghost use Prim.Native.Nat.{_≤_};
 ghost use Rattle.post.specs.Judgements.{isAllowed, isClose, isPowered, isCarrying, isOff, isStandby, isLowering, lowersBadly, outside, leaking, badInsulation, differs, capped, bit};
-ghost use Rattle.messages.specs.Labels.{protocolNumber, plugNumber};
+ghost use Rattle.message_types.specs.Labels.{protocolNumber, plugNumber};
 use crate::Sensor;
-use messages::DcPowerControl;
-use messages::LowerOutput;
-use messages::NewChargeSession;
-use messages::OutputContactors;
-use messages::PowerFunction;
-use messages::PowerModulesStatus;
-use messages::SystemEnable;
+use message_types::DcPowerControl;
+use message_types::LowerOutput;
+use message_types::NewChargeSession;
+use message_types::OutputContactors;
+use message_types::PowerFunction;
+use message_types::PowerModulesStatus;
+use message_types::SystemEnable;
 
 pub fn allowed(x: SystemEnable) -> bool
     ensures { λ r. ⌜ r ≡ isAllowed x ⌝ }
@@ -143,12 +143,12 @@ pub fn do_differ(a: NewChargeSession, b: NewChargeSession) -> bool
 {
     let p = a.protocol;
     let q = b.protocol;
-    if messages::labels::protocol_number(p) != messages::labels::protocol_number(q) {
+    if message_types::labels::protocol_number(p) != message_types::labels::protocol_number(q) {
         return true;
     }
     let x = a.plug;
     let y = b.plug;
-    messages::labels::plug_number(x) != messages::labels::plug_number(y)
+    message_types::labels::plug_number(x) != message_types::labels::plug_number(y)
 }
 
 pub fn cap(most: u32, got: u16) -> u32

@@ -9,15 +9,15 @@ use crate::Slot;
 use crate::asked::*;
 use crate::kept::sensor_of;
 use crate::times::ms_between;
-use messages::CONTROL;
-use messages::CONTROLLER;
-use messages::DcPowerControl;
-use messages::FINISHED;
-use messages::NewChargeSession;
-use messages::PARAMETERS;
-use messages::PowerModulesStatus;
-use messages::SESSION;
-use messages::STATUS;
+use message_types::CONTROL;
+use message_types::CONTROLLER;
+use message_types::DcPowerControl;
+use message_types::FINISHED;
+use message_types::NewChargeSession;
+use message_types::PARAMETERS;
+use message_types::PowerModulesStatus;
+use message_types::SESSION;
+use message_types::STATUS;
 
 fn later(since: u32, st: Slot) -> u32
     ensures { λ r. ⌜ r ≡ laterOf since st ⌝ }
@@ -70,7 +70,7 @@ fn voltage_limit(most: u32, l: Slot) -> u32
     ensures { λ r. ⌜ r ≡ limitIn most (λ q. q .voltage) l ⌝ }
 {
     if l.known {
-        cap(most, messages::parameters_in(l.raw).voltage)
+        cap(most, message_parts::parameters_in(l.raw).voltage)
     } else {
         most
     }
@@ -80,7 +80,7 @@ fn charge_limit(most: u32, l: Slot) -> u32
     ensures { λ r. ⌜ r ≡ limitIn most (λ q. q .charge) l ⌝ }
 {
     if l.known {
-        cap(most, messages::parameters_in(l.raw).charge)
+        cap(most, message_parts::parameters_in(l.raw).charge)
     } else {
         most
     }
@@ -90,7 +90,7 @@ fn discharge_limit(most: u32, l: Slot) -> u32
     ensures { λ r. ⌜ r ≡ limitIn most (λ q. q .discharge) l ⌝ }
 {
     if l.known {
-        cap(most, messages::parameters_in(l.raw).discharge)
+        cap(most, message_parts::parameters_in(l.raw).discharge)
     } else {
         most
     }
@@ -102,7 +102,7 @@ fn unready_after(l: Slot) -> bool
     ensures { λ r. ⌜ r ≡ unreadyAfter l ⌝ }
 {
     if l.known {
-        let x = messages::status_in(l.raw).enable;
+        let x = message_parts::status_in(l.raw).enable;
         return negated(allowed(x));
     }
     true
@@ -138,7 +138,7 @@ fn carrying_after(l: Slot) -> bool
     ensures { λ r. ⌜ r ≡ carryingAfter l ⌝ }
 {
     if l.known {
-        let f = messages::control_in(l.raw).function;
+        let f = message_parts::control_in(l.raw).function;
         return carrying(f);
     }
     false
@@ -172,7 +172,7 @@ fn opening_findings(s: Session, n: NewChargeSession) -> u32
     ensures { λ r. ⌜ (r ≡ openingFindings s n) × (r ≤ 512) ⌝ }
 {
     flag(
-        both(s.opened, do_differ(messages::session_in(s.first), n)),
+        both(s.opened, do_differ(message_parts::session_in(s.first), n)),
         512,
     )
 }
@@ -188,13 +188,13 @@ pub fn message_findings(p: Post, kind: usize, raw: u64) -> u32
 {
     let s = p.session;
     if kind == STATUS {
-        return status_findings(p, messages::status_in(raw));
+        return status_findings(p, message_parts::status_in(raw));
     }
     if kind == SESSION {
-        return opening_findings(s, messages::session_in(raw));
+        return opening_findings(s, message_parts::session_in(raw));
     }
     if kind == CONTROL {
-        return control_findings(p, messages::control_in(raw));
+        return control_findings(p, message_parts::control_in(raw));
     }
     if kind == FINISHED {
         return finished_findings(s);

@@ -11,9 +11,9 @@ mod found; // found.rt: F1 to F11
 mod step; // step.rt: a post after one event more
 mod shown; // shown.rt: the record that is handed out
 
-use messages::Message;
-use messages::Plug;
-use messages::Protocol;
+use message_types::Message;
+use message_types::Plug;
+use message_types::Protocol;
 
 pub const KINDS: usize = 12;
 

@@ -12,14 +12,14 @@ use crate::Session;
 use crate::SessionPart;
 use crate::Slot;
 use crate::kept::limits_in;
-use messages::CONTROL;
-use messages::STATUS;
+use message_types::CONTROL;
+use message_types::STATUS;
 
 fn dated(kind: usize, l: Slot) -> Dated
     ensures { λ r. ⌜ r ≡ datedIn kind l ⌝ }
 {
     if l.known {
-        Dated::At(l.time, messages::message_of(kind, l.raw))
+        Dated::At(l.time, message_build::message_of(kind, l.raw))
     } else {
         Dated::Nothing
     }
@@ -33,7 +33,7 @@ fn part(s: Session) -> SessionPart
     }
     let st = s.status;
     let ct = s.control;
-    let n = messages::session_in(s.first);
+    let n = message_parts::session_in(s.first);
     let protocol = n.protocol;
     let plug = n.plug;
     let status = dated(STATUS, st);

@@ -6,10 +6,10 @@ use crate::KINDS;
 use crate::Post;
 use crate::Session;
 use crate::Slot;
-use messages::CONTROL;
-use messages::FINISHED;
-use messages::SESSION;
-use messages::STATUS;
+use message_types::CONTROL;
+use message_types::FINISHED;
+use message_types::SESSION;
+use message_types::STATUS;
 
 fn no_slot() -> Slot
     ensures { λ r. ⌜ r ≡ unknown ⌝ }

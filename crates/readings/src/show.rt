@@ -1,13 +1,13 @@
 // Numbers, bytes and answers as text on standard output.
 use libc::STDOUT_FILENO;
-use messages::ChargeControl1;
-use messages::Message;
-use messages::NewChargeSession;
-use messages::Plug;
-use messages::PowerModulesStatus;
-use messages::Protocol;
-use messages::Pt1000State;
-use messages::SystemEnable;
+use message_types::ChargeControl1;
+use message_types::Message;
+use message_types::NewChargeSession;
+use message_types::Plug;
+use message_types::PowerModulesStatus;
+use message_types::Protocol;
+use message_types::Pt1000State;
+use message_types::SystemEnable;
 use pages::Judged;
 use pages::Refusal;
 use pages::Written;

@@ -4,7 +4,7 @@ use crate::show::natural;
 use crate::show::refusal;
 use crate::show::text;
 use libc::STDOUT_FILENO;
-use messages::kind_of;
+use message_types::kind_of;
 use pages::Refusal;
 use post::Dated;
 use post::KINDS;

@@ -15,7 +15,7 @@ use Rattle.pages.specs.Raws.{wholesOf, pad, rawsOf}
 use Rattle.signal.specs.Signal.{getBits}
 use Rattle.signal.specs.Payload.{leNumber}
 use Rattle.signal.specs.Twos.{toSigned}
-use Rattle.messages.specs.Parts.{statusIn, parametersIn, sessionIn, controlIn}
+use Rattle.message_parts.specs.Parts.{statusIn, parametersIn, sessionIn, controlIn}
 use Rattle.post.specs.declared.PlainLimits.{PlainLimits}
 use Rattle.post.specs.History.{History, sinceFinished, opening, inSession, earlierIn}
 use Rattle.post.specs.History as history

@@ -14,12 +14,12 @@ use Rattle.pages.specs.Raws.{wholesOf, pad, rawsOf}
 use Rattle.signal.specs.Signal.{getBits}
 use Rattle.signal.specs.Payload.{leNumber, beNumber}
 use Rattle.signal.specs.Twos.{toSigned}
-use Rattle.messages.specs.declared.CpState.the-variants as cp
-use Rattle.messages.specs.declared.PpState.the-variants as pp
-use Rattle.messages.specs.declared.Message.the-variants.{SafetyState, Probes}
-use Rattle.messages.specs.KindNumbers.{safetyStateKind, probesKind}
-use Rattle.messages.specs.Parts.{statusIn, parametersIn, sessionIn, controlIn}
-use Rattle.messages.specs.Read.{messageOf, builtOf}
+use Rattle.message_types.specs.declared.CpState.the-variants as cp
+use Rattle.message_types.specs.declared.PpState.the-variants as pp
+use Rattle.message_types.specs.declared.Message.the-variants.{SafetyState, Probes}
+use Rattle.message_types.specs.KindNumbers.{safetyStateKind, probesKind}
+use Rattle.message_parts.specs.Parts.{statusIn, parametersIn, sessionIn, controlIn}
+use Rattle.message_build.specs.Built.{messageOf, builtOf}
 use Rattle.messages.specs.Readings as messages
 use Rattle.post.specs.declared.PlainLimits.{PlainLimits}
 use Rattle.post.specs.declared.Sensor.{Sensor}
