@@ -1,2 +1,5 @@
 pub mod Labelled
 pub mod Signals
+pub mod Fitting
+pub mod Ways
+pub mod Codec

@@ -1,4 +1,2 @@
 pub mod Each
-pub mod There
-pub mod Back
 pub mod Trips
