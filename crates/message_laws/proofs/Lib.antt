@@ -3,3 +3,4 @@ pub mod Signals
 pub mod Fitting
 pub mod Ways
 pub mod Codec
+pub mod Upto

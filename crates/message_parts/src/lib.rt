@@ -75,47 +75,91 @@ pub fn control(f: [i64; 16]) -> DcPowerControl
 pub fn status_in(number: u64) -> PowerModulesStatus
     ensures { λ r. ⌜ r ≡ statusIn number ⌝ }
 {
-    let mut f = [0i64; 16];
-    f[0] = pages::raw_of(STATUS, 0, number);
-    f[1] = pages::raw_of(STATUS, 1, number);
-    f[2] = pages::raw_of(STATUS, 2, number);
-    f[3] = pages::raw_of(STATUS, 3, number);
-    f[4] = pages::raw_of(STATUS, 4, number);
-    f[5] = pages::raw_of(STATUS, 5, number);
-    status(f)
+    status([
+        pages::raw_of(STATUS, 0, number),
+        pages::raw_of(STATUS, 1, number),
+        pages::raw_of(STATUS, 2, number),
+        pages::raw_of(STATUS, 3, number),
+        pages::raw_of(STATUS, 4, number),
+        pages::raw_of(STATUS, 5, number),
+        0,
+        0,
+        0,
+        0,
+        0,
+        0,
+        0,
+        0,
+        0,
+        0,
+    ])
 }
 
 pub fn parameters_in(number: u64) -> DcPowerParameters
     ensures { λ r. ⌜ r ≡ parametersIn number ⌝ }
 {
-    let mut f = [0i64; 16];
-    f[0] = pages::raw_of(PARAMETERS, 0, number);
-    f[1] = pages::raw_of(PARAMETERS, 1, number);
-    f[2] = pages::raw_of(PARAMETERS, 2, number);
-    f[3] = pages::raw_of(PARAMETERS, 3, number);
-    parameters(f)
+    parameters([
+        pages::raw_of(PARAMETERS, 0, number),
+        pages::raw_of(PARAMETERS, 1, number),
+        pages::raw_of(PARAMETERS, 2, number),
+        pages::raw_of(PARAMETERS, 3, number),
+        0,
+        0,
+        0,
+        0,
+        0,
+        0,
+        0,
+        0,
+        0,
+        0,
+        0,
+        0,
+    ])
 }
 
 pub fn session_in(number: u64) -> NewChargeSession
     ensures { λ r. ⌜ r ≡ sessionIn number ⌝ }
 {
-    let mut f = [0i64; 16];
-    f[0] = pages::raw_of(SESSION, 0, number);
-    f[1] = pages::raw_of(SESSION, 1, number);
-    session(f)
+    session([
+        pages::raw_of(SESSION, 0, number),
+        pages::raw_of(SESSION, 1, number),
+        0,
+        0,
+        0,
+        0,
+        0,
+        0,
+        0,
+        0,
+        0,
+        0,
+        0,
+        0,
+        0,
+        0,
+    ])
 }
 
 pub fn control_in(number: u64) -> DcPowerControl
     ensures { λ r. ⌜ r ≡ controlIn number ⌝ }
 {
-    let mut f = [0i64; 16];
-    f[0] = pages::raw_of(CONTROL, 0, number);
-    f[1] = pages::raw_of(CONTROL, 1, number);
-    f[2] = pages::raw_of(CONTROL, 2, number);
-    f[3] = pages::raw_of(CONTROL, 3, number);
-    f[4] = pages::raw_of(CONTROL, 4, number);
-    f[5] = pages::raw_of(CONTROL, 5, number);
-    f[6] = pages::raw_of(CONTROL, 6, number);
-    f[7] = pages::raw_of(CONTROL, 7, number);
-    control(f)
+    control([
+        pages::raw_of(CONTROL, 0, number),
+        pages::raw_of(CONTROL, 1, number),
+        pages::raw_of(CONTROL, 2, number),
+        pages::raw_of(CONTROL, 3, number),
+        pages::raw_of(CONTROL, 4, number),
+        pages::raw_of(CONTROL, 5, number),
+        pages::raw_of(CONTROL, 6, number),
+        pages::raw_of(CONTROL, 7, number),
+        0,
+        0,
+        0,
+        0,
+        0,
+        0,
+        0,
+        0,
+    ])
 }

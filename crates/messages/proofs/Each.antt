@@ -3,8 +3,9 @@
 use mathlib.Core.Path.{_≡_, refl, sym, ap, _∙_, subst}
 use mathlib.Core.Bool.{Bool, true, false, _&&_}
 use mathlib.Core.List.{List, [], _∷_}
-use Prim.Native.Nat.{ℕ, zero, suc, _≤_, _<_}
-use native.Mathlib.Nat.{le-of-suc-le-suc, not-suc-le-zero}
+use Prim.Native.Nat.{ℕ, _≤_, _<_}
+use native.Mathlib.Nat.{not-suc-le-zero}
+use native.Mathlib.Omega.{arith}
 use lib.Dec.{leb, ltb, lit≤}
 use lib.ListN.{length}
 use lib.IntN.{ℤ}
@@ -19,9 +20,10 @@ use Rattle.pages.proofs.Rules.{both-true}
 use Rattle.message_fields.specs.Fields.{at}
 use Rattle.message_laws.proofs.Fitting.{allFit, labelsAt}
 use Rattle.message_laws.proofs.Codec as codecs
+use Rattle.message_laws.proofs.Upto.{From, done, _⨾_, upto}
 use Rattle.message_types.specs.declared.Message.{Message}
 use Rattle.message_types.specs.declared.Message.the-variants.{Status, Parameters, Controller, Session, Change, Control, Finished, Stop, Id, SafetyControl, SafetyState, Probes}
-use Rattle.message_types.specs.KindNumbers.{kindOf, kindCount}
+use Rattle.message_types.specs.KindNumbers.{statusKind, parametersKind, controllerKind, sessionKind, changeKind, controlKind, finishedKind, stopKind, idKind, safetyControlKind, safetyStateKind, probesKind, kindCount, kindOf}
 use Rattle.message_build.specs.Built.{builtOf, messageOf}
 use Rattle.message_take.specs.Take.{rawsOf, hasRaws}
 use Rattle.message_charger.proofs.Ways.{status-ways, parameters-ways, controller-ways, session-ways, change-ways, control-ways, finished-ways, stop-ways, id-ways}
@@ -116,16 +118,6 @@ pub kinds : (k : ℕ) → 1 ≤ length (rowsOf k) → k < kindCount
 unfolding rows chargerRows safetyRows ofKind
 kinds k h = kind-below k rows refl h
 
--- P at each number below c
-abbrev Upto : (ℕ → Type 0) → ℕ → Type 0
-Upto P zero = Unit {0}
-Upto P (suc c) = P 0 × Upto (λ (x : ℕ). P (suc x)) c
-
-upto : (P : ℕ → Type 0) (c : ℕ) → Upto P c → (k : ℕ) → k < c → P k
-upto P zero p k h = absurd (not-suc-le-zero h)
-upto P (suc c) p zero h = p .0
-upto P (suc c) p (suc k) h = upto (λ (x : ℕ). P (suc x)) c (p .1) k (le-of-suc-le-suc h)
-
 -- ---- a payload's numbers are those of the message that they make
 
 -- what is asked of the message that a payload number makes
@@ -136,48 +128,28 @@ Back k zs m = (kindOf m ≡ k) × (rawsOf m ≡ zs) × (hasRaws m ≡ true)
 abbrev Return : ℕ → ℕ → Type 0
 Return n k = unlabelled n (rowsOf k) ≡ false → Back k (wholesOf n (rowsOf k)) (builtOf k (at (wholesOf n (rowsOf k))))
 
-returns : (n : ℕ) → Upto (Return n) kindCount
+is : (n k : ℕ) → Return n k → Return n k
+is n k r = r
+
+returns : (n : ℕ) → From (Return n) kindCount 0
 unfolding rawsOf builtOf
-returns n = (
-  λ e. (refl, status-ways .back n e, status-ways .backed n),
-  (
-    λ e. (refl, parameters-ways .back n e, parameters-ways .backed n),
-    (
-      λ e. (refl, controller-ways .back n e, controller-ways .backed n),
-      (
-        λ e. (refl, session-ways .back n e, session-ways .backed n),
-        (
-          λ e. (refl, change-ways .back n e, change-ways .backed n),
-          (
-            λ e. (refl, control-ways .back n e, control-ways .backed n),
-            (
-              λ e. (refl, finished-ways .back n e, finished-ways .backed n),
-              (
-                λ e. (refl, stop-ways .back n e, stop-ways .backed n),
-                (
-                  λ e. (refl, id-ways .back n e, id-ways .backed n),
-                  (
-                    λ e. (refl, safety-control-ways .back n e, safety-control-ways .backed n),
-                    (
-                      λ e. (refl, safety-state-ways .back n e, safety-state-ways .backed n),
-                      (
-                        λ e. (refl, probes-ways .back n e, probes-ways .backed n),
-                        tt,
-                      ),
-                    ),
-                  ),
-                ),
-              ),
-            ),
-          ),
-        ),
-      ),
-    ),
-  ),
-)
+returns n =
+    is n statusKind (λ e. (refl, status-ways .back n e, status-ways .backed n))
+    ⨾ is n parametersKind (λ e. (refl, parameters-ways .back n e, parameters-ways .backed n))
+    ⨾ is n controllerKind (λ e. (refl, controller-ways .back n e, controller-ways .backed n))
+    ⨾ is n sessionKind (λ e. (refl, session-ways .back n e, session-ways .backed n))
+    ⨾ is n changeKind (λ e. (refl, change-ways .back n e, change-ways .backed n))
+    ⨾ is n controlKind (λ e. (refl, control-ways .back n e, control-ways .backed n))
+    ⨾ is n finishedKind (λ e. (refl, finished-ways .back n e, finished-ways .backed n))
+    ⨾ is n stopKind (λ e. (refl, stop-ways .back n e, stop-ways .backed n))
+    ⨾ is n idKind (λ e. (refl, id-ways .back n e, id-ways .backed n))
+    ⨾ is n safetyControlKind (λ e. (refl, safety-control-ways .back n e, safety-control-ways .backed n))
+    ⨾ is n safetyStateKind (λ e. (refl, safety-state-ways .back n e, safety-state-ways .backed n))
+    ⨾ is n probesKind (λ e. (refl, probes-ways .back n e, probes-ways .backed n))
+    ⨾ done
 
 pub back : (k n : ℕ) → 1 ≤ length (rowsOf k) → unlabelled n (rowsOf k) ≡ false → Back k (wholesOf n (rowsOf k)) (builtOf k (at (wholesOf n (rowsOf k))))
-back k n h = upto (Return n) kindCount (returns n) k (kinds k h)
+back k n h = upto (returns n) k (omega arith) (kinds k h)
 
 -- ---- together
 

@@ -3,9 +3,6 @@ use borrow.Author.Needs.{needs}
 use Rattle.message_take.proofs.has_raws.Statement.{statement}
 use Rattle.message_take.proofs.has_raws.Tie as tie
 
-returns : tie.Need-returns
-returns c = rw (c .before .before .m .given .1)
-
 pub has-raws-spec : {M : Type 1} → statement M
 has-raws-spec =
     tie.close
@@ -22,7 +19,7 @@ has-raws-spec =
     (λ c. search needs)
     (λ c. search needs)
     (λ c. search needs)
-    returns
+    (λ c. rw (c .before .before .m .given .1))
     (λ c. search needs)
     (λ c. search needs)
     (λ c. search needs)

@@ -3,11 +3,5 @@ use Rattle.message_types.proofs.Choices.{past}
 use Rattle.message_types.proofs.labels.lowering_of.Statement.{statement}
 use Rattle.message_types.proofs.labels.lowering_of.Tie as tie
 
-returns : tie.Need-returns
-returns c = rw (c .match .keys1)
-
-returns-2 : tie.Need-returns-2
-returns-2 c = search past
-
 pub lowering-of-spec : {M : Type 1} → statement M
-lowering-of-spec = tie.close (tie.spec returns returns-2)
+lowering-of-spec = tie.close (tie.spec (λ c. rw (c .match .keys1)) (λ c. search past))
