@@ -1,4 +1,4 @@
--- The charger's messages that no rule asks, each of its signals' raw numbers in the table's order.
+-- The charger's messages of which no rule asks a field, each of its signals' raw numbers in the table's order.
 use Prim.Native.Nat.{ℕ}
 use lib.IntN.{ℤ}
 use Rattle.message_types.specs.declared.ControllerStatus.{ControllerStatus}

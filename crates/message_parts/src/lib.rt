@@ -1,5 +1,5 @@
-// The four messages whose fields the session watch's rules ask, of their signals' raw numbers and straight of a payload number. For the watch, which
-// needs no other message, and for the reader of them all.
+// The four messages whose fields the session watch's rules ask, of their signals' raw numbers and straight of a payload number. For the rules,
+// which ask no other field, and for the reader of all messages.
 ghost use mathlib.Core.Path.{_≡_};
 ghost use Rattle.message_fields.specs.Fields.{at};
 ghost use Rattle.message_parts.specs.Watched.{statusOf, parametersOf, sessionOf, controlOf};
@@ -70,7 +70,7 @@ pub fn control(f: [i64; 16]) -> DcPowerControl
     }
 }
 
-// ---- of a payload number: its signals' numbers alone are read
+// ---- of a payload number: its signals' numbers alone are read, and past them stands 0
 
 pub fn status_in(number: u64) -> PowerModulesStatus
     ensures { λ r. ⌜ r ≡ statusIn number ⌝ }

@@ -2,7 +2,7 @@
 use mathlib.Core.Bool.{Bool, true}
 use mathlib.Core.List.{List}
 use lib.IntN.{ℤ}
-use Rattle.pages.specs.Raws as pages
+use Rattle.pages.specs.Raws.{pad, signalCount}
 use Rattle.message_types.specs.declared.Message.{Message}
 use Rattle.message_types.specs.declared.Message.the-variants.{Status, Parameters, Controller, Session, Change, Control, Finished, Stop, Id, SafetyControl, SafetyState, Probes}
 use Rattle.message_fields.specs.Fields.{hasKilohms}
@@ -40,4 +40,4 @@ hasRaws (Probes m) = true
 
 -- the numbers as `write_raws` of pages takes them
 abbrev pub padded : Message → List ℤ
-padded m = pages.pad pages.signalCount (rawsOf m)
+padded m = pad signalCount (rawsOf m)
