@@ -12,7 +12,7 @@ use notation::fields::Head;
 use pages::Judged;
 use pages::Refusal;
 use pages::Written;
-use post::KINDS;
+use rules::KINDS;
 use text::Bytes;
 use text::Field;
 use text::Pen;

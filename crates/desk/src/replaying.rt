@@ -8,7 +8,7 @@ use notation::setup::Asked;
 use pages::Refusal;
 use playing::Played;
 use playing::Replay;
-use post::PlainLimits;
+use rule_limits::PlainLimits;
 use text::Bytes;
 use text::Pen;
 

@@ -5,8 +5,8 @@ use mathlib.Core.Path.{_≡_, refl, sym, ap, _∙_}
 use mathlib.Core.Bool.{Bool, true, false, cond, _&&_}
 use Rattle.pages.specs.declared.Judged.{Judged}
 use Rattle.pages.specs.declared.Refusal.the-variants.{ChannelFree, Earlier}
-use Rattle.post.specs.declared.Post.{Post}
-use Rattle.post.specs.Step.{isEarly}
+use Rattle.rules.specs.declared.Post.{Post}
+use Rattle.rules.specs.Step.{isEarly}
 use Rattle.watch.specs.declared.Arrival.{Arrival}
 use Rattle.watch.specs.declared.Heard.{Heard}
 use Rattle.watch.specs.declared.Answer.the-variants.{Refused}

@@ -37,8 +37,8 @@ use denote.Steps.{opens, closes, owned, peeks, nothing}
 use denote.Struct.Steps.{spelt}
 use denote.Struct.Laws as LL
 use denote.Triple.Call.{calls-from}
-use Rattle.post.proofs.Post as P
-use Rattle.post.proofs.Post.Laws as P′
+use Rattle.rules.proofs.Post as P
+use Rattle.rules.proofs.Post.Laws as P′
 use Rattle.watch.specs.Table.{postCount, putIn, noPost}
 use Rattle.watch.specs.declared.Table.{Table}
 use Rattle.watch.proofs.Table as T

@@ -19,18 +19,18 @@ use Rattle.pages.specs.Safety.{safetyRows}
 use Rattle.pages.specs.Table.{rows, ofKind, lengthOf, bigOf}
 use Rattle.pages.proofs.Rules.{short-length}
 use Rattle.pages.proofs.Trips.{accepted, raws-back}
-use Rattle.post.specs.declared.Dated.the-variants as dated
-use Rattle.post.specs.declared.Latest.{Latest}
-use Rattle.post.specs.declared.LastTime.{LastTime}
-use Rattle.post.specs.declared.LastTime.the-variants as last
-use Rattle.post.specs.declared.SessionPart.{SessionPart}
-use Rattle.post.specs.declared.SessionPart.the-variants as part
-use Rattle.post.specs.declared.Record.{Record}
-use Rattle.post.specs.declared.Slot.{Slot}
-use Rattle.post.specs.History.{countFrom}
-use Rattle.post.specs.Record.{kindCount, slotAt}
-use Rattle.post.specs.Step.{latestIn, datedIn, recordIn}
-use Rattle.post.proofs.Counted.{count-at}
+use Rattle.rules.specs.declared.Dated.the-variants as dated
+use Rattle.rules.specs.declared.Latest.{Latest}
+use Rattle.rules.specs.declared.LastTime.{LastTime}
+use Rattle.rules.specs.declared.LastTime.the-variants as last
+use Rattle.rules.specs.declared.SessionPart.{SessionPart}
+use Rattle.rules.specs.declared.SessionPart.the-variants as part
+use Rattle.rules.specs.declared.Record.{Record}
+use Rattle.rules.specs.declared.Slot.{Slot}
+use Rattle.rules.specs.History.{countFrom}
+use Rattle.rules.specs.Record.{kindCount, slotAt}
+use Rattle.rules.specs.Step.{latestIn, datedIn, recordIn}
+use Rattle.rules.proofs.Counted.{count-at}
 use Rattle.watch.specs.declared.Table.{Table}
 use Rattle.watch.specs.declared.Setting.{Setting}
 use Rattle.watch.specs.declared.Setting.the-variants as setting

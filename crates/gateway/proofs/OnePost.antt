@@ -27,9 +27,9 @@ use denote.Steps.{only, owned, nothing}
 use denote.Struct.Laws as LL
 use denote.Triple.Clauses.{Clauses, closing}
 use denote.Triple.Spec.{Meets}
-use Rattle.post.specs.declared.Post.{Post}
-use Rattle.post.proofs.Post as P
-use Rattle.post.proofs.Post.Laws as P′
+use Rattle.rules.specs.declared.Post.{Post}
+use Rattle.rules.proofs.Post as P
+use Rattle.rules.proofs.Post.Laws as P′
 use Rattle.watch.specs.Table.{postCount, putIn}
 use Rattle.watch.specs.declared.Table.{Table}
 use Rattle.watch.proofs.Table as T

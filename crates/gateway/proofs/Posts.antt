@@ -10,9 +10,9 @@ use denote.RattleType.{RattleType}
 use denote.Array.{arrayVal, Array}
 use denote.Laws.{Is}
 use denote.Struct.Laws as LL
-use Rattle.post.specs.declared.Post.{Post}
-use Rattle.post.proofs.Post as P
-use Rattle.post.proofs.Post.Laws as P′
+use Rattle.rules.specs.declared.Post.{Post}
+use Rattle.rules.proofs.Post as P
+use Rattle.rules.proofs.Post.Laws as P′
 use Rattle.watch.specs.Table.{postCount, putIn, noPost}
 use Rattle.watch.specs.declared.Table.{Table}
 use Rattle.watch.proofs.Table as T

@@ -9,7 +9,7 @@ use lib.ListN.{length, getD}
 use lib.Seq.{set-getD}
 use borrow.Author.Tests.{lt-leb, le-leb, ltb-true, ltb-false}
 use Rattle.pages.specs.Judge.{judgeOf}
-use Rattle.post.specs.declared.Post.{Post}
+use Rattle.rules.specs.declared.Post.{Post}
 use Rattle.watch.specs.declared.Table.{Table}
 use Rattle.watch.specs.declared.Arrival.{Arrival}
 use Rattle.watch.specs.declared.Arrival.the-variants.{Tick}

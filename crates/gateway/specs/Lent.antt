@@ -3,7 +3,7 @@ use Prim.Native.Nat.{ℕ}
 use mathlib.Core.List.{List}
 use mathlib.Core.Bool.{Bool}
 use Rattle.pages.specs.Judge.{judgeOf}
-use Rattle.post.specs.declared.PlainLimits.{PlainLimits}
+use Rattle.rule_limits.specs.declared.PlainLimits.{PlainLimits}
 use Rattle.watch.specs.declared.Table.{Table}
 use Rattle.watch.specs.declared.Fed.{Fed}
 use Rattle.watch.specs.declared.Settled.{Settled}

@@ -8,15 +8,15 @@ use Rattle.signal.specs.Payload.{bytesOf}
 use Rattle.pages.specs.declared.Refusal.the-variants.{UnknownIdentifier, ShortBuffer}
 use Rattle.pages.specs.Table.{lengthOf, bigOf}
 use Rattle.messages.specs.Labels.{protocolNumber, plugNumber}
-use Rattle.post.specs.declared.LastTime.{LastTime}
-use Rattle.post.specs.declared.LastTime.the-variants as last
-use Rattle.post.specs.declared.SessionPart.{SessionPart}
-use Rattle.post.specs.declared.SessionPart.the-variants as part
-use Rattle.post.specs.declared.Record.{Record}
-use Rattle.post.specs.declared.Slot.{Slot}
-use Rattle.post.specs.Sensor.{sensorNumber}
-use Rattle.post.specs.Record.{kindCount}
-use Rattle.post.specs.Step.{latestIn}
+use Rattle.rules.specs.declared.LastTime.{LastTime}
+use Rattle.rules.specs.declared.LastTime.the-variants as last
+use Rattle.rules.specs.declared.SessionPart.{SessionPart}
+use Rattle.rules.specs.declared.SessionPart.the-variants as part
+use Rattle.rules.specs.declared.Record.{Record}
+use Rattle.rules.specs.declared.Slot.{Slot}
+use Rattle.rule_limits.specs.Sensor.{sensorNumber}
+use Rattle.rules.specs.Record.{kindCount}
+use Rattle.rules.specs.Step.{latestIn}
 use Rattle.watch.specs.declared.Table.{Table}
 use Rattle.watch.specs.declared.Setting.{Setting}
 use Rattle.watch.specs.declared.Setting.the-variants as setting

@@ -6,7 +6,7 @@ use lib.Dec.{ltb}
 use lib.ListN.{getD}
 use Rattle.pages.specs.declared.Refusal.the-variants.{ChannelFree}
 use Rattle.pages.specs.Judge.{judgeOf}
-use Rattle.post.specs.declared.Post.{Post}
+use Rattle.rules.specs.declared.Post.{Post}
 use Rattle.watch.specs.declared.Table.{Table}
 use Rattle.watch.specs.declared.Heard.{Heard}
 use Rattle.watch.specs.declared.Arrival.{Arrival}

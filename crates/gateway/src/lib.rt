@@ -4,7 +4,7 @@
 ghost use mathlib.Core.Path.{_≡_};
 ghost use mathlib.Core.Bool.{cond, _&&_};
 ghost use Prim.Native.Nat.{_<_, _≤_};
-ghost use Rattle.post.specs.Step.{isEarly};
+ghost use Rattle.rules.specs.Step.{isEarly};
 ghost use Rattle.watch.specs.Table.{isChannel, holds};
 ghost use Rattle.gateway.specs.Words.{refusalWord, answerWord, settingWord};
 ghost use Rattle.gateway.specs.Lent.{startOf, setUpWord, releaseWord, frameWord, tickWord};
@@ -17,10 +17,10 @@ pub mod screen; // screen.rt: probes and a duty for the service screen
 
 use pages::Judged;
 use pages::Refusal;
-use post::KINDS;
-use post::PlainLimits;
-use post::Post;
-use post::Slot;
+use rules::KINDS;
+use rule_limits::PlainLimits;
+use rules::Post;
+use rules::Slot;
 use watch::Answer;
 use watch::Setting;
 use watch::Table;

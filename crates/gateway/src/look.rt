@@ -4,18 +4,18 @@ ghost use mathlib.Core.Bool.{cond, _&&_};
 ghost use mathlib.Core.List.{_++_};
 ghost use Prim.Native.Nat.{_≤_};
 ghost use lib.ListN.{length, drop};
-ghost use Rattle.post.specs.Step.{recordIn};
+ghost use Rattle.rules.specs.Step.{recordIn};
 ghost use Rattle.gateway.specs.LookUp.{numberCount, numbersOf, lookUpWord, numbersAfter};
 ghost use Rattle.gateway.specs.LookUp.{hasRoom, keptWord, timeLeft, bytesLeft, latestWord, timeAfter, frameAfter};
 use crate::refusal_word;
 use messages::labels::plug_number;
 use messages::labels::protocol_number;
 use pages::Refusal;
-use post::KINDS;
-use post::Post;
-use post::Slot;
-use post::kept::sensor_number;
-use post::kept::sensor_of;
+use rules::KINDS;
+use rules::Post;
+use rules::Slot;
+use rule_limits::kept::sensor_number;
+use rule_limits::kept::sensor_of;
 use watch::Table;
 
 // ---- a post's numbers

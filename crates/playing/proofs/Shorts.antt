@@ -13,10 +13,10 @@ use Rattle.pages.specs.declared.Judged.{Judged}
 use Rattle.pages.specs.declared.Judged.the-variants as judged
 use Rattle.pages.specs.Table.{rows, rowsOf, noRow, firstAt, hasId}
 use Rattle.pages.specs.Judge.{unlabelled, offends, offender, strayBelow, judgedNumber, judgedAt, judgeOf}
-use Rattle.post.specs.declared.PlainLimits.{PlainLimits}
-use Rattle.post.specs.History.{Event, History, frame, tick, earlierIn}
-use Rattle.post.specs.Judgements.{bit}
-use Rattle.post.specs.Rules.{f1, f2, f3, f4, f5, f6, f7, f8, f9, f10, f11, findings01}
+use Rattle.rule_limits.specs.declared.PlainLimits.{PlainLimits}
+use Rattle.rules.specs.History.{Event, History, frame, tick, earlierIn}
+use Rattle.rule_asks.specs.Judgements.{bit}
+use Rattle.rules.specs.Rules.{f1, f2, f3, f4, f5, f6, f7, f8, f9, f10, f11, findings01}
 use Rattle.log.specs.declared.Found.{Found as Seen}
 use Rattle.log.specs.declared.Found.the-variants as found
 use Rattle.log.specs.Record.{Rec}

@@ -6,7 +6,7 @@ use native.Mathlib.Nat.{zero-add}
 use native.Mathlib.Omega.{arith}
 use lib.ListN.{length, drop}
 use borrow.Author.Tests.{lt-ltb, le-ltb}
-use Rattle.post.specs.declared.PlainLimits.{PlainLimits}
+use Rattle.rule_limits.specs.declared.PlainLimits.{PlainLimits}
 use Rattle.log.specs.declared.Entry.{Entry}
 use Rattle.log.specs.Reading.{recOf, foundAt}
 use Rattle.text.specs.declared.Pen.{Pen}

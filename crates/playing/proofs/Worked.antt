@@ -5,12 +5,13 @@ use mathlib.Core.Option.{some}
 use mathlib.Core.List.{List, [], _∷_}
 use Prim.Native.Nat.{ℕ}
 use lib.ListN.{take, replicate}
-use Rattle.post.specs.Step.{agedTo, silentIn, lateAfter, anyFindings, tickStep}
+use Rattle.rules.specs.Step.{agedTo, silentIn, lateAfter, anyFindings, tickStep}
 use Rattle.log.specs.Number.{readGroups}
 use Rattle.log.specs.Reading.{lengthPart, identifierPart, channelPart, timePart, recordAt}
 use Rattle.text.specs.Numbers.{glyphOf, digitsIn, numeral}
 use Rattle.text.specs.Pens.{textOf}
-use Rattle.watch.specs.Table.{placeOf, heardOf, feedAt, feedOf, limitsFit, isOther, setUpOf}
+use Rattle.watch.specs.Table.{placeOf, heardOf, feedAt, feedOf, isOther, setUpOf}
+use Rattle.rule_limits.specs.Limits.{limitsFit}
 use Rattle.playing.specs.declared.Replay.{Replay}
 use Rattle.playing.specs.declared.Next.{Next}
 use Rattle.playing.specs.declared.Played.the-variants.{Line, End, Cut}

@@ -3,7 +3,7 @@ use Prim.Native.Nat.{ℕ, zero, suc}
 use mathlib.Core.List.{List, [], _∷_}
 use lib.ListN.{length, take}
 use Rattle.pages.specs.declared.Refusal.{Refusal}
-use Rattle.post.specs.declared.PlainLimits.{PlainLimits}
+use Rattle.rule_limits.specs.declared.PlainLimits.{PlainLimits}
 use Rattle.log.specs.Reading.{Log, ends, then, clean, piece, refused, recordsIn}
 use Rattle.watch.specs.declared.Table.{Table}
 use Rattle.watch.specs.declared.Setting.{Setting}

@@ -4,15 +4,16 @@ use mathlib.Core.List.{List, [], _∷_, _++_, map}
 use Prim.Native.Nat.{ℕ}
 use lib.ListN.{replicate}
 use Rattle.pages.specs.declared.Refusal.the-variants.{ChannelFree, Earlier, NoLabel, LogChannel, NoSuchPost, ChannelTaken}
-use Rattle.post.specs.declared.PlainLimits.{PlainLimits}
-use Rattle.post.specs.Step.{agedTo, silentIn, lateAfter, anyFindings, tickStep}
+use Rattle.rule_limits.specs.declared.PlainLimits.{PlainLimits}
+use Rattle.rules.specs.Step.{agedTo, silentIn, lateAfter, anyFindings, tickStep}
 use Rattle.log.specs.Number.{readGroups}
 use Rattle.log.specs.Reading.{lengthPart, identifierPart, channelPart, timePart, recordAt}
 use Rattle.text.specs.Numbers.{glyphOf, digitsIn, numeral}
 use Rattle.text.specs.Pens.{textOf}
 use Rattle.watch.specs.declared.Answer.{Answer}
 use Rattle.watch.specs.declared.Answer.the-variants.{Findings, Refused}
-use Rattle.watch.specs.Table.{placeOf, heardOf, feedAt, feedOf, limitsFit, isOther, setUpOf}
+use Rattle.watch.specs.Table.{placeOf, heardOf, feedAt, feedOf, isOther, setUpOf}
+use Rattle.rule_limits.specs.Limits.{limitsFit}
 use Rattle.playing.specs.declared.Played.the-variants.{End, Cut, Bad, SetUp, Short}
 use Rattle.playing.specs.Lines.{lineRoom, refusedWords, lineOf}
 use Rattle.playing.specs.Step.{setUpIn, lineCall, callOf}

@@ -5,7 +5,7 @@ use mathlib.Core.Bool.{cond}
 use mathlib.Core.List.{List}
 use lib.Dec.{ltb}
 use lib.ListN.{length}
-use Rattle.post.specs.declared.PlainLimits.{PlainLimits}
+use Rattle.rule_limits.specs.declared.PlainLimits.{PlainLimits}
 use Rattle.log.specs.declared.Entry.{Entry}
 use Rattle.log.specs.declared.Found.{Found}
 use Rattle.log.specs.declared.Found.the-variants as found

@@ -14,7 +14,7 @@ mod line; // line.rt: a record's line
 use log::Entry;
 use log::Found;
 use pages::Refusal;
-use post::PlainLimits;
+use rule_limits::PlainLimits;
 use std::num::wrapping_add_u64;
 use watch::Fed;
 use watch::Setting;

@@ -1,6 +1,6 @@
 // The two questions about times, each in one place.
 ghost use mathlib.Core.Path.{_≡_};
-ghost use Rattle.post.specs.History.{earlier, elapsed};
+ghost use Rattle.rules.specs.History.{earlier, elapsed};
 
 pub fn is_earlier(time: u32, latest: u32) -> bool
     ensures { λ r. ⌜ r ≡ earlier time latest ⌝ }

@@ -6,7 +6,7 @@ use notation::setup::Asked;
 use pages::Refusal;
 use playing::Preparing;
 use playing::Replay;
-use post::PlainLimits;
+use rule_limits::PlainLimits;
 use std::num::wrapping_add_u64;
 
 // A replay with its set-ups; not ready where the file holds something else, or a set-up was refused, and that was said.

@@ -10,11 +10,11 @@ use Rattle.pages.specs.declared.Refusal.{Refusal}
 use Rattle.pages.specs.declared.Refusal.the-variants.{ChannelFree, Earlier}
 use Rattle.pages.specs.declared.Judged.the-variants as judged
 use Rattle.pages.specs.Judge.{judgeOf}
-use Rattle.post.specs.declared.PlainLimits.{PlainLimits}
-use Rattle.post.specs.declared.Post.{Post}
-use Rattle.post.specs.History.{History, earlierIn}
-use Rattle.post.specs.History as history
-use Rattle.post.specs.Rules.{findings01}
+use Rattle.rule_limits.specs.declared.PlainLimits.{PlainLimits}
+use Rattle.rules.specs.declared.Post.{Post}
+use Rattle.rules.specs.History.{History, earlierIn}
+use Rattle.rules.specs.History as history
+use Rattle.rules.specs.Rules.{findings01}
 use Rattle.watch.specs.declared.Table.{Table}
 use Rattle.watch.specs.declared.Answer.{Answer}
 use Rattle.watch.specs.declared.Answer.the-variants.{Findings, Refused}

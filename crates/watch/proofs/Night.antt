@@ -16,15 +16,16 @@ use Rattle.signal.specs.Signal.{getBits}
 use Rattle.signal.specs.Payload.{leNumber}
 use Rattle.signal.specs.Twos.{toSigned}
 use Rattle.messages.specs.Parts.{statusIn, parametersIn, sessionIn, controlIn}
-use Rattle.post.specs.declared.PlainLimits.{PlainLimits}
-use Rattle.post.specs.History.{History, sinceFinished, opening, inSession, earlierIn}
-use Rattle.post.specs.History as history
-use Rattle.post.specs.Judgements.{lowersBadly, outside, leaking, badInsulation, differs}
-use Rattle.post.specs.Rules.{sessionStatus, sessionControl, limitOf, f1, f2, f3, f4, f5, f6, f7, f8, f9, f10, f11, findings01}
-use Rattle.post.specs.Record.{recordOf}
+use Rattle.rule_limits.specs.declared.PlainLimits.{PlainLimits}
+use Rattle.rules.specs.History.{History, sinceFinished, opening, inSession, earlierIn}
+use Rattle.rules.specs.History as history
+use Rattle.rule_asks.specs.Judgements.{lowersBadly, outside, leaking, badInsulation, differs}
+use Rattle.rules.specs.Rules.{sessionStatus, sessionControl, limitOf, f1, f2, f3, f4, f5, f6, f7, f8, f9, f10, f11, findings01}
+use Rattle.rules.specs.Record.{recordOf}
 use Rattle.watch.specs.declared.Answer.the-variants.{Findings, Refused}
 use Rattle.watch.specs.declared.Setting.the-variants as setting
-use Rattle.watch.specs.Table.{postCount, limitsFit, lookUpOf}
+use Rattle.watch.specs.Table.{postCount, lookUpOf}
+use Rattle.rule_limits.specs.Limits.{limitsFit}
 use Rattle.watch.specs.Steps.{held, standing, holdsIn, findFrom, holder, otherHolds, feed01, setUp01, release01, lookUp01, feedSteps, setUpSteps, releaseSteps}
 use Rattle.watch.specs.Run.{Request, setUp, frame, tick, set, fed, reply, run, accepted, isRefusal, Unheld}
 use Rattle.watch.proofs.Standings.{holder-is}

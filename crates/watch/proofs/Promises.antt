@@ -1,7 +1,7 @@
 -- Each operation's two promises: the second follows from the first.
 use Prim.Native.Nat.{ℕ}
 use mathlib.Core.Path.{_≡_, sym, subst, _∙_}
-use Rattle.post.specs.declared.PlainLimits.{PlainLimits}
+use Rattle.rule_limits.specs.declared.PlainLimits.{PlainLimits}
 use Rattle.watch.specs.declared.Table.{Table}
 use Rattle.watch.specs.declared.Fed.{Fed}
 use Rattle.watch.specs.declared.Settled.{Settled}

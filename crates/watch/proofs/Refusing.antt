@@ -7,9 +7,9 @@ use lib.Dec.{leb}
 use lib.ListN.{getD}
 use lib.Seq.{set-getD}
 use Rattle.pages.specs.Judge.{judgeOf}
-use Rattle.post.specs.declared.PlainLimits.{PlainLimits}
-use Rattle.post.specs.declared.Post.{Post}
-use Rattle.post.specs.Step.{isEarly}
+use Rattle.rule_limits.specs.declared.PlainLimits.{PlainLimits}
+use Rattle.rules.specs.declared.Post.{Post}
+use Rattle.rules.specs.Step.{isEarly}
 use Rattle.watch.specs.declared.Table.{Table}
 use Rattle.watch.specs.declared.Answer.{Answer}
 use Rattle.watch.specs.declared.Answer.the-variants.{Findings, Refused}
@@ -20,7 +20,8 @@ use Rattle.watch.specs.declared.Setting.the-variants as setting
 use Rattle.watch.specs.declared.Settled.{Settled}
 use Rattle.watch.specs.declared.Arrival.{Arrival}
 use Rattle.watch.specs.declared.Arrival.the-variants.{Tick, Frame, Unread}
-use Rattle.watch.specs.Table.{postCount, isChannel, placeOf, putIn, noPost, arrivalOf, judgedOf, heardOf, fedBy, feedAt, feedOf, limitsFit, isOther, isPost, setUpOf, releaseOf}
+use Rattle.watch.specs.Table.{postCount, isChannel, placeOf, putIn, noPost, arrivalOf, judgedOf, heardOf, fedBy, feedAt, feedOf, isOther, isPost, setUpOf, releaseOf}
+use Rattle.rule_limits.specs.Limits.{limitsFit}
 use Rattle.watch.specs.Steps.{Step, Steps, ifFound, ifDone, feed01, setUp01, release01, feedSteps, setUpSteps, releaseSteps}
 use Rattle.watch.specs.Run.{Request, setUp, release, frame, tick, Reply, set, fed, reply, next, reply01, steps01, isRefusal}
 

@@ -5,8 +5,8 @@ use mathlib.Core.List.{[], _∷_}
 use mathlib.Core.Bool.{Bool, true, false, true≢false}
 use lib.Dec.{eqb}
 use borrow.Author.Tests.{eqb-true, ne-eqb}
-use Rattle.post.specs.declared.PlainLimits.{PlainLimits}
-use Rattle.post.specs.History.{Event}
+use Rattle.rule_limits.specs.declared.PlainLimits.{PlainLimits}
+use Rattle.rules.specs.History.{Event}
 use Rattle.watch.specs.declared.Table.{Table}
 use Rattle.watch.specs.declared.Answer.{Answer}
 use Rattle.watch.specs.declared.Answer.the-variants.{Findings, Refused}
@@ -15,7 +15,8 @@ use Rattle.watch.specs.declared.Setting.{Setting}
 use Rattle.watch.specs.declared.Setting.the-variants as setting
 use Rattle.watch.specs.declared.Settled.{Settled}
 use Rattle.watch.specs.declared.Arrival.{Arrival}
-use Rattle.watch.specs.Table.{postCount, isChannel, feedOf, emptyTable, limitsFit, isPost, setUpOf, releaseOf, lookUpOf}
+use Rattle.watch.specs.Table.{postCount, isChannel, feedOf, emptyTable, isPost, setUpOf, releaseOf, lookUpOf}
+use Rattle.rule_limits.specs.Limits.{limitsFit}
 use Rattle.watch.specs.Steps.{setUp, release, event, Steps, Standing, standing, holdsIn, otherHolds, feed01, setUp01, release01, lookUp01, eventIn, ifFound, feedSteps, ifDone, setUpSteps, releaseSteps, tableOf, Apart, InRange, Kept, FeedRight, SetUpRight, ReleaseRight}
 use Rattle.watch.proofs.Standings.{standing-none, over-setUp, over-release, over-event, others-none}
 use Rattle.watch.proofs.Tables.{feed-look, setUp-look, release-look, lookUp-look, empty-look}

@@ -7,7 +7,7 @@ use mathlib.Core.List.{List}
 use mathlib.Core.Bool.{true, false}
 use lib.ListN.{length, drop, getD, drop-of-length-le}
 use lib.Seq.{drop-cons}
-use Rattle.post.specs.declared.Post.{Post}
+use Rattle.rules.specs.declared.Post.{Post}
 use Rattle.watch.specs.Table.{holds, placeOf, noPost}
 
 module _ (l : List Post) (i c : ℕ) (passed : placeOf l c ≡ i + placeOf (drop i l) c) where

@@ -8,8 +8,8 @@ use mathlib.Core.Bool.{Bool, true, false, cond, not, _&&_, true≢false}
 use mathlib.Core.Option.{Option, none, some}
 use borrow.Author.Tests.{eqb-true, eqb-false, eq-eqb, ne-eqb, ltb-true, ltb-false, lt-ltb, le-ltb, not-true}
 use lib.Dec.{eqb, ltb}
-use Rattle.post.specs.declared.PlainLimits.{PlainLimits}
-use Rattle.post.specs.History.{Event, History, newest, sinceNewest}
+use Rattle.rule_limits.specs.declared.PlainLimits.{PlainLimits}
+use Rattle.rules.specs.History.{Event, History, newest, sinceNewest}
 use Rattle.watch.specs.Table.{postCount, isOther}
 use Rattle.watch.specs.Steps.{setUp, release, event, Steps, Standing, free, held, settingOf, standingFrom, standing, holdsIn, findFrom, holder, otherHolds, Apart}
 

@@ -10,18 +10,19 @@ use lib.ListN.{getD}
 use lib.Seq.{set-getD}
 use borrow.Author.Tests.{eqb-true, eqb-false, eq-eqb, ne-eqb, ltb-true, ltb-false, le-leb, lt-leb}
 use Rattle.pages.specs.declared.Refusal.the-variants.{NotSetUp}
-use Rattle.post.specs.declared.PlainLimits.{PlainLimits}
-use Rattle.post.specs.declared.Post.{Post}
-use Rattle.post.specs.History.{Event, frame, tick, History, earlierIn, countFrom}
-use Rattle.post.specs.Record.{postOf}
-use Rattle.post.specs.Step.{freePost, freshPost}
-use Rattle.post.specs.Step as post
-use Rattle.post.proofs.Counted.{count-at, count-same, count-set}
-use Rattle.post.proofs.Look.{used-look, channel-look, fresh-look, early-look, tick-look, frame-look, record-look}
+use Rattle.rule_limits.specs.declared.PlainLimits.{PlainLimits}
+use Rattle.rules.specs.declared.Post.{Post}
+use Rattle.rules.specs.History.{Event, frame, tick, History, earlierIn, countFrom}
+use Rattle.rules.specs.Record.{postOf}
+use Rattle.rules.specs.Step.{freePost, freshPost}
+use Rattle.rules.specs.Step as post
+use Rattle.rules.proofs.Counted.{count-at, count-same, count-set}
+use Rattle.rules.proofs.Look.{used-look, channel-look, fresh-look, early-look, tick-look, frame-look, record-look}
 use Rattle.watch.specs.declared.Setting.the-variants as setting
 use Rattle.watch.specs.declared.Arrival.{Arrival}
 use Rattle.watch.specs.declared.Arrival.the-variants.{Tick, Frame, Unread}
-use Rattle.watch.specs.Table.{postCount, isChannel, holds, placeOf, putIn, noPost, heardOf, fedBy, feedAt, feedOf, emptyTable, limitsFit, isOther, isPost, setUpOf, releaseOf, notFound, lookUpOf}
+use Rattle.watch.specs.Table.{postCount, isChannel, holds, placeOf, putIn, noPost, heardOf, fedBy, feedAt, feedOf, emptyTable, isOther, isPost, setUpOf, releaseOf, notFound, lookUpOf}
+use Rattle.rule_limits.specs.Limits.{limitsFit}
 use Rattle.watch.specs.Steps.{setUp, release, event, Steps, Standing, free, held, standing, holdsIn, findFrom, holder, otherHolds, answerIn, feed01, setUp01, isHeld, release01, recordIn, lookUp01, eventIn, ifFound, feedSteps, setUpSteps, releaseSteps, keptPost, tableOf, Apart}
 use Rattle.watch.proofs.Standings.{standing-setUp, standing-setUp-other, standing-release, standing-release-other, standing-event, standing-event-other, held-on, holder-holds, alone, other-look}
 

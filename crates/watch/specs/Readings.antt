@@ -21,19 +21,19 @@ use Rattle.messages.specs.KindNumbers.{safetyStateKind, probesKind}
 use Rattle.messages.specs.Parts.{statusIn, parametersIn, sessionIn, controlIn}
 use Rattle.messages.specs.Read.{messageOf, builtOf}
 use Rattle.messages.specs.Readings as messages
-use Rattle.post.specs.declared.PlainLimits.{PlainLimits}
-use Rattle.post.specs.declared.Sensor.{Sensor}
-use Rattle.post.specs.declared.Sensor.the-variants.{Measuring, YesNo}
-use Rattle.post.specs.declared.Dated.{Dated}
-use Rattle.post.specs.declared.Dated.the-variants as dated
-use Rattle.post.specs.History.{sinceFinished, opening, inSession, earlierIn}
-use Rattle.post.specs.Judgements.{lowersBadly, outside, leaking, badInsulation, differs}
-use Rattle.post.specs.Rules.{sessionStatus, sessionControl, limitOf, f1, f2, f3, f4, f5, f6, f7, f8, f9, f10, f11, findings01}
-use Rattle.post.specs.Record.{recordOf}
+use Rattle.rule_limits.specs.declared.PlainLimits.{PlainLimits}
+use Rattle.rule_limits.specs.declared.Sensor.{Sensor}
+use Rattle.rule_limits.specs.declared.Sensor.the-variants.{Measuring, YesNo}
+use Rattle.rules.specs.declared.Dated.{Dated}
+use Rattle.rules.specs.declared.Dated.the-variants as dated
+use Rattle.rules.specs.History.{sinceFinished, opening, inSession, earlierIn}
+use Rattle.rule_asks.specs.Judgements.{lowersBadly, outside, leaking, badInsulation, differs}
+use Rattle.rules.specs.Rules.{sessionStatus, sessionControl, limitOf, f1, f2, f3, f4, f5, f6, f7, f8, f9, f10, f11, findings01}
+use Rattle.rules.specs.Record.{recordOf}
 use Rattle.watch.specs.declared.Answer.the-variants.{Findings, Refused}
 use Rattle.watch.specs.declared.Setting.the-variants as setting
 use Rattle.watch.specs.declared.LookedUp.{LookedUp}
-use Rattle.watch.specs.Table.{limitsFit}
+use Rattle.rule_limits.specs.Limits.{limitsFit}
 use Rattle.watch.specs.Steps.{standing, findFrom, holder, otherHolds, feed01, setUp01, release01, lookUp01, feedSteps, setUpSteps, releaseSteps}
 use Rattle.watch.specs.Run.{Request, setUp, release, frame, tick, Reply, set, fed, acceptedFrom, replies01From}
 

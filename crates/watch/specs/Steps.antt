@@ -7,12 +7,12 @@ use mathlib.Core.Option.{Option, none, some}
 use lib.Dec.{ltb, leb, eqb}
 use Rattle.pages.specs.declared.Refusal.{Refusal}
 use Rattle.pages.specs.declared.Refusal.the-variants.{ChannelFree, Earlier, NoSuchPost, NoSuchChannel, ChannelTaken, LimitOutside, NotSetUp}
-use Rattle.post.specs.declared.PlainLimits.{PlainLimits}
-use Rattle.post.specs.declared.Post.{Post}
-use Rattle.post.specs.History.{Event, frame, tick, History, newest, sinceNewest, earlierIn, countFrom}
-use Rattle.post.specs.Rules.{findings01}
-use Rattle.post.specs.Record.{recordOf, postOf}
-use Rattle.post.specs.Step.{freePost}
+use Rattle.rule_limits.specs.declared.PlainLimits.{PlainLimits}
+use Rattle.rules.specs.declared.Post.{Post}
+use Rattle.rules.specs.History.{Event, frame, tick, History, newest, sinceNewest, earlierIn, countFrom}
+use Rattle.rules.specs.Rules.{findings01}
+use Rattle.rules.specs.Record.{recordOf, postOf}
+use Rattle.rules.specs.Step.{freePost}
 use Rattle.watch.specs.declared.Table.{Table}
 use Rattle.watch.specs.declared.Answer.{Answer}
 use Rattle.watch.specs.declared.Answer.the-variants.{Findings, Refused}
@@ -23,7 +23,8 @@ use Rattle.watch.specs.declared.Settled.{Settled}
 use Rattle.watch.specs.declared.LookedUp.{LookedUp}
 use Rattle.watch.specs.declared.Arrival.{Arrival}
 use Rattle.watch.specs.declared.Arrival.the-variants.{Tick, Frame, Unread}
-use Rattle.watch.specs.Table.{postCount, isChannel, isPost, limitsFit, notFound}
+use Rattle.watch.specs.Table.{postCount, isChannel, isPost, notFound}
+use Rattle.rule_limits.specs.Limits.{limitsFit}
 
 -- ---- accepted steps
 

@@ -8,12 +8,12 @@ use Rattle.pages.specs.declared.Refusal.{Refusal}
 use Rattle.pages.specs.declared.Refusal.the-variants.{ChannelFree, Earlier, NoSuchPost, NoSuchChannel, ChannelTaken, LimitOutside, NotSetUp}
 use Rattle.pages.specs.declared.Judged.{Judged}
 use Rattle.pages.specs.declared.Judged.the-variants as judged
-use Rattle.post.specs.declared.PlainLimits.{PlainLimits}
-use Rattle.post.specs.declared.Post.{Post}
-use Rattle.post.specs.declared.Stepped.{Stepped}
-use Rattle.post.specs.declared.Record.{Record}
-use Rattle.post.specs.Record.{closedSession}
-use Rattle.post.specs.Step.{isEarly, tickStep, frameStep, noLimits, freePost, freshPost, recordIn}
+use Rattle.rule_limits.specs.declared.PlainLimits.{PlainLimits}
+use Rattle.rules.specs.declared.Post.{Post}
+use Rattle.rules.specs.declared.Stepped.{Stepped}
+use Rattle.rules.specs.declared.Record.{Record}
+use Rattle.rules.specs.Record.{closedSession}
+use Rattle.rules.specs.Step.{isEarly, tickStep, frameStep, noLimits, freePost, freshPost, recordIn}
 use Rattle.watch.specs.declared.Table.{Table}
 use Rattle.watch.specs.declared.Answer.{Answer}
 use Rattle.watch.specs.declared.Answer.the-variants.{Findings, Refused}

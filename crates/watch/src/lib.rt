@@ -4,22 +4,23 @@
 ghost use mathlib.Core.Path.{_≡_};
 ghost use mathlib.Core.List.{[]};
 ghost use Prim.Native.Nat.{_<_, _≤_};
-ghost use Rattle.watch.specs.Table.{holds, placeOf, putIn, heardOf, arrivalOf, feedOf, emptyTable, limitsFit, isOther, setUpOf, releaseOf, lookUpOf, noRecord};
+ghost use Rattle.watch.specs.Table.{holds, placeOf, putIn, heardOf, arrivalOf, feedOf, emptyTable, isOther, setUpOf, releaseOf, lookUpOf, noRecord};
+ghost use Rattle.rule_limits.specs.Limits.{limitsFit};
 ghost use Rattle.watch.specs.Steps.{Steps, Kept, FeedRight, SetUpRight, ReleaseRight, lookUp01};
 ghost use Rattle.pages.specs.Judge.{judgeOf};
-ghost use Rattle.post.specs.Sensor.{plainOf};
+ghost use Rattle.rule_limits.specs.Sensor.{plainOf};
 use pages::Judged;
 use pages::Refusal;
-use post::Dated;
-use post::LastTime;
-use post::Latest;
-use post::Limits;
-use post::PlainLimits;
-use post::Post;
-use post::Record;
-use post::Session;
-use post::SessionPart;
-use post::Slot;
+use rules::Dated;
+use rules::LastTime;
+use rules::Latest;
+use rule_limits::Limits;
+use rule_limits::PlainLimits;
+use rules::Post;
+use rules::Record;
+use rules::Session;
+use rules::SessionPart;
+use rules::Slot;
 
 pub const POSTS: usize = 8;
 
@@ -274,7 +275,7 @@ pub fn set_up(t: Table, post: u32, channel: u32, limits: Limits) -> Settled
     ensures by_record { λ r. ⌜ r ≡ setUpOf t post channel (plainOf limits) ⌝ }
     ensures by_history { λ r. ⌜ ((s : Steps) → Kept t s → SetUpRight s post channel (plainOf limits) r) ⌝ }
 {
-    let kept = post::kept::plain(limits);
+    let kept = rule_limits::kept::plain(limits);
     set_up_plain(t, post, channel, kept)
 }
 
@@ -307,7 +308,7 @@ pub fn release(t: Table, post: u32) -> Settled
 fn no_record() -> Record
     ensures { λ r. ⌜ r ≡ noRecord ⌝ }
 {
-    post::record_in(post::free_post())
+    post_record::record_in(post::free_post())
 }
 
 pub fn look_up(t: Table, post: u32) -> LookedUp
@@ -330,6 +331,6 @@ pub fn look_up(t: Table, post: u32) -> LookedUp
     }
     LookedUp {
         answer: Setting::Done,
-        shown: post::record_in(p),
+        shown: post_record::record_in(p),
     }
 }

@@ -5,9 +5,9 @@ use mathlib.Core.Path.{_≡_}
 use lib.ListN.{length}
 use lib.Seq.{set-out}
 use borrow.Author.Needs.{needs}
-use Rattle.post.specs.Record.{kindCount, slotAt}
-use Rattle.post.specs.Step.{frameStep, agedTo, withFrame}
-use Rattle.post.proofs.Unmapped.{unmapped}
+use Rattle.rules.specs.Record.{kindCount, slotAt}
+use Rattle.rules.specs.Step.{frameStep, agedTo, withFrame}
+use Rattle.rules.proofs.Unmapped.{unmapped}
 use Rattle.gateway.proofs.Hearing.{refused-on, read-on}
 use Rattle.gateway.proofs.frame_on.Statement.{statement}
 use Rattle.gateway.proofs.frame_on.Tie as tie

@@ -1,6 +1,6 @@
 -- `gateway::tick_on` meets its contract: of the post that a tick leaves, only whether it was heard and its time are new.
 use borrow.Author.Needs.{needs}
-use Rattle.post.specs.Step.{tickStep, agedTo}
+use Rattle.rules.specs.Step.{tickStep, agedTo}
 use Rattle.watch.specs.declared.Arrival.the-variants.{Tick}
 use Rattle.gateway.proofs.Hearing.{refused-on, taken-on}
 use Rattle.gateway.proofs.tick_on.Statement.{statement}

@@ -5,7 +5,7 @@ use native.Mathlib.Omega.{arith}
 use mathlib.Core.Path.{_≡_, sym, _∙_}
 use lib.ListN.{length, drop}
 use borrow.Author.Needs.{needs}
-use Rattle.post.proofs.Unmapped.{unmapped}
+use Rattle.rules.proofs.Unmapped.{unmapped}
 use Rattle.watch.specs.Table.{postCount, placeOf}
 use Rattle.watch.proofs.Search.{place-on, place-here, place-end}
 use Rattle.watch.proofs.place.Statement.{statement}

@@ -1,7 +1,7 @@
 -- `watch::set_up` meets its contract, by what `plain` and `set_up_plain` ensure.
 use borrow.Author.Needs.{needs}
 use Rattle.watch.proofs.Promises.{set-both}
-use Rattle.post.specs.Sensor.{plainOf}
+use Rattle.rule_limits.specs.Sensor.{plainOf}
 use Rattle.watch.proofs.set_up.Statement.{statement}
 use Rattle.watch.proofs.set_up.Tie as tie
 

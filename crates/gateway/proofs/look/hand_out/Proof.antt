@@ -14,7 +14,7 @@ use Rattle.signal.proofs.Totals.{stored-in}
 use Rattle.pages.specs.declared.Refusal.the-variants.{ShortBuffer}
 use Rattle.pages.specs.Table.{lengthOf, bigOf}
 use Rattle.pages.proofs.Rules.{short-length}
-use Rattle.post.specs.declared.Slot.{Slot}
+use Rattle.rules.specs.declared.Slot.{Slot}
 use Rattle.gateway.specs.Words.{refusalWord}
 use Rattle.gateway.specs.LookUp.{hasRoom, keptWord, timeLeft, bytesLeft}
 use Rattle.gateway.proofs.look.hand_out.Statement.{statement}

@@ -1,6 +1,6 @@
 -- `post::found::late` meets its contract: with a frame the test is on what the call ensures, and else nothing is found.
 use borrow.Author.Needs.{needs}
-use Rattle.post.specs.Step.{lateAfter}
+use Rattle.rules.specs.Step.{lateAfter}
 use Rattle.post.proofs.found.late.Statement.{statement}
 use Rattle.post.proofs.found.late.Tie as tie
 

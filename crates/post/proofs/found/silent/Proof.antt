@@ -1,6 +1,6 @@
 -- `post::found::silent` meets its contract: with the session open the test is on what the calls ensure, and else nothing is found.
 use borrow.Author.Needs.{needs}
-use Rattle.post.specs.Step.{silentIn}
+use Rattle.rules.specs.Step.{silentIn}
 use Rattle.post.proofs.found.silent.Statement.{statement}
 use Rattle.post.proofs.found.silent.Tie as tie
 
