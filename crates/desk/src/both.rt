@@ -2,7 +2,7 @@
 ghost use mathlib.Core.Path.{_≡_};
 ghost use Rattle.gateway.specs.Lent.{setUpWord, releaseWord, frameWord, tickWord};
 use gateway::Lent;
-use watch::Table;
+use watch_rules::Table;
 
 pub fn set_up(
     lent: bool,

@@ -16,7 +16,7 @@ mod paper; // paper.rt: the output buffer
 use notation::answer;
 use notation::script;
 use text::Pen;
-use watch::Table;
+use watch_rules::Table;
 
 // What is kept from one piece of the input to the next: the table, how much of the last line is in the line buffer, whether that line is
 // over its length, and how much of the output buffer is written.

@@ -8,7 +8,7 @@ use crate::words;
 use notation::answer;
 use notation::script;
 use text::Pen;
-use watch::Table;
+use watch_rules::Table;
 
 pub struct Line {
     pub table: Table,

@@ -11,8 +11,8 @@ use notation::heard::Heard;
 use notation::setup;
 use notation::setup::Asked;
 use text::Pen;
-use watch::Setting;
-use watch::Table;
+use watch_rules::Setting;
+use watch_rules::Table;
 
 fn unknown(table: Table, out: &mut [u8], pen: Pen) -> Line {
     Line {

@@ -8,7 +8,7 @@ use contract.Lifetimes.{Lfts, Within}
 use denote.RattleType.{Denots}
 use denote.Builtin.{u8, u32}
 use denote.Signature.{typesAt}
-use Rattle.watch.specs.declared.Table.{Table}
+use Rattle.watch_rules.specs.declared.Table.{Table}
 use Rattle.gateway.specs.Lent.{startOf, setUpWord, releaseWord, frameWord, tickWord}
 use Rattle.gateway.specs.LookUp.{lookUpWord, numbersAfter, latestWord, timeAfter, frameAfter}
 use Rattle.gateway.proofs.Entry.{Wanted}

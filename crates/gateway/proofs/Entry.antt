@@ -37,9 +37,9 @@ use denote.Triple.Entry.{onEntry}
 use denote.Triple.Spec.{Meets}
 use denote.Triple.Walked.{Stays, stay-ref, walkOf, AllGo, goes-ref, ends-at, walked, walk-meets}
 use denote.Exit.{yes}
-use Rattle.watch.specs.declared.Table.{Table}
-use Rattle.watch.proofs.Table as T
-use Rattle.watch.proofs.Table.Laws as T′
+use Rattle.watch_rules.specs.declared.Table.{Table}
+use Rattle.watch_rules.proofs.Table as T
+use Rattle.watch_rules.proofs.Table.Laws as T′
 use Rattle.gateway.specs.declared.Lent.{Lent}
 use Rattle.gateway.proofs.Answered.{answer-val}
 use Rattle.gateway.proofs.Called.{beside}

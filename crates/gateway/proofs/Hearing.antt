@@ -7,10 +7,10 @@ use Rattle.pages.specs.declared.Judged.{Judged}
 use Rattle.pages.specs.declared.Refusal.the-variants.{ChannelFree, Earlier}
 use Rattle.rules.specs.declared.Post.{Post}
 use Rattle.rules.specs.Step.{isEarly}
-use Rattle.watch.specs.declared.Arrival.{Arrival}
-use Rattle.watch.specs.declared.Heard.{Heard}
-use Rattle.watch.specs.declared.Answer.the-variants.{Refused}
-use Rattle.watch.specs.Table.{isChannel, holds, arrivalOf, heardOf, judgedOf}
+use Rattle.watch_rules.specs.declared.Arrival.{Arrival}
+use Rattle.watch_rules.specs.declared.Heard.{Heard}
+use Rattle.watch_rules.specs.declared.Answer.the-variants.{Refused}
+use Rattle.watch_rules.specs.Table.{isChannel, holds, arrivalOf, heardOf, judgedOf}
 use Rattle.gateway.specs.declared.Stepped.{Stepped}
 use Rattle.gateway.specs.Words.{refusalWord}
 use Rattle.gateway.specs.One.{hearOn, steppedBy}

@@ -35,9 +35,9 @@ use denote.Triple.Spec.{Meets, tripleOf}
 use denote.Triple.Statement.{Triple}
 use denote.Triple.Walked.{Stays, stay-none, walkOf, AllGo, goes-none, ends-at, walked, walk-meets}
 use denote.Exit.{yes}
-use Rattle.watch.specs.declared.Table.{Table}
-use Rattle.watch.proofs.Table as T
-use Rattle.watch.proofs.Table.Laws as T′
+use Rattle.watch_rules.specs.declared.Table.{Table}
+use Rattle.watch_rules.proofs.Table as T
+use Rattle.watch_rules.proofs.Table.Laws as T′
 use Rattle.gateway.specs.declared.Lent.{Lent}
 use Rattle.gateway.proofs.Lent as F
 use Rattle.gateway.proofs.Lent.Laws as F′

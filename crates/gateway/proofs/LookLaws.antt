@@ -31,10 +31,10 @@ use Rattle.rules.specs.History.{countFrom}
 use Rattle.rules.specs.Record.{kindCount, slotAt}
 use Rattle.rules.specs.Step.{latestIn, datedIn, recordIn}
 use Rattle.rules.proofs.Counted.{count-at}
-use Rattle.watch.specs.declared.Table.{Table}
-use Rattle.watch.specs.declared.Setting.{Setting}
-use Rattle.watch.specs.declared.Setting.the-variants as setting
-use Rattle.watch.specs.Table.{postCount, noPost, lookUpOf}
+use Rattle.watch_rules.specs.declared.Table.{Table}
+use Rattle.watch_rules.specs.declared.Setting.{Setting}
+use Rattle.watch_rules.specs.declared.Setting.the-variants as setting
+use Rattle.watch_rules.specs.Table.{postCount, noPost, lookUpOf}
 use Rattle.gateway.specs.Words.{refusalWord}
 use Rattle.gateway.specs.LookUp.{numberCount, numbersOf, lookedWord, numbersLeft, lookUpWord, numbersAfter, keptOf, hasRoom, latestAnswer, hands, handsOut, timeLeft, bytesLeft, latestWord, timeAfter, frameAfter}
 use Rattle.gateway.proofs.Asked.{set-up}

@@ -35,9 +35,9 @@ use denote.Triple.Spec.{Meets, tripleOf}
 use denote.Triple.Statement.{Triple}
 use denote.Triple.Walked.{walkOf, ends-at, walked, walk-meets}
 use denote.Exit.{left, yes}
-use Rattle.watch.specs.declared.Table.{Table}
-use Rattle.watch.proofs.Table as T
-use Rattle.watch.proofs.Table.Laws as T′
+use Rattle.watch_rules.specs.declared.Table.{Table}
+use Rattle.watch_rules.proofs.Table as T
+use Rattle.watch_rules.proofs.Table.Laws as T′
 use Rattle.gateway.proofs.Called.{beside, called}
 use Rattle.gateway.proofs.Entry.{table-val}
 use Rattle.gateway.proofs.Handing.{Handing, saids, said-fits, said-has, said-goes}

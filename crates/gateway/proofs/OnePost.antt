@@ -30,10 +30,10 @@ use denote.Triple.Spec.{Meets}
 use Rattle.rules.specs.declared.Post.{Post}
 use Rattle.rules.proofs.Post as P
 use Rattle.rules.proofs.Post.Laws as P′
-use Rattle.watch.specs.Table.{postCount, putIn}
-use Rattle.watch.specs.declared.Table.{Table}
-use Rattle.watch.proofs.Table as T
-use Rattle.watch.proofs.Table.Laws as T′
+use Rattle.watch_rules.specs.Table.{postCount, putIn}
+use Rattle.watch_rules.specs.declared.Table.{Table}
+use Rattle.watch_rules.proofs.Table as T
+use Rattle.watch_rules.proofs.Table.Laws as T′
 use Rattle.gateway.specs.One.{somePlace, lentAt}
 use Rattle.gateway.specs.declared.Lent.{Lent}
 use Rattle.gateway.specs.declared.Stepped.{Stepped}

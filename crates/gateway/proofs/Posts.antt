@@ -13,10 +13,10 @@ use denote.Struct.Laws as LL
 use Rattle.rules.specs.declared.Post.{Post}
 use Rattle.rules.proofs.Post as P
 use Rattle.rules.proofs.Post.Laws as P′
-use Rattle.watch.specs.Table.{postCount, putIn, noPost}
-use Rattle.watch.specs.declared.Table.{Table}
-use Rattle.watch.proofs.Table as T
-use Rattle.watch.proofs.Table.Laws as T′
+use Rattle.watch_rules.specs.Table.{postCount, putIn, noPost}
+use Rattle.watch_rules.specs.declared.Table.{Table}
+use Rattle.watch_rules.proofs.Table as T
+use Rattle.watch_rules.proofs.Table.Laws as T′
 use Rattle.gateway.specs.declared.Stepped.{Stepped}
 use Rattle.gateway.proofs.Stepped as F
 use Rattle.gateway.proofs.Stepped.Laws as F′

@@ -10,10 +10,10 @@ use lib.Seq.{set-getD}
 use borrow.Author.Tests.{lt-leb, le-leb, ltb-true, ltb-false}
 use Rattle.pages.specs.Judge.{judgeOf}
 use Rattle.rules.specs.declared.Post.{Post}
-use Rattle.watch.specs.declared.Table.{Table}
-use Rattle.watch.specs.declared.Arrival.{Arrival}
-use Rattle.watch.specs.declared.Arrival.the-variants.{Tick}
-use Rattle.watch.specs.Table.{postCount, isChannel, holds, placeOf, noPost, arrivalOf, feedAt, feedOf}
+use Rattle.watch_rules.specs.declared.Table.{Table}
+use Rattle.watch_rules.specs.declared.Arrival.{Arrival}
+use Rattle.watch_rules.specs.declared.Arrival.the-variants.{Tick}
+use Rattle.watch_rules.specs.Table.{postCount, isChannel, holds, placeOf, noPost, arrivalOf, feedAt, feedOf}
 use Rattle.gateway.specs.Lent.{lentFed, frameWord, tickWord}
 use Rattle.gateway.specs.One.{somePlace, hearOn, feedOne}
 

@@ -23,9 +23,9 @@ use denote.Steps.{owned}
 use denote.Struct.Laws as LL
 use denote.Triple.Clauses.{Clauses, closing}
 use denote.Triple.Spec.{Meets}
-use Rattle.watch.specs.declared.Table.{Table}
-use Rattle.watch.proofs.Table as T
-use Rattle.watch.proofs.Table.Laws as T′
+use Rattle.watch_rules.specs.declared.Table.{Table}
+use Rattle.watch_rules.proofs.Table as T
+use Rattle.watch_rules.proofs.Table.Laws as T′
 use Rattle.gateway.specs.declared.Lent.{Lent}
 use Rattle.gateway.proofs.Lent as F
 use Rattle.gateway.proofs.Lent.Laws as F′

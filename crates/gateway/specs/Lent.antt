@@ -4,12 +4,12 @@ use mathlib.Core.List.{List}
 use mathlib.Core.Bool.{Bool}
 use Rattle.pages.specs.Judge.{judgeOf}
 use Rattle.rule_limits.specs.declared.PlainLimits.{PlainLimits}
-use Rattle.watch.specs.declared.Table.{Table}
-use Rattle.watch.specs.declared.Fed.{Fed}
-use Rattle.watch.specs.declared.Settled.{Settled}
-use Rattle.watch.specs.declared.Arrival.{Arrival}
-use Rattle.watch.specs.declared.Arrival.the-variants.{Tick}
-use Rattle.watch.specs.Table.{arrivalOf, feedOf, setUpOf, releaseOf, emptyTable}
+use Rattle.watch_rules.specs.declared.Table.{Table}
+use Rattle.watch_rules.specs.declared.Fed.{Fed}
+use Rattle.watch_rules.specs.declared.Settled.{Settled}
+use Rattle.watch_rules.specs.declared.Arrival.{Arrival}
+use Rattle.watch_rules.specs.declared.Arrival.the-variants.{Tick}
+use Rattle.watch_rules.specs.Table.{arrivalOf, feedOf, setUpOf, releaseOf, emptyTable}
 use Rattle.gateway.specs.declared.Lent.{Lent}
 use Rattle.gateway.specs.Words.{answerWord, settingWord}
 

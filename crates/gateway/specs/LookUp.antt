@@ -17,10 +17,10 @@ use Rattle.rules.specs.declared.Slot.{Slot}
 use Rattle.rule_limits.specs.Sensor.{sensorNumber}
 use Rattle.rules.specs.Record.{kindCount}
 use Rattle.rules.specs.Step.{latestIn}
-use Rattle.watch.specs.declared.Table.{Table}
-use Rattle.watch.specs.declared.Setting.{Setting}
-use Rattle.watch.specs.declared.Setting.the-variants as setting
-use Rattle.watch.specs.Table.{noPost, lookUpOf}
+use Rattle.watch_rules.specs.declared.Table.{Table}
+use Rattle.watch_rules.specs.declared.Setting.{Setting}
+use Rattle.watch_rules.specs.declared.Setting.the-variants as setting
+use Rattle.watch_rules.specs.Table.{noPost, lookUpOf}
 use Rattle.gateway.specs.Words.{refusalWord}
 
 -- ---- a post's numbers: of the record that `watch::look_up` hands out, all but the messages

@@ -7,11 +7,11 @@ use lib.ListN.{getD}
 use Rattle.pages.specs.declared.Refusal.the-variants.{ChannelFree}
 use Rattle.pages.specs.Judge.{judgeOf}
 use Rattle.rules.specs.declared.Post.{Post}
-use Rattle.watch.specs.declared.Table.{Table}
-use Rattle.watch.specs.declared.Heard.{Heard}
-use Rattle.watch.specs.declared.Arrival.{Arrival}
-use Rattle.watch.specs.declared.Arrival.the-variants.{Tick}
-use Rattle.watch.specs.Table.{postCount, isChannel, holds, placeOf, putIn, noPost, arrivalOf, heardOf}
+use Rattle.watch_rules.specs.declared.Table.{Table}
+use Rattle.watch_rules.specs.declared.Heard.{Heard}
+use Rattle.watch_rules.specs.declared.Arrival.{Arrival}
+use Rattle.watch_rules.specs.declared.Arrival.the-variants.{Tick}
+use Rattle.watch_rules.specs.Table.{postCount, isChannel, holds, placeOf, putIn, noPost, arrivalOf, heardOf}
 use Rattle.gateway.specs.declared.Lent.{Lent}
 use Rattle.gateway.specs.declared.Stepped.{Stepped}
 use Rattle.gateway.specs.Words.{answerWord, refusalWord}

@@ -5,7 +5,7 @@ ghost use mathlib.Core.Path.{_≡_};
 ghost use mathlib.Core.Bool.{cond, _&&_};
 ghost use Prim.Native.Nat.{_<_, _≤_};
 ghost use Rattle.rules.specs.Step.{isEarly};
-ghost use Rattle.watch.specs.Table.{isChannel, holds};
+ghost use Rattle.watch_rules.specs.Table.{isChannel, holds};
 ghost use Rattle.gateway.specs.Words.{refusalWord, answerWord, settingWord};
 ghost use Rattle.gateway.specs.Lent.{startOf, setUpWord, releaseWord, frameWord, tickWord};
 ghost use Rattle.gateway.specs.One.{somePlace, frameOn, tickOn};
@@ -21,9 +21,9 @@ use rules::KINDS;
 use rule_limits::PlainLimits;
 use rules::Post;
 use rules::Slot;
-use watch::Answer;
-use watch::Setting;
-use watch::Table;
+use watch_rules::Answer;
+use watch_rules::Setting;
+use watch_rules::Table;
 
 pub struct Lent {
     pub table: Table,
@@ -119,7 +119,7 @@ pub fn released(t: Table, post: u32) -> Lent
 pub fn some_place(t: Table, channel: u32) -> usize
     ensures { λ r. ⌜ (r ≡ somePlace (t .posts) channel) × (r < 8) ⌝ }
 {
-    let i = watch::place(t, channel);
+    let i = watch_places::place(t, channel);
     if i < 8 { i } else { 0 }
 }
 
@@ -130,10 +130,10 @@ fn refused(p: Post, channel: u32, time: u32) -> u32
     if 31 < channel {
         return refusal_word(Refusal::ChannelFree);
     }
-    if !watch::holds_channel(p, channel) {
+    if !watch_places::holds_channel(p, channel) {
         return refusal_word(Refusal::ChannelFree);
     }
-    if post::is_early(p, time) {
+    if post_times::is_early(p, time) {
         return refusal_word(Refusal::Earlier);
     }
     0

@@ -16,7 +16,7 @@ use rules::Post;
 use rules::Slot;
 use rule_limits::kept::sensor_number;
 use rule_limits::kept::sensor_of;
-use watch::Table;
+use watch_rules::Table;
 
 // ---- a post's numbers
 

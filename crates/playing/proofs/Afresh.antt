@@ -5,14 +5,14 @@ use mathlib.Core.List.{List, [], _∷_}
 use lib.ListN.{length}
 use Rattle.log.specs.Record.{Rec}
 use Rattle.log.specs.Reading.{Log, logOf, recordsIn}
-use Rattle.watch.specs.declared.Table.{Table}
-use Rattle.watch.specs.declared.Answer.{Answer}
-use Rattle.watch.specs.declared.Setting.{Setting}
-use Rattle.watch.specs.declared.Setting.the-variants as setting
-use Rattle.watch.specs.Table.{placeOf, emptyTable, setUpOf}
-use Rattle.watch.specs.Steps.{Steps, feedSteps, setUpSteps, Kept}
-use Rattle.watch.proofs.Tables.{place-look}
-use Rattle.watch.proofs.Right.{feed-right, setUp-right, empty-kept}
+use Rattle.watch_rules.specs.declared.Table.{Table}
+use Rattle.watch_rules.specs.declared.Answer.{Answer}
+use Rattle.watch_rules.specs.declared.Setting.{Setting}
+use Rattle.watch_rules.specs.declared.Setting.the-variants as setting
+use Rattle.watch_rules.specs.Table.{placeOf, emptyTable, setUpOf}
+use Rattle.watch_rules.specs.Steps.{Steps, feedSteps, setUpSteps, Kept}
+use Rattle.watch_rules.proofs.Tables.{place-look}
+use Rattle.watch_rules.proofs.Right.{feed-right, setUp-right, empty-kept}
 use Rattle.playing.specs.Lines.{lineRoom, lineOf}
 use Rattle.playing.specs.Fed.{timeOf, channelOf, arrivalIn, fedWith, lineFor, linesFrom, line01, lines01From}
 use Rattle.playing.specs.Night.{Wanted, Ready, ready, stopped, onSetting, preparedFrom, prepared01, endingOf, nightOf, night01, stop, runOf}

@@ -8,7 +8,7 @@ use lib.Dec.{leb, eqb}
 use lib.ListN.{length, take, getD}
 use Rattle.log.specs.Record.{Rec, recordBytes}
 use Rattle.log.specs.Reading.{Ending, Log, ends, then, clean, piece, wholly, recordsIn}
-use Rattle.watch.specs.declared.Table.{Table}
+use Rattle.watch_rules.specs.declared.Table.{Table}
 use Rattle.playing.specs.Fed.{fedWith, fedAll, lineFor, linesFrom}
 
 pub as-many : (xs : List Rec) (t : Table) (n : ℕ) → length (linesFrom t n xs) ≡ length xs

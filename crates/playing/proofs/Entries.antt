@@ -14,9 +14,9 @@ use Rattle.log.specs.declared.Found.the-variants as found
 use Rattle.log.specs.Record.{tick, frame, identifiers}
 use Rattle.log.specs.Reading.{lengthPart, identifierPart, channelPart, timePart, recordAt, placed, foundAt, payloadOf, recOf}
 use Rattle.log.proofs.Wholes.{by-part, by-test}
-use Rattle.watch.specs.declared.Table.{Table}
-use Rattle.watch.specs.declared.Arrival.the-variants.{Tick}
-use Rattle.watch.specs.Table.{arrivalOf, feedOf}
+use Rattle.watch_rules.specs.declared.Table.{Table}
+use Rattle.watch_rules.specs.declared.Arrival.the-variants.{Tick}
+use Rattle.watch_rules.specs.Table.{arrivalOf, feedOf}
 use Rattle.playing.specs.Fed.{fedWith, channelOf}
 use Rattle.playing.specs.Step.{Within}
 

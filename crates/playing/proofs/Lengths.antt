@@ -12,8 +12,8 @@ use Rattle.text.specs.Ascii.{space, dash}
 use Rattle.text.specs.Numbers.{numeral}
 use Rattle.text.specs.Pens.{textOf}
 use Rattle.notation.specs.Answers.{lineFeed, capitalA, capitalR, namedWords, endWords}
-use Rattle.watch.specs.declared.Answer.{Answer}
-use Rattle.watch.specs.declared.Answer.the-variants.{Findings, Refused}
+use Rattle.watch_rules.specs.declared.Answer.{Answer}
+use Rattle.watch_rules.specs.declared.Answer.the-variants.{Findings, Refused}
 use Rattle.playing.specs.Lines.{lineRoom, unheld, postWords, refusedWords, answerWords, lineOf, InWords}
 use Rattle.playing.proofs.Digits.{few-digits}
 

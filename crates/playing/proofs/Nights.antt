@@ -14,10 +14,10 @@ use Rattle.log.specs.declared.Found.the-variants as found
 use Rattle.log.specs.Record.{Rec, AllLoggable, logBytes}
 use Rattle.log.specs.Reading.{recOf, foundAt, Log, onward, readFrom, logOf, wholly, recordsIn}
 use Rattle.log.proofs.Logs.{log-cut}
-use Rattle.watch.specs.declared.Table.{Table}
-use Rattle.watch.specs.declared.Setting.{Setting}
-use Rattle.watch.specs.declared.Setting.the-variants as setting
-use Rattle.watch.specs.Table.{emptyTable, setUpOf}
+use Rattle.watch_rules.specs.declared.Table.{Table}
+use Rattle.watch_rules.specs.declared.Setting.{Setting}
+use Rattle.watch_rules.specs.declared.Setting.the-variants as setting
+use Rattle.watch_rules.specs.Table.{emptyTable, setUpOf}
 use Rattle.playing.specs.declared.Course.{Course}
 use Rattle.playing.specs.declared.Course.the-variants.{SetUps, Records, Refused}
 use Rattle.playing.specs.declared.Replay.{Replay}

@@ -22,11 +22,11 @@ use Rattle.log.specs.declared.Found.the-variants as found
 use Rattle.log.specs.Record.{Rec}
 use Rattle.log.specs.Record as rec
 use Rattle.log.specs.Reading.{foundAt, onward, readFrom, logOf, recordsIn}
-use Rattle.watch.specs.declared.Answer.the-variants.{Refused}
-use Rattle.watch.specs.declared.Arrival.{Arrival}
-use Rattle.watch.specs.declared.Arrival.the-variants.{Tick, Frame, Unread}
-use Rattle.watch.specs.Table.{postCount, isChannel, arrivalOf}
-use Rattle.watch.specs.Steps.{Steps, Standing, free, held, standing, holdsIn, findFrom, holder, answerIn, feed01, feedSteps}
+use Rattle.watch_rules.specs.declared.Answer.the-variants.{Refused}
+use Rattle.watch_rules.specs.declared.Arrival.{Arrival}
+use Rattle.watch_rules.specs.declared.Arrival.the-variants.{Tick, Frame, Unread}
+use Rattle.watch_rules.specs.Table.{postCount, isChannel, arrivalOf}
+use Rattle.watch_rules.specs.Steps.{Steps, Standing, free, held, standing, holdsIn, findFrom, holder, answerIn, feed01, feedSteps}
 use Rattle.playing.specs.Lines.{lineRoom, InWords, AllShort}
 use Rattle.playing.specs.Fed.{timeOf, channelOf, arrivalIn, lines01From}
 use Rattle.playing.specs.Night.{Wanted, Ready, ready, stopped, prepared01, night01, runOf}

@@ -12,11 +12,11 @@ use Rattle.log.specs.Reading.{recOf, foundAt}
 use Rattle.text.specs.declared.Pen.{Pen}
 use Rattle.text.proofs.Laws.{whole-text}
 use Rattle.notation.specs.Answers.{Wrote}
-use Rattle.watch.specs.declared.Answer.{Answer}
-use Rattle.watch.specs.declared.Fed.{Fed}
-use Rattle.watch.specs.declared.Setting.{Setting}
-use Rattle.watch.specs.declared.Settled.{Settled}
-use Rattle.watch.specs.Table.{placeOf, setUpOf}
+use Rattle.watch_rules.specs.declared.Answer.{Answer}
+use Rattle.watch_rules.specs.declared.Fed.{Fed}
+use Rattle.watch_rules.specs.declared.Setting.{Setting}
+use Rattle.watch_rules.specs.declared.Settled.{Settled}
+use Rattle.watch_rules.specs.Table.{placeOf, setUpOf}
 use Rattle.playing.specs.declared.Course.{Course}
 use Rattle.playing.specs.declared.Course.the-variants.{Records}
 use Rattle.playing.specs.declared.Replay.{Replay}

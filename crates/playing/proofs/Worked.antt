@@ -10,7 +10,7 @@ use Rattle.log.specs.Number.{readGroups}
 use Rattle.log.specs.Reading.{lengthPart, identifierPart, channelPart, timePart, recordAt}
 use Rattle.text.specs.Numbers.{glyphOf, digitsIn, numeral}
 use Rattle.text.specs.Pens.{textOf}
-use Rattle.watch.specs.Table.{placeOf, heardOf, feedAt, feedOf, isOther, setUpOf}
+use Rattle.watch_rules.specs.Table.{placeOf, heardOf, feedAt, feedOf, isOther, setUpOf}
 use Rattle.rule_limits.specs.Limits.{limitsFit}
 use Rattle.playing.specs.declared.Replay.{Replay}
 use Rattle.playing.specs.declared.Next.{Next}

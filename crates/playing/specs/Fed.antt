@@ -3,12 +3,12 @@ use Prim.Native.Nat.{ℕ, _+_}
 use mathlib.Core.List.{List, [], _∷_}
 use Rattle.pages.specs.Judge.{judgeOf}
 use Rattle.log.specs.Record.{Rec, tick, frame}
-use Rattle.watch.specs.declared.Table.{Table}
-use Rattle.watch.specs.declared.Fed.{Fed}
-use Rattle.watch.specs.declared.Arrival.{Arrival}
-use Rattle.watch.specs.declared.Arrival.the-variants.{Tick}
-use Rattle.watch.specs.Table.{placeOf, arrivalOf, feedOf}
-use Rattle.watch.specs.Steps.{Steps, holder, feed01, feedSteps}
+use Rattle.watch_rules.specs.declared.Table.{Table}
+use Rattle.watch_rules.specs.declared.Fed.{Fed}
+use Rattle.watch_rules.specs.declared.Arrival.{Arrival}
+use Rattle.watch_rules.specs.declared.Arrival.the-variants.{Tick}
+use Rattle.watch_rules.specs.Table.{placeOf, arrivalOf, feedOf}
+use Rattle.watch_rules.specs.Steps.{Steps, holder, feed01, feedSteps}
 use Rattle.playing.specs.Lines.{lineOf}
 
 -- ---- what a record brings to the watch

@@ -10,8 +10,8 @@ use Rattle.text.specs.Numbers.{numeral}
 use Rattle.text.specs.Pens.{textOf}
 use Rattle.text.specs.declared.Pen.{Pen}
 use Rattle.notation.specs.Answers.{capitalA, capitalR, namedWords, endWords}
-use Rattle.watch.specs.declared.Answer.{Answer}
-use Rattle.watch.specs.declared.Answer.the-variants.{Findings, Refused}
+use Rattle.watch_rules.specs.declared.Answer.{Answer}
+use Rattle.watch_rules.specs.declared.Answer.the-variants.{Findings, Refused}
 
 -- "a line buffer under 40 bytes gets 8 first"; no line has more (the law `line-short`)
 abbrev pub lineRoom : ℕ

@@ -5,11 +5,11 @@ use lib.ListN.{length, take}
 use Rattle.pages.specs.declared.Refusal.{Refusal}
 use Rattle.rule_limits.specs.declared.PlainLimits.{PlainLimits}
 use Rattle.log.specs.Reading.{Log, ends, then, clean, piece, refused, recordsIn}
-use Rattle.watch.specs.declared.Table.{Table}
-use Rattle.watch.specs.declared.Setting.{Setting}
-use Rattle.watch.specs.declared.Setting.the-variants as setting
-use Rattle.watch.specs.Table.{setUpOf}
-use Rattle.watch.specs.Steps.{Steps, setUp01, setUpSteps}
+use Rattle.watch_rules.specs.declared.Table.{Table}
+use Rattle.watch_rules.specs.declared.Setting.{Setting}
+use Rattle.watch_rules.specs.declared.Setting.the-variants as setting
+use Rattle.watch_rules.specs.Table.{setUpOf}
+use Rattle.watch_rules.specs.Steps.{Steps, setUp01, setUpSteps}
 use Rattle.playing.specs.declared.Replay.{Replay}
 use Rattle.playing.specs.declared.Played.{Played}
 use Rattle.playing.specs.declared.Played.the-variants.{Line, End, Cut, Bad, SetUp, Short}

@@ -10,9 +10,9 @@ use Rattle.log.specs.Number.{readGroups}
 use Rattle.log.specs.Reading.{lengthPart, identifierPart, channelPart, timePart, recordAt}
 use Rattle.text.specs.Numbers.{glyphOf, digitsIn, numeral}
 use Rattle.text.specs.Pens.{textOf}
-use Rattle.watch.specs.declared.Answer.{Answer}
-use Rattle.watch.specs.declared.Answer.the-variants.{Findings, Refused}
-use Rattle.watch.specs.Table.{placeOf, heardOf, feedAt, feedOf, isOther, setUpOf}
+use Rattle.watch_rules.specs.declared.Answer.{Answer}
+use Rattle.watch_rules.specs.declared.Answer.the-variants.{Findings, Refused}
+use Rattle.watch_rules.specs.Table.{placeOf, heardOf, feedAt, feedOf, isOther, setUpOf}
 use Rattle.rule_limits.specs.Limits.{limitsFit}
 use Rattle.playing.specs.declared.Played.the-variants.{End, Cut, Bad, SetUp, Short}
 use Rattle.playing.specs.Lines.{lineRoom, refusedWords, lineOf}

@@ -10,10 +10,10 @@ use Rattle.log.specs.declared.Entry.{Entry}
 use Rattle.log.specs.declared.Found.{Found}
 use Rattle.log.specs.declared.Found.the-variants as found
 use Rattle.log.specs.Reading.{recOf, foundAt}
-use Rattle.watch.specs.declared.Setting.{Setting}
-use Rattle.watch.specs.declared.Setting.the-variants as setting
-use Rattle.watch.specs.declared.Settled.{Settled}
-use Rattle.watch.specs.Table.{emptyTable, setUpOf}
+use Rattle.watch_rules.specs.declared.Setting.{Setting}
+use Rattle.watch_rules.specs.declared.Setting.the-variants as setting
+use Rattle.watch_rules.specs.declared.Settled.{Settled}
+use Rattle.watch_rules.specs.Table.{emptyTable, setUpOf}
 use Rattle.playing.specs.declared.Course.{Course}
 use Rattle.playing.specs.declared.Course.the-variants.{SetUps, Records, Refused}
 use Rattle.playing.specs.declared.Replay.{Replay}

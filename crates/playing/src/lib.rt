@@ -4,7 +4,7 @@ ghost use mathlib.Core.Path.{_≡_};
 ghost use Prim.Native.Nat.{_≤_};
 ghost use lib.ListN.{length};
 ghost use Rattle.log.specs.Reading.{recOf, foundAt};
-ghost use Rattle.watch.specs.Table.{setUpOf};
+ghost use Rattle.watch_rules.specs.Table.{setUpOf};
 ghost use Rattle.playing.specs.Lines.{lineRoom};
 ghost use Rattle.playing.specs.Fed.{fedWith};
 ghost use Rattle.playing.specs.Step.{fresh, preparedBy, setUpIn, lineCall, onFound, nextBy, bufferBy, nextLine, bufferAfter, Within};
@@ -16,9 +16,9 @@ use log::Found;
 use pages::Refusal;
 use rule_limits::PlainLimits;
 use std::num::wrapping_add_u64;
-use watch::Fed;
-use watch::Setting;
-use watch::Table;
+use watch_rules::Fed;
+use watch_rules::Setting;
+use watch_rules::Table;
 
 // What a replay stands at: its set-ups may still come; records were fed; or a set-up was refused, which ended it.
 pub enum Course {
@@ -153,7 +153,7 @@ fn told(r: Replay, log: &[u8], e: Entry, line: &mut [u8]) -> Next
 {
     let channel = e.channel;
     let next = e.next;
-    let post = watch::place(r.table, channel) as u32;
+    let post = watch_places::place(r.table, channel) as u32;
     let count = wrapping_add_u64(r.count, 1);
     let f = fed(r.table, log, e);
     let table = f.table;

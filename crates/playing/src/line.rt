@@ -8,7 +8,7 @@ ghost use Rattle.notation.specs.Answers.{Wrote};
 ghost use Rattle.playing.specs.Lines.{lineRoom, unheld, postWords, refusedWords, answerWords, lineWords, lineOf, InWords, laid, newPen};
 use pages::Refusal;
 use text::Pen;
-use watch::Answer;
+use watch_rules::Answer;
 
 fn is_unheld(a: Answer) -> bool
     ensures { λ r. ⌜ r ≡ unheld a ⌝ }

@@ -1,10 +1,7 @@
 // One post of the session watch, by value: a post that is set up, aged and stepped by a tick or a frame, with the event's findings. For the tables of posts.
 ghost use mathlib.Core.Path.{_≡_};
-ghost use Rattle.rules.specs.History.{earlier, elapsed};
-ghost use Rattle.rules.specs.Step.{isEarly, tickStep, frameStep, freePost, freshPost};
+ghost use Rattle.rules.specs.Step.{tickStep, frameStep, freePost, freshPost};
 
-mod times; // times.rt: earlier and elapsed
-mod found; // found.rt: F1 and F2
 mod step; // step.rt: a post after one event more
 
 use rule_limits::PlainLimits;
@@ -59,16 +56,6 @@ pub fn fresh_post(channel: u32, limits: PlainLimits) -> Post
     }
 }
 
-pub fn is_early(p: Post, time: u32) -> bool
-    ensures { λ r. ⌜ r ≡ isEarly p time ⌝ }
-{
-    if p.heard {
-        times::is_earlier(time, p.time)
-    } else {
-        false
-    }
-}
-
 // The post goes to the event's time first, and is judged there; then the frame is put in. A tick is the first half.
 pub fn tick(p: Post, time: u32) -> Stepped
     ensures { λ r. ⌜ r ≡ tickStep p time ⌝ }
@@ -76,7 +63,7 @@ pub fn tick(p: Post, time: u32) -> Stepped
     let q = step::aged(p, time);
     Stepped {
         post: q,
-        findings: found::any_findings(q),
+        findings: post_times::any_findings(q),
     }
 }
 
@@ -84,7 +71,7 @@ pub fn frame(p: Post, time: u32, kind: usize, raw: u64) -> Stepped
     ensures { λ r. ⌜ r ≡ frameStep p time kind raw ⌝ }
 {
     let q = step::aged(p, time);
-    let findings = found::any_findings(q) + post_findings::message_findings(q, kind, raw);
+    let findings = post_times::any_findings(q) + post_findings::message_findings(q, kind, raw);
     let u = step::with_frame(q, kind, raw);
     Stepped { post: u, findings }
 }

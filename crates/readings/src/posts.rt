@@ -10,7 +10,7 @@ use crate::steps::set_up;
 use crate::steps::standard;
 use crate::steps::tick;
 use rule_limits::Sensor;
-use watch::Table;
+use watch_rules::Table;
 
 const STATUS: u32 = 0x63000;
 

@@ -12,9 +12,9 @@ use rules::LastTime;
 use rule_limits::Limits;
 use rule_limits::Sensor;
 use rules::SessionPart;
-use watch::Answer;
-use watch::Setting;
-use watch::Table;
+use watch_rules::Answer;
+use watch_rules::Setting;
+use watch_rules::Table;
 
 fn refused(w: Refusal) {
     text(b" -> ");

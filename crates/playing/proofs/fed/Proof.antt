@@ -3,7 +3,7 @@ use mathlib.Core.Path.{ap, _∙_}
 use mathlib.Core.List.{List}
 use Prim.Native.Nat.{ℕ}
 use Rattle.pages.specs.Judge.{judgeOf}
-use Rattle.watch.specs.Table.{arrivalOf, feedOf}
+use Rattle.watch_rules.specs.Table.{arrivalOf, feedOf}
 use Rattle.playing.proofs.Entries.{fed-tick, fed-frame}
 use borrow.Author.Needs.{needs}
 use Rattle.playing.proofs.fed.Statement.{statement}

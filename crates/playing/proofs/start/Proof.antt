@@ -1,6 +1,6 @@
 -- `playing::start` meets its contract, by what `watch::empty` ensures.
 use mathlib.Core.Path.{ap}
-use Rattle.watch.specs.declared.Table.{Table}
+use Rattle.watch_rules.specs.declared.Table.{Table}
 use Rattle.playing.specs.declared.Course.the-variants.{SetUps}
 use borrow.Author.Needs.{needs}
 use Rattle.playing.proofs.start.Statement.{statement}
