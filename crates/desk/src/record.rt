@@ -5,14 +5,14 @@ use messages::Protocol;
 use messages::labels::plug_number;
 use messages::labels::protocol_number;
 use notation::answer::named;
+use rule_limits::Limits;
+use rule_limits::kept::sensor_number;
 use rules::Dated;
 use rules::KINDS;
 use rules::LastTime;
-use rule_limits::Limits;
 use rules::OpenSession;
 use rules::Record;
 use rules::SessionPart;
-use rule_limits::kept::sensor_number;
 use text::Pen;
 
 // `MSG@T`, or `-`

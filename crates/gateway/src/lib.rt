@@ -17,8 +17,8 @@ pub mod screen; // screen.rt: probes and a duty for the service screen
 
 use pages::Judged;
 use pages::Refusal;
-use rules::KINDS;
 use rule_limits::PlainLimits;
+use rules::KINDS;
 use rules::Post;
 use rules::Slot;
 use watch_rules::Answer;

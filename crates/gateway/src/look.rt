@@ -11,11 +11,11 @@ use crate::refusal_word;
 use messages::labels::plug_number;
 use messages::labels::protocol_number;
 use pages::Refusal;
+use rule_limits::kept::sensor_number;
+use rule_limits::kept::sensor_of;
 use rules::KINDS;
 use rules::Post;
 use rules::Slot;
-use rule_limits::kept::sensor_number;
-use rule_limits::kept::sensor_of;
 use watch_rules::Table;
 
 // ---- a post's numbers
