@@ -1,5 +1,9 @@
 // The record that a post hands out: messages instead of payload numbers. For whoever looks a post up.
+ghost use lib.ListN.{getD};
+ghost use mathlib.Core.List.{map};
 ghost use mathlib.Core.Path.{_≡_};
+ghost use Rattle.rules.specs.History.{countFrom};
+ghost use Rattle.rules.specs.Record.{kindCount, unknown};
 ghost use Rattle.rules.specs.Step.{datedIn, partIn, lastIn, recordIn};
 use messages::CONTROL;
 use messages::STATUS;
@@ -57,20 +61,29 @@ fn last_time(p: Post) -> LastTime
     }
 }
 
-pub fn record_in(p: Post) -> Record
-    ensures { λ r. ⌜ r ≡ recordIn p ⌝ }
+// The latest frame of each kind, by its message.
+fn messages_of(slots: [Slot; KINDS]) -> [Latest; KINDS]
+    ensures { λ r. ⌜ r ≡ map (λ k. record { message = datedIn k (getD slots k unknown) }) (countFrom 0 kindCount) ⌝ }
 {
     let mut latest = [Latest {
         message: Dated::Nothing,
     }; KINDS];
     let mut k: usize = 0;
     while k < KINDS {
-        let l = p.latest[k];
+        let l = slots[k];
         latest[k] = Latest {
             message: dated(k, l),
         };
         k += 1;
     }
+    latest
+}
+
+pub fn record_in(p: Post) -> Record
+    ensures { λ r. ⌜ r ≡ recordIn p ⌝ }
+{
+    let slots = p.latest;
+    let latest = messages_of(slots);
     let kept = p.limits;
     let limits = limits_in(kept);
     let s = p.session;

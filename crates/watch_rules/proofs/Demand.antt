@@ -26,9 +26,9 @@ use Rattle.watch_rules.specs.Table.{postCount, isChannel, holds, noPost,
 use Rattle.watch_rules.specs.Steps.{Step, Steps, Standing, free, held, standing, holdsIn, holder, otherHolds, answerIn, feed01, setUp01, release01, lookUp01, ifFound, feedSteps, ifDone, setUpSteps, releaseSteps, Apart, InRange, Kept}
 use Rattle.watch_rules.specs.Run.{Request, setUp, release, frame, tick, Reply, set, fed, reply, next, run, reply01, steps01, accepted, isRefusal, concerns, Unheld, arrivesOn, postIn, runFrom, repliesFrom, acceptedFrom, replies01From}
 use Rattle.watch_rules.proofs.Standings.{standing-none, standing-setUp, standing-setUp-other, standing-release, standing-release-other, standing-event, standing-event-other, held-on, holder-holds, holder-is, others-alike}
-use Rattle.watch_rules.proofs.Refusing.{refused-table, refused-steps}
 use Rattle.watch_rules.proofs.Tables.{holds-look, post-at}
 use Rattle.watch_rules.proofs.Right.{feed-right, setUp-right, release-right, lookUp-right, empty-kept}
+use Rattle.watch_rules.proofs.Refusing.{refused-table, refused-steps}
 
 -- ---- one request
 
