@@ -6,17 +6,17 @@ use crate::values;
 use crate::values::Made;
 use messages::Message;
 use messages::Reading;
-use notation::answer;
-use notation::fields;
-use notation::fields::Head;
+use notation_read::fields;
+use notation_read::fields::Head;
+use notation_write::answer;
 use pages::Judged;
 use pages::Refusal;
 use pages::Written;
 use post::KINDS;
-use text::Bytes;
-use text::Field;
-use text::Pen;
-use text::sign::Signed;
+use text_bytes::Bytes;
+use text_lines::Field;
+use text_numbers::sign::Signed;
+use text_pen::Pen;
 
 // `read ID x|s HEX`
 pub fn read(s: &[u8], at: usize, room: &mut [u8], out: &mut [u8], pen: Pen) -> Pen {
@@ -35,7 +35,7 @@ pub fn read(s: &[u8], at: usize, room: &mut [u8], out: &mut [u8], pen: Pen) -> P
 fn put_reading(out: &mut [u8], pen: Pen, r: Reading) -> Pen {
     match r {
         Reading::Accepted(m) => {
-            let p = text::put(out, pen, b"A ");
+            let p = text_pen::put(out, pen, b"A ");
             let q = message::put(out, p, m);
             answer::line_end(out, q)
         }
@@ -62,17 +62,17 @@ fn change_line(s: &[u8], at: usize, room: &mut [u8]) -> Asked {
     if next > s.len() {
         return Asked::Bad;
     }
-    let e = text::word_end(s, next);
-    let Bytes::Is(length) = text::hex_bytes(&s[next..e], room) else {
+    let e = text_lines::word_end(s, next);
+    let Bytes::Is(length) = text_bytes::hex_bytes(&s[next..e], room) else {
         return Asked::Bad;
     };
-    let Field::Is(start, c) = text::take_u32(s, e + 1) else {
+    let Field::Is(start, c) = text_lines::take_u32(s, e + 1) else {
         return Asked::Bad;
     };
     if c > s.len() {
         return Asked::Bad;
     }
-    let Signed::Is(raw) = text::signed(&s[c..]) else {
+    let Signed::Is(raw) = text_numbers::signed(&s[c..]) else {
         return Asked::Bad;
     };
     Asked::Change {
@@ -106,7 +106,7 @@ pub fn change(s: &[u8], at: usize, room: &mut [u8], out: &mut [u8], pen: Pen) ->
 fn put_changed(out: &mut [u8], pen: Pen, changed: Judged, bytes: &[u8]) -> Pen {
     match changed {
         Judged::Frame(_, _) => {
-            let p = text::put(out, pen, b"A");
+            let p = text_pen::put(out, pen, b"A");
             answer::bytes_end(out, p, bytes)
         }
         Judged::Refused(w) => answer::refusal_bytes(out, pen, w, bytes),
@@ -141,7 +141,7 @@ fn write_line(s: &[u8], at: usize, room: &mut [u8]) -> Order {
     if next > s.len() {
         return no_order();
     }
-    let e = text::word_end(s, next);
+    let e = text_lines::word_end(s, next);
     let Bytes::Is(length) = fields::take_rest(s, e + 1, room) else {
         return no_order();
     };
@@ -170,7 +170,7 @@ pub fn write(s: &[u8], at: usize, room: &mut [u8], out: &mut [u8], pen: Pen) -> 
 
 fn ordered(kind: usize, v: Values, buf: &mut [u8], out: &mut [u8], pen: Pen) -> Pen {
     if KINDS <= kind {
-        return text::put(out, pen, b"X\n");
+        return text_pen::put(out, pen, b"X\n");
     }
     if v.count != values::count_of(kind) {
         return answer::unknown(out, pen);
@@ -202,12 +202,12 @@ fn put_written(out: &mut [u8], pen: Pen, w: Written, buf: &[u8]) -> Pen {
 
 // `A ID LEN`
 fn put_head(out: &mut [u8], pen: Pen, id: u32, len: usize) -> Pen {
-    let p = text::put(out, pen, b"A ");
-    let q = text::put_hexadecimal(out, p, id as u64);
+    let p = text_pen::put(out, pen, b"A ");
+    let q = text_pen::put_hexadecimal(out, p, id as u64);
     put_length(out, q, len)
 }
 
 fn put_length(out: &mut [u8], pen: Pen, len: usize) -> Pen {
-    let p = text::put(out, pen, b" ");
-    text::put_decimal(out, p, len as u64)
+    let p = text_pen::put(out, pen, b" ");
+    text_pen::put_decimal(out, p, len as u64)
 }

@@ -1,18 +1,18 @@
 // The steps of the night log: logw, logr.
 ghost use Prim.Native.Nat.{_≤_};
 use crate::paper;
-use log::Entry;
-use log::Found;
-use log::Logged;
-use log::Scan;
-use notation::answer;
-use notation::ending;
-use notation::fields;
-use notation::fields::Head;
+use log_read::Scan;
+use log_records::Entry;
+use log_records::Found;
+use log_write::Logged;
+use notation_read::fields;
+use notation_read::fields::Head;
+use notation_write::answer;
+use notation_write::ending;
 use pages::Refusal;
-use text::Bytes;
-use text::Field;
-use text::Pen;
+use text_bytes::Bytes;
+use text_lines::Field;
+use text_pen::Pen;
 
 // A payload that the log can hold has eight bytes at most: of a longer one nine are enough to be refused.
 const ENOUGH: usize = 9;
@@ -22,7 +22,7 @@ pub fn write(s: &[u8], at: usize, room: &mut [u8], out: &mut [u8], pen: Pen) -> 
     if at > s.len() {
         return answer::unknown(out, pen);
     }
-    let e = text::word_end(s, at);
+    let e = text_lines::word_end(s, at);
     let kind = &s[at..e];
     if check::same(kind, b"t") {
         return tick(s, e + 1, room, out, pen);
@@ -34,10 +34,10 @@ pub fn write(s: &[u8], at: usize, room: &mut [u8], out: &mut [u8], pen: Pen) -> 
 }
 
 fn tick(s: &[u8], at: usize, room: &mut [u8], out: &mut [u8], pen: Pen) -> Pen {
-    let Field::Is(time, a) = text::take_u32(s, at) else {
+    let Field::Is(time, a) = text_lines::take_u32(s, at) else {
         return answer::unknown(out, pen);
     };
-    let Field::Is(channel, b) = text::take_u32(s, a) else {
+    let Field::Is(channel, b) = text_lines::take_u32(s, a) else {
         return answer::unknown(out, pen);
     };
     let Bytes::Is(n) = fields::take_rest(s, b, room) else {
@@ -46,7 +46,7 @@ fn tick(s: &[u8], at: usize, room: &mut [u8], out: &mut [u8], pen: Pen) -> Pen {
     if n > room.len() {
         return answer::unknown(out, pen);
     }
-    let w = log::write_tick(time, channel, &mut room[0..n]);
+    let w = log_write::write_tick(time, channel, &mut room[0..n]);
     put_logged(out, pen, w, &room[0..n])
 }
 
@@ -63,10 +63,10 @@ enum Asked {
 
 // `TIME CHANNEL ID x|s`
 fn frame_head(s: &[u8], at: usize) -> Asked {
-    let Field::Is(time, a) = text::take_u32(s, at) else {
+    let Field::Is(time, a) = text_lines::take_u32(s, at) else {
         return Asked::Bad;
     };
-    let Field::Is(channel, b) = text::take_u32(s, a) else {
+    let Field::Is(channel, b) = text_lines::take_u32(s, a) else {
         return Asked::Bad;
     };
     let Head::Is { id, extended, next } = fields::take_head(s, b) else {
@@ -120,8 +120,8 @@ fn frame(s: &[u8], at: usize, room: &mut [u8], out: &mut [u8], pen: Pen) -> Pen 
     if next > s.len() {
         return answer::unknown(out, pen);
     }
-    let e = text::word_end(s, next);
-    let Bytes::Is(n) = text::hex_bytes(&s[next..e], room) else {
+    let e = text_lines::word_end(s, next);
+    let Bytes::Is(n) = text_bytes::hex_bytes(&s[next..e], room) else {
         return answer::unknown(out, pen);
     };
     let body = front(room, n);
@@ -132,7 +132,7 @@ fn frame(s: &[u8], at: usize, room: &mut [u8], out: &mut [u8], pen: Pen) -> Pen 
         return answer::unknown(out, pen);
     }
     let k = at_most_enough(n);
-    let w = log::write_frame(time, channel, id, extended, &body[0..k], &mut room[0..size]);
+    let w = log_write::write_frame(time, channel, id, extended, &body[0..k], &mut room[0..size]);
     put_logged(out, pen, w, &room[0..size])
 }
 
@@ -140,8 +140,8 @@ fn frame(s: &[u8], at: usize, room: &mut [u8], out: &mut [u8], pen: Pen) -> Pen 
 fn put_logged(out: &mut [u8], pen: Pen, w: Logged, buf: &[u8]) -> Pen {
     match w {
         Logged::Bytes(n) => {
-            let p = text::put(out, pen, b"A ");
-            let q = text::put_decimal(out, p, n as u64);
+            let p = text_pen::put(out, pen, b"A ");
+            let q = text_pen::put_decimal(out, p, n as u64);
             answer::bytes_end(out, q, buf)
         }
         Logged::Refused(w) => answer::refusal_bytes(out, pen, w, buf),
@@ -160,10 +160,10 @@ pub fn read(s: &[u8], at: usize, room: &mut [u8], out: &mut [u8], pen: Pen) -> P
 }
 
 fn put_log(bytes: &[u8], out: &mut [u8], pen: Pen) -> Pen {
-    match log::scan_log(bytes) {
+    match log_read::scan_log(bytes) {
         Scan::End { records } => {
             let p = put_list(bytes, records, out, pen);
-            text::put(out, p, b"END\n")
+            text_pen::put(out, p, b"END\n")
         }
         Scan::Cut { records, at } => {
             let p = put_list(bytes, records, out, pen);
@@ -189,7 +189,7 @@ pub fn put_bad(out: &mut [u8], pen: Pen, why: Refusal, at: usize) -> Pen {
 // `L K REC*K` and a space
 fn put_list(bytes: &[u8], records: usize, out: &mut [u8], pen: Pen) -> Pen {
     let p = put_records(bytes, records, out, pen);
-    text::put(out, p, b" ")
+    text_pen::put(out, p, b" ")
 }
 
 // The answer may be twice as long as its line, so that what is written goes out between two records.
@@ -208,8 +208,8 @@ fn put_records(bytes: &[u8], records: usize, out: &mut [u8], pen: Pen) -> Pen {
 }
 
 fn put_count(out: &mut [u8], pen: Pen, records: usize) -> Pen {
-    let p = text::put(out, pen, b"L ");
-    text::put_decimal(out, p, records as u64)
+    let p = text_pen::put(out, pen, b"L ");
+    text_pen::put_decimal(out, p, records as u64)
 }
 
 struct Put {
@@ -218,7 +218,7 @@ struct Put {
 }
 
 fn put_next(bytes: &[u8], at: usize, out: &mut [u8], pen: Pen) -> Put {
-    match log::record_at(bytes, at) {
+    match log_read::record_at(bytes, at) {
         Found::Record(e) => {
             let next = e.next;
             Put {
@@ -241,7 +241,7 @@ fn put_entry(bytes: &[u8], e: Entry, out: &mut [u8], pen: Pen) -> Pen {
     let q = put_identifier(out, p, e.id, e.extended);
     let start = e.start;
     let length = e.length;
-    text::put_hex(out, q, log::payload(bytes, start, length))
+    text_pen::put_hex(out, q, log_read::payload(bytes, start, length))
 }
 
 fn put_heard(out: &mut [u8], pen: Pen, name: &[u8], time: u32, channel: u32) -> Pen {
@@ -250,10 +250,10 @@ fn put_heard(out: &mut [u8], pen: Pen, name: &[u8], time: u32, channel: u32) -> 
 }
 
 fn put_identifier(out: &mut [u8], pen: Pen, id: u32, extended: bool) -> Pen {
-    let p = text::put(out, pen, b",");
-    let q = text::put_hexadecimal(out, p, id as u64);
+    let p = text_pen::put(out, pen, b",");
+    let q = text_pen::put_hexadecimal(out, p, id as u64);
     if extended {
-        return text::put(out, q, b",x,");
+        return text_pen::put(out, q, b",x,");
     }
-    text::put(out, q, b",s,")
+    text_pen::put(out, q, b",s,")
 }

@@ -13,9 +13,9 @@ mod screen; // screen.rt: the steps of the service screen
 mod step; // step.rt: a line and its answer
 mod paper; // paper.rt: the output buffer
 
-use notation::answer;
-use notation::script;
-use text::Pen;
+use notation_read::script;
+use notation_write::answer;
+use text_pen::Pen;
 use watch::Table;
 
 // What is kept from one piece of the input to the next: the table, how much of the last line is in the line buffer, whether that line is

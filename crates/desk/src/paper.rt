@@ -1,5 +1,5 @@
 // The output buffer, on its way to standard output.
-use text::Pen;
+use text_pen::Pen;
 
 const HALF: usize = 32768;
 

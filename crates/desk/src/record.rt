@@ -4,7 +4,7 @@ use messages::Plug;
 use messages::Protocol;
 use messages::labels::plug_number;
 use messages::labels::protocol_number;
-use notation::answer::named;
+use notation_write::answer::named;
 use post::Dated;
 use post::KINDS;
 use post::LastTime;
@@ -13,12 +13,12 @@ use post::OpenSession;
 use post::Record;
 use post::SessionPart;
 use post::kept::sensor_number;
-use text::Pen;
+use text_pen::Pen;
 
 // `MSG@T`, or `-`
 fn put_dated(out: &mut [u8], pen: Pen, d: Dated) -> Pen {
     match d {
-        Dated::Nothing => text::put(out, pen, b"-"),
+        Dated::Nothing => text_pen::put(out, pen, b"-"),
         Dated::At(time, m) => {
             let p = message::put(out, pen, m);
             named(out, p, b"@", time)
@@ -41,7 +41,7 @@ fn put_limits(out: &mut [u8], pen: Pen, l: Limits) -> Pen {
 
 fn put_last(out: &mut [u8], pen: Pen, l: LastTime) -> Pen {
     match l {
-        LastTime::Never => text::put(out, pen, b" last=-"),
+        LastTime::Never => text_pen::put(out, pen, b" last=-"),
         LastTime::At(time) => named(out, pen, b" last=", time),
     }
 }
@@ -53,7 +53,7 @@ fn put_opening(out: &mut [u8], pen: Pen, since: u32, protocol: Protocol, plug: P
 }
 
 fn put_part(out: &mut [u8], pen: Pen, name: &[u8], d: Dated) -> Pen {
-    let p = text::put(out, pen, name);
+    let p = text_pen::put(out, pen, name);
     put_dated(out, p, d)
 }
 
@@ -69,7 +69,7 @@ fn put_open(out: &mut [u8], pen: Pen, s: OpenSession) -> Pen {
 
 fn put_session(out: &mut [u8], pen: Pen, s: SessionPart) -> Pen {
     match s {
-        SessionPart::Closed => text::put(out, pen, b" open=0 since=- first=- spms=- sdpc=-"),
+        SessionPart::Closed => text_pen::put(out, pen, b" open=0 since=- first=- spms=- sdpc=-"),
         SessionPart::Opened(o) => put_open(out, pen, o),
     }
 }
@@ -136,7 +136,7 @@ fn put_none(out: &mut [u8], listed: Listed) -> Pen {
     if listed.some {
         return pen;
     }
-    text::put(out, pen, b"-")
+    text_pen::put(out, pen, b"-")
 }
 
 fn put_setting(out: &mut [u8], pen: Pen, r: Record) -> Pen {
@@ -153,9 +153,9 @@ fn put_session_part(out: &mut [u8], pen: Pen, r: Record) -> Pen {
 }
 
 fn put_messages(out: &mut [u8], pen: Pen, r: Record) -> Pen {
-    let p = text::put(out, pen, b" latest=");
+    let p = text_pen::put(out, pen, b" latest=");
     let q = put_latest(out, p, r);
-    text::put(out, q, b"\n")
+    text_pen::put(out, q, b"\n")
 }
 
 pub fn put(out: &mut [u8], pen: Pen, r: Record) -> Pen {

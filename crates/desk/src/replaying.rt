@@ -1,16 +1,16 @@
 // The step that replays a night log: replay. Its table is its own.
 use crate::logging;
 use crate::paper;
-use notation::answer;
-use notation::ending;
-use notation::setup;
-use notation::setup::Asked;
+use notation_read::setup;
+use notation_read::setup::Asked;
+use notation_write::answer;
+use notation_write::ending;
 use pages::Refusal;
-use playing::Played;
-use playing::Replay;
+use playing_nights::Played;
+use playing_nights::Replay;
 use post::PlainLimits;
-use text::Bytes;
-use text::Pen;
+use text_bytes::Bytes;
+use text_pen::Pen;
 
 // A replay with its set-ups; not well where the words are none. A set-up that is refused is told by the replay itself.
 struct Ready {
@@ -89,7 +89,7 @@ fn set_ups(s: &[u8], room: &mut [u8]) -> Ready {
     let mut r = fresh();
     let mut at = 0;
     while at <= s.len() {
-        let e = text::part_end(s, at, b';');
+        let e = text_lines::part_end(s, at, b';');
         let a = asked_in(&s[at..e], room);
         r = prepared(r, a);
         if !r.well {
@@ -105,7 +105,7 @@ fn take_set_ups(s: &[u8], at: usize) -> Ready {
     if at > s.len() {
         return ill();
     }
-    if text::word_end(s, at) < s.len() {
+    if text_lines::word_end(s, at) < s.len() {
         return ill();
     }
     let all = &s[at..];
@@ -140,9 +140,9 @@ fn last(pen: Pen) -> Told {
 
 // `LINE|`, the line being without its line feed
 fn put_line(line: &[u8], out: &mut [u8], pen: Pen) -> Pen {
-    let e = text::part_end(line, 0, b'\n');
-    let p = text::put(out, pen, &line[0..e]);
-    text::put(out, p, b"|")
+    let e = text_lines::part_end(line, 0, b'\n');
+    let p = text_pen::put(out, pen, &line[0..e]);
+    text_pen::put(out, p, b"|")
 }
 
 fn put_refused(out: &mut [u8], pen: Pen, why: Refusal) -> Pen {
@@ -157,7 +157,7 @@ fn put_answer(a: Played, line: &[u8], out: &mut [u8], pen: Pen) -> Told {
             next,
             more: true,
         },
-        Played::End => last(text::put(out, pen, b"END\n")),
+        Played::End => last(text_pen::put(out, pen, b"END\n")),
         Played::Cut(at) => last(logging::put_cut(out, pen, at)),
         Played::Bad(why, at) => last(logging::put_bad(out, pen, why, at)),
         Played::SetUp(why) => last(put_refused(out, pen, why)),
@@ -217,8 +217,8 @@ pub fn replay(s: &[u8], at: usize, room: &mut [u8], out: &mut [u8], pen: Pen) ->
     if at > s.len() {
         return answer::unknown(out, pen);
     }
-    let e = text::word_end(s, at);
-    let Bytes::Is(n) = text::hex_bytes(&s[at..e], room) else {
+    let e = text_lines::word_end(s, at);
+    let Bytes::Is(n) = text_bytes::hex_bytes(&s[at..e], room) else {
         return answer::unknown(out, pen);
     };
     if n > room.len() {

@@ -2,10 +2,10 @@
 // its place.
 use messages::fields::short;
 use messages::fields::word;
-use notation::answer;
+use notation_write::answer;
 use service::Probe;
-use text::Pen;
-use text::sign::Signed;
+use text_numbers::sign::Signed;
+use text_pen::Pen;
 
 // PT1_Temperature, and the other three.
 const PROBE_BITS: u32 = 14;
@@ -18,7 +18,7 @@ fn take_raw(s: &[u8], at: usize, signed: bool, width: u32) -> Signed {
     if at > s.len() {
         return Signed::Bad;
     }
-    let Signed::Is(raw) = text::signed(&s[at..]) else {
+    let Signed::Is(raw) = text_numbers::signed(&s[at..]) else {
         return Signed::Bad;
     };
     if !signal::fits(raw, signed, width) {
@@ -37,7 +37,7 @@ pub fn probe(s: &[u8], at: usize, out: &mut [u8], pen: Pen) -> Pen {
 
 fn put_probe(out: &mut [u8], pen: Pen, p: Probe) -> Pen {
     match p {
-        Probe::NotUsed => text::put(out, pen, b"N\n"),
+        Probe::NotUsed => text_pen::put(out, pen, b"N\n"),
         Probe::Degrees(x) => put_degrees(out, pen, service::degrees_bits(x)),
     }
 }
@@ -50,7 +50,7 @@ fn put_degrees(out: &mut [u8], pen: Pen, bits: u32) -> Pen {
         (bits / 256 % 256) as u8,
         (bits % 256) as u8,
     ];
-    let p = text::put(out, pen, b"D");
+    let p = text_pen::put(out, pen, b"D");
     answer::bytes_end(out, p, &bytes)
 }
 

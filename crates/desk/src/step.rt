@@ -5,9 +5,9 @@ use crate::replaying;
 use crate::screen;
 use crate::watching;
 use crate::words;
-use notation::answer;
-use notation::script;
-use text::Pen;
+use notation_read::script;
+use notation_write::answer;
+use text_pen::Pen;
 use watch::Table;
 
 pub struct Line {
@@ -26,7 +26,7 @@ pub fn answered(
     if script::is_skipped(s) {
         return Line { table, pen };
     }
-    let e = text::word_end(s, 0);
+    let e = text_lines::word_end(s, 0);
     let at = e + 1;
     let word = &s[0..e];
     if check::same(word, b"frame") {

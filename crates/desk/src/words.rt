@@ -1,30 +1,30 @@
 // Findings and refusals in words: 01's sentences, in short.
-use notation::answer;
-use notation::fields;
-use notation::fields::Last;
-use text::Pen;
+use notation_read::fields;
+use notation_read::fields::Last;
+use notation_write::answer;
+use text_pen::Pen;
 
 // Findings 1 to 6, of the watch over a session.
 fn finding_low(out: &mut [u8], pen: Pen, k: u32) -> Pen {
     match k {
-        1 => text::put(
+        1 => text_pen::put(
             out,
             pen,
             b"power modules silent for longer than W in this session",
         ),
-        2 => text::put(out, pen, b"controller status older than 200 ms"),
-        3 => text::put(out, pen, b"contactors closed with no session open"),
-        4 => text::put(
+        2 => text_pen::put(out, pen, b"controller status older than 200 ms"),
+        3 => text_pen::put(out, pen, b"contactors closed with no session open"),
+        4 => text_pen::put(
             out,
             pen,
             b"insulation test, precharge or power transfer with no session open",
         ),
-        5 => text::put(
+        5 => text_pen::put(
             out,
             pen,
             b"insulation test, precharge or power transfer without Allowed in this session",
         ),
-        _ => text::put(
+        _ => text_pen::put(
             out,
             pen,
             b"lowering with a function other than standby or a setpoint not 0",
@@ -35,23 +35,23 @@ fn finding_low(out: &mut [u8], pen: Pen, k: u32) -> Pen {
 // Findings 7 to 11.
 fn finding_high(out: &mut [u8], pen: Pen, k: u32) -> Pen {
     match k {
-        7 => text::put(out, pen, b"target voltage above the voltage limit"),
-        8 => text::put(
+        7 => text_pen::put(out, pen, b"target voltage above the voltage limit"),
+        8 => text_pen::put(
             out,
             pen,
             b"current above the charge limit or below minus the discharge limit",
         ),
-        9 => text::put(
+        9 => text_pen::put(
             out,
             pen,
             b"insulation under 100 Ohm per volt, or Invalid by a yes/no sensor, in precharge or power transfer",
         ),
-        10 => text::put(
+        10 => text_pen::put(
             out,
             pen,
             b"another protocol or plug than the session's first",
         ),
-        _ => text::put(out, pen, b"session finished with none open"),
+        _ => text_pen::put(out, pen, b"session finished with none open"),
     }
 }
 
@@ -63,76 +63,76 @@ fn finding(out: &mut [u8], pen: Pen, k: u32) -> Pen {
 }
 
 fn no_label(out: &mut [u8], pen: Pen) -> Pen {
-    text::put(out, pen, b"a label signal holds a number without a label")
+    text_pen::put(out, pen, b"a label signal holds a number without a label")
 }
 
 // Refusals 1 to 8, of a frame and its bytes.
 fn of_frame(out: &mut [u8], pen: Pen, n: u32) -> Pen {
     match n {
-        1 => text::put(out, pen, b"channel above 31, or held by no post\n"),
-        2 => text::put(
+        1 => text_pen::put(out, pen, b"channel above 31, or held by no post\n"),
+        2 => text_pen::put(
             out,
             pen,
             b"time earlier than the post's latest accepted frame or tick\n",
         ),
-        3 => text::put(
+        3 => text_pen::put(
             out,
             pen,
             b"identifier not in the table, standard and extended ones told apart\n",
         ),
-        4 => text::put(out, pen, b"shorter than the table's length\n"),
+        4 => text_pen::put(out, pen, b"shorter than the table's length\n"),
         5 => {
             let p = no_label(out, pen);
             answer::line_end(out, p)
         }
-        6 => text::put(out, pen, b"a bit that no signal covers is 1\n"),
-        7 => text::put(
+        6 => text_pen::put(out, pen, b"a bit that no signal covers is 1\n"),
+        7 => text_pen::put(
             out,
             pen,
             b"a value has no raw number, or a raw number does not fit its signal\n",
         ),
-        _ => text::put(out, pen, b"lent buffer shorter than the message\n"),
+        _ => text_pen::put(out, pen, b"lent buffer shorter than the message\n"),
     }
 }
 
 // Refusals 9 to 15, of a post's set-up, release and record, of a change, and of a frame's length.
 fn of_post(out: &mut [u8], pen: Pen, n: u32) -> Pen {
     match n {
-        9 => text::put(out, pen, b"post number above 7\n"),
-        10 => text::put(out, pen, b"channel above 31 at set-up\n"),
-        11 => text::put(out, pen, b"channel held by another post\n"),
-        12 => text::put(out, pen, b"a post limit outside its range\n"),
-        13 => text::put(out, pen, b"no signal of the message starts at that bit\n"),
-        14 => text::put(out, pen, b"post not set up\n"),
-        _ => text::put(out, pen, b"longer than the table's length\n"),
+        9 => text_pen::put(out, pen, b"post number above 7\n"),
+        10 => text_pen::put(out, pen, b"channel above 31 at set-up\n"),
+        11 => text_pen::put(out, pen, b"channel held by another post\n"),
+        12 => text_pen::put(out, pen, b"a post limit outside its range\n"),
+        13 => text_pen::put(out, pen, b"no signal of the message starts at that bit\n"),
+        14 => text_pen::put(out, pen, b"post not set up\n"),
+        _ => text_pen::put(out, pen, b"longer than the table's length\n"),
     }
 }
 
 // Refusals 16 to 21, of a log.
 fn of_log(out: &mut [u8], pen: Pen, n: u32) -> Pen {
     match n {
-        16 => text::put(
+        16 => text_pen::put(
             out,
             pen,
             b"a number in the log that is not in its shortest form, or has more than five groups or 32 bits\n",
         ),
-        17 => text::put(out, pen, b"a channel above 31 in a log record\n"),
-        18 => text::put(
+        17 => text_pen::put(out, pen, b"a channel above 31 in a log record\n"),
+        18 => text_pen::put(
             out,
             pen,
             b"a standard identifier above 2,047 in a log record\n",
         ),
-        19 => text::put(
+        19 => text_pen::put(
             out,
             pen,
             b"an extended identifier above 29 bits in a log record\n",
         ),
-        20 => text::put(
+        20 => text_pen::put(
             out,
             pen,
             b"a length above 9 in a log record, or more than 8 payload bytes to be logged\n",
         ),
-        _ => text::put(
+        _ => text_pen::put(
             out,
             pen,
             b"a tick's length, 9, with an identifier part other than 0\n",
@@ -172,12 +172,12 @@ fn put_next(out: &mut [u8], pen: Pen, rest: u32, k: u32) -> Pen {
     if rest / 2 == 0 {
         return p;
     }
-    text::put(out, p, b";")
+    text_pen::put(out, p, b";")
 }
 
 fn put_finding(out: &mut [u8], pen: Pen, k: u32) -> Pen {
     let p = answer::named(out, pen, b" F", k);
-    let q = text::put(out, p, b" ");
+    let q = text_pen::put(out, p, b" ");
     finding(out, q, k)
 }
 
@@ -221,10 +221,10 @@ fn put_start(out: &mut [u8], pen: Pen, start: u32) -> Pen {
     if start > 255 {
         return answer::unknown(out, pen);
     }
-    let p = text::put(out, pen, b"E R5 ");
+    let p = text_pen::put(out, pen, b"E R5 ");
     let q = no_label(out, p);
     let r = answer::named(out, q, b" (the signal that starts at bit ", start);
-    text::put(out, r, b")\n")
+    text_pen::put(out, r, b")\n")
 }
 
 fn explain_findings(out: &mut [u8], pen: Pen, n: Last) -> Pen {
@@ -239,9 +239,9 @@ fn put_all(out: &mut [u8], pen: Pen, n: u32) -> Pen {
         return answer::unknown(out, pen);
     }
     if n == 0 {
-        return text::put(out, pen, b"E none\n");
+        return text_pen::put(out, pen, b"E none\n");
     }
-    let p = text::put(out, pen, b"E");
+    let p = text_pen::put(out, pen, b"E");
     let q = put_findings(out, p, n);
     answer::line_end(out, q)
 }
@@ -266,6 +266,6 @@ fn put_refusal(out: &mut [u8], pen: Pen, n: u32) -> Pen {
         return answer::unknown(out, pen);
     }
     let p = answer::named(out, pen, b"E R", n);
-    let q = text::put(out, p, b" ");
+    let q = text_pen::put(out, p, b" ");
     refusal(out, q, n)
 }

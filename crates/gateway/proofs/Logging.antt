@@ -8,15 +8,15 @@ use native.Mathlib.Omega.{arith}
 use lib.Dec.{leb}
 use lib.ListN.{length, drop}
 use Rattle.pages.specs.declared.Refusal.the-variants.{ShortBuffer}
-use Rattle.log.specs.declared.Found.{Found}
-use Rattle.log.specs.declared.Found.the-variants as found
-use Rattle.log.specs.declared.Logged.{Logged}
-use Rattle.log.specs.declared.Logged.the-variants.{Bytes, Refused}
-use Rattle.log.specs.Record.{Rec, tick, frame, partOf, recordBytes, Loggable, longestRecord}
-use Rattle.log.specs.Writing.{writtenOf, stored, bufferAfter}
-use Rattle.log.proofs.Numbers.{size-le, size-one}
-use Rattle.log.proofs.Stores.{tick-length, frame-length}
-use Rattle.log.proofs.Writings.{Timed, written-loggable}
+use Rattle.log_records.specs.declared.Found.{Found}
+use Rattle.log_records.specs.declared.Found.the-variants as found
+use Rattle.log_write.specs.declared.Logged.{Logged}
+use Rattle.log_write.specs.declared.Logged.the-variants.{Bytes, Refused}
+use Rattle.log_records.specs.Record.{Rec, tick, frame, partOf, recordBytes, Loggable, longestRecord}
+use Rattle.log_write.specs.Writing.{writtenOf, stored, bufferAfter}
+use Rattle.log_numbers.proofs.Numbers.{size-le, size-one}
+use Rattle.log_write.proofs.Stores.{tick-length, frame-length}
+use Rattle.log_write.proofs.Writings.{Timed, written-loggable}
 use Rattle.gateway.specs.Words.{refusalWord}
 use Rattle.gateway.specs.Night.{Short, loggedWord, entryCount, entryNumbers, foundWord, entryLeft}
 

@@ -5,12 +5,12 @@ use mathlib.Core.List.{List, [], _∷_, _++_}
 use lib.Dec.{leb}
 use lib.ListN.{length, drop}
 use Rattle.pages.specs.declared.Refusal.the-variants.{ShortBuffer}
-use Rattle.log.specs.declared.Entry.{Entry}
-use Rattle.log.specs.declared.Found.{Found}
-use Rattle.log.specs.declared.Found.the-variants as found
-use Rattle.log.specs.declared.Logged.{Logged}
-use Rattle.log.specs.declared.Logged.the-variants as logged
-use Rattle.log.specs.Record.{longestRecord}
+use Rattle.log_records.specs.declared.Entry.{Entry}
+use Rattle.log_records.specs.declared.Found.{Found}
+use Rattle.log_records.specs.declared.Found.the-variants as found
+use Rattle.log_write.specs.declared.Logged.{Logged}
+use Rattle.log_write.specs.declared.Logged.the-variants as logged
+use Rattle.log_records.specs.Record.{longestRecord}
 use Rattle.gateway.specs.Words.{refusalWord}
 
 -- ---- writing a record: the number of its bytes, or the refusal

@@ -3,15 +3,15 @@ ghost use mathlib.Core.Path.{_≡_};
 ghost use mathlib.Core.List.{_++_};
 ghost use Prim.Native.Nat.{_≤_};
 ghost use lib.ListN.{length, drop};
-ghost use Rattle.log.specs.Record.{tick, frame};
-ghost use Rattle.log.specs.Reading.{foundAt};
-ghost use Rattle.log.specs.Writing.{writtenOf, bufferAfter};
+ghost use Rattle.log_records.specs.Record.{tick, frame};
+ghost use Rattle.log_records.specs.Reading.{foundAt};
+ghost use Rattle.log_write.specs.Writing.{writtenOf, bufferAfter};
 ghost use Rattle.gateway.specs.Night.{loggedWord, Short, entryCount, entryNumbers, foundWord, entryLeft};
 use crate::look::flag;
 use crate::refusal_word;
-use log::Entry;
-use log::Found;
-use log::Logged;
+use log_records::Entry;
+use log_records::Found;
+use log_write::Logged;
 use pages::Refusal;
 
 // ---- writing
@@ -39,7 +39,7 @@ pub extern "C" fn rokemaipu_log_frame(
         ⌜ (r ≡ loggedWord (writtenOf (frame time channel extended id (now (payload .entry))) (now (out .entry))))
         × (now (out .exit) ≡ bufferAfter (frame time channel extended id (now (payload .entry))) (now (out .entry))) ⌝ }
 {
-    let w = log::write_frame(time, channel, id, extended, payload, out);
+    let w = log_write::write_frame(time, channel, id, extended, payload, out);
     logged_word(w)
 }
 
@@ -48,7 +48,7 @@ pub extern "C" fn rokemaipu_log_tick(time: u32, channel: u32, out: &mut [u8]) ->
     ensures { λ r.
         ⌜ (r ≡ loggedWord (writtenOf (tick time channel) (now (out .entry)))) × (now (out .exit) ≡ bufferAfter (tick time channel) (now (out .entry))) ⌝ }
 {
-    let w = log::write_tick(time, channel, out);
+    let w = log_write::write_tick(time, channel, out);
     logged_word(w)
 }
 
@@ -87,7 +87,7 @@ pub extern "C" fn rokemaipu_log_record(s: &[u8], at: usize, numbers: &mut [u64])
         ⌜ (r ≡ foundWord (foundAt (now (s .entry)) at) (length (now (numbers .entry))))
         × (now (numbers .exit) ≡ entryLeft (foundAt (now (s .entry)) at) (now (numbers .entry))) ⌝ }
 {
-    let f = log::record_at(s, at);
+    let f = log_read::record_at(s, at);
     match f {
         Found::Record(e) => {
             if numbers.len() < 8 {

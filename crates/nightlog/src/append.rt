@@ -8,7 +8,7 @@ use crate::night::fresh;
 use crate::night::stored;
 use crate::pieces;
 use crate::say;
-use notation::script;
+use notation_read::script;
 use std::num::wrapping_add_u64;
 
 // desk.md: "a line over 65,535 bytes"

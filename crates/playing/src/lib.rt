@@ -3,64 +3,25 @@
 ghost use mathlib.Core.Path.{_≡_};
 ghost use Prim.Native.Nat.{_≤_};
 ghost use lib.ListN.{length};
-ghost use Rattle.log.specs.Reading.{recOf, foundAt};
+ghost use Rattle.log_records.specs.Reading.{recOf, foundAt};
 ghost use Rattle.watch.specs.Table.{setUpOf};
-ghost use Rattle.playing.specs.Lines.{lineRoom};
-ghost use Rattle.playing.specs.Fed.{fedWith};
-ghost use Rattle.playing.specs.Step.{fresh, preparedBy, setUpIn, lineCall, onFound, nextBy, bufferBy, nextLine, bufferAfter, Within};
-
-mod line; // line.rt: a record's line
-
-use log::Entry;
-use log::Found;
-use pages::Refusal;
+ghost use Rattle.playing_line.specs.Lines.{lineRoom, lineOf, laid};
+ghost use Rattle.playing_nights.specs.Fed.{fedWith};
+ghost use Rattle.playing_nights.specs.Step.{fresh, preparedBy, setUpIn, lineCall, onFound, nextBy, bufferBy, nextLine, bufferAfter, Within};
+use log_records::Entry;
+use log_records::Found;
+use playing_nights::Course;
+use playing_nights::Next;
+use playing_nights::Played;
+use playing_nights::Prepared;
+use playing_nights::Preparing;
+use playing_nights::Replay;
 use post::PlainLimits;
 use std::num::wrapping_add_u64;
+use watch::Answer;
 use watch::Fed;
 use watch::Setting;
 use watch::Table;
-
-// What a replay stands at: its set-ups may still come; records were fed; or a set-up was refused, which ended it.
-pub enum Course {
-    SetUps,
-    Records,
-    Refused(Refusal),
-}
-
-// The count is that of the records fed so far.
-pub struct Replay {
-    pub table: Table,
-    pub count: u64,
-    pub course: Course,
-}
-
-// A set-up after the first record is late: nothing changes.
-pub enum Preparing {
-    Done,
-    Refused(Refusal),
-    Late,
-}
-
-pub struct Prepared {
-    pub replay: Replay,
-    pub answer: Preparing,
-}
-
-// What a call answers: a line of so many bytes, and the byte where the next record begins; the log's end; a cut piece, by its byte; a malformed
-// record, by its refusal and its byte; the refusal of the set-up that ended the replay; or 8, the buffer being too short for a line.
-pub enum Played {
-    Line { bytes: usize, next: usize },
-    End,
-    Cut(usize),
-    Bad(Refusal, usize),
-    SetUp(Refusal),
-    Short,
-}
-
-pub struct Next {
-    pub replay: Replay,
-    pub answer: Played,
-}
 
 // 02: "a line buffer under 40 bytes gets 8 first".
 pub const LINE: usize = 40;
@@ -140,8 +101,17 @@ fn fed(t: Table, log: &[u8], e: Entry) -> Fed
         time,
         id,
         extended,
-        log::payload(log, start, length),
+        log_read::payload(log, start, length),
     )
+}
+
+// The line goes to the front of a buffer that has room for every line; the answer is how many bytes it has.
+fn write(out: &mut [u8], count: u64, post: u32, a: Answer) -> usize
+    requires { ⌜ (lineRoom ≤ length (now out)) × (post ≤ 9) ⌝ }
+    ensures { λ r. ⌜ (r ≡ length (lineOf count post a)) × (now (out .exit) ≡ laid (lineOf count post a) (now (out .entry))) ⌝ }
+{
+    let p = playing_line::words(out, count, post, a);
+    p.at
 }
 
 // A record is fed to the table, and its line is written.
@@ -158,7 +128,7 @@ fn told(r: Replay, log: &[u8], e: Entry, line: &mut [u8]) -> Next
     let f = fed(r.table, log, e);
     let table = f.table;
     let answer = f.answer;
-    let bytes = line::write(line, count, post, answer);
+    let bytes = write(line, count, post, answer);
     Next {
         replay: Replay {
             table,
@@ -175,7 +145,7 @@ fn read_on(r: Replay, log: &[u8], at: usize, line: &mut [u8]) -> Next
         ⌜ (x ≡ nextBy r (onFound r (now (log .entry)) (foundAt (now (log .entry)) at)))
         × (now (line .exit) ≡ bufferBy (now (line .entry)) (onFound r (now (log .entry)) (foundAt (now (log .entry)) at))) ⌝ }
 {
-    match log::record_at(log, at) {
+    match log_read::record_at(log, at) {
         Found::Record(e) => told(r, log, e, line),
         Found::End => Next {
             replay: r,

@@ -3,9 +3,9 @@ use crate::paper;
 use crate::tally;
 use crate::tally::Tally;
 use pages::Refusal;
-use playing::Played;
-use playing::Replay;
-use text::Pen;
+use playing_nights::Played;
+use playing_nights::Replay;
+use text_pen::Pen;
 
 // What stands behind the records of a piece: Going while a record may follow.
 pub enum Behind {

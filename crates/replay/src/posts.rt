@@ -1,11 +1,11 @@
 // The set-ups of a file: the desk's `setup` lines, blank lines and comments.
 use crate::say;
-use notation::script;
-use notation::setup;
-use notation::setup::Asked;
+use notation_read::script;
+use notation_read::setup;
+use notation_read::setup::Asked;
 use pages::Refusal;
-use playing::Preparing;
-use playing::Replay;
+use playing_nights::Preparing;
+use playing_nights::Replay;
 use post::PlainLimits;
 use std::num::wrapping_add_u64;
 
@@ -31,7 +31,7 @@ fn stopped(p: Posts) -> Posts {
 }
 
 fn asked_in(s: &[u8]) -> Asked {
-    let e = text::word_end(s, 0);
+    let e = text_lines::word_end(s, 0);
     if e >= s.len() {
         return Asked::Bad;
     }
@@ -107,7 +107,7 @@ fn lines_in(name: &[u8], file: &[u8]) -> Posts {
     let mut p = fresh();
     let mut at = 0;
     while at < file.len() {
-        let e = text::part_end(file, at, b'\n');
+        let e = text_lines::part_end(file, at, b'\n');
         p = taken(p, name, &file[at..e]);
         if !p.ready {
             return p;

@@ -4,7 +4,7 @@ use mathlib.Core.List.{List}
 use Prim.Native.Nat.{ℕ}
 use Rattle.pages.specs.Judge.{judgeOf}
 use Rattle.watch.specs.Table.{arrivalOf, feedOf}
-use Rattle.playing.proofs.Entries.{fed-tick, fed-frame}
+use Rattle.playing_nights.proofs.Entries.{fed-tick, fed-frame}
 use borrow.Author.Needs.{needs}
 use Rattle.playing.proofs.fed.Statement.{statement}
 use Rattle.playing.proofs.fed.Tie as tie

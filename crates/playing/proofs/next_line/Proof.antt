@@ -1,6 +1,6 @@
 -- `playing::next_line` meets its contract: 8 first, then the course, then what stands at the byte.
 use mathlib.Core.Path.{refl}
-use Rattle.playing.proofs.Steps.{likewise, call-short, call-on}
+use Rattle.playing_nights.proofs.Steps.{likewise, call-short, call-on}
 use borrow.Author.Needs.{needs}
 use Rattle.playing.proofs.next_line.Statement.{statement}
 use Rattle.playing.proofs.next_line.Tie as tie

@@ -1,6 +1,6 @@
 -- `playing::set_up` meets its contract, by the course.
 use mathlib.Core.Path.{_∙_}
-use Rattle.playing.proofs.Steps.{set-up-on}
+use Rattle.playing_nights.proofs.Steps.{set-up-on}
 use borrow.Author.Needs.{needs}
 use Rattle.playing.proofs.set_up.Statement.{statement}
 use Rattle.playing.proofs.set_up.Tie as tie

@@ -1,5 +1,5 @@
 -- `playing::settle` meets its contract, by the watch's answer.
-use Rattle.playing.proofs.Steps.{settled-by}
+use Rattle.playing_nights.proofs.Steps.{settled-by}
 use borrow.Author.Needs.{needs}
 use Rattle.playing.proofs.settle.Statement.{statement}
 use Rattle.playing.proofs.settle.Tie as tie

@@ -1,7 +1,7 @@
 -- `playing::start` meets its contract, by what `watch::empty` ensures.
 use mathlib.Core.Path.{ap}
 use Rattle.watch.specs.declared.Table.{Table}
-use Rattle.playing.specs.declared.Course.the-variants.{SetUps}
+use Rattle.playing_nights.specs.declared.Course.the-variants.{SetUps}
 use borrow.Author.Needs.{needs}
 use Rattle.playing.proofs.start.Statement.{statement}
 use Rattle.playing.proofs.start.Tie as tie

@@ -1,5 +1,5 @@
 -- `playing::told` meets its contract: the record is fed, counted, and told by its line.
-use Rattle.playing.proofs.Steps.{line-told}
+use Rattle.playing_nights.proofs.Steps.{line-told}
 use borrow.Author.Needs.{needs}
 use Rattle.playing.proofs.told.Statement.{statement}
 use Rattle.playing.proofs.told.Tie as tie

@@ -9,8 +9,8 @@ use Prim.Native.Nat.{ℕ}
 use lib.Dec.{leb}
 use lib.ListN.{length, drop}
 use Rattle.pages.specs.declared.Refusal.the-variants.{ShortBuffer}
-use Rattle.log.specs.declared.Found.{Found}
-use Rattle.log.specs.Reading.{foundAt}
+use Rattle.log_records.specs.declared.Found.{Found}
+use Rattle.log_records.specs.Reading.{foundAt}
 use Rattle.gateway.specs.Words.{refusalWord}
 use Rattle.gateway.specs.Night.{entryCount, entryNumbers, foundWord, entryLeft}
 use Rattle.gateway.proofs.night.rokemaipu_log_record.Statement.{statement}

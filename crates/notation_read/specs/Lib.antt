@@ -1,0 +1,4 @@
+pub mod Fields
+pub mod Heard
+pub mod Setup
+pub mod Script

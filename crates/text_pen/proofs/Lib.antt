@@ -1,0 +1,4 @@
+pub mod Inks
+pub mod Written
+pub mod Hexed
+pub mod Laws
