@@ -13,8 +13,8 @@ mod screen; // screen.rt: the steps of the service screen
 mod step; // step.rt: a line and its answer
 mod paper; // paper.rt: the output buffer
 
+use notation_answers::answer;
 use notation_read::script;
-use notation_write::answer;
 use text_pen::Pen;
 use watch::Table;
 

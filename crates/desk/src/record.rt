@@ -4,7 +4,7 @@ use messages::Plug;
 use messages::Protocol;
 use messages::labels::plug_number;
 use messages::labels::protocol_number;
-use notation_write::answer::named;
+use notation_answers::answer::named;
 use post::Dated;
 use post::KINDS;
 use post::LastTime;

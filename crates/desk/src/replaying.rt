@@ -1,10 +1,10 @@
 // The step that replays a night log: replay. Its table is its own.
 use crate::logging;
 use crate::paper;
+use notation_answers::answer;
+use notation_endings::ending;
 use notation_read::setup;
 use notation_read::setup::Asked;
-use notation_write::answer;
-use notation_write::ending;
 use pages::Refusal;
 use playing_nights::Played;
 use playing_nights::Replay;
@@ -20,14 +20,14 @@ struct Ready {
 
 fn fresh() -> Ready {
     Ready {
-        replay: playing::start(),
+        replay: playing_setups::start(),
         well: true,
     }
 }
 
 fn ill() -> Ready {
     Ready {
-        replay: playing::start(),
+        replay: playing_setups::start(),
         well: false,
     }
 }
@@ -77,7 +77,7 @@ fn prepared(r: Ready, a: Asked) -> Ready {
                 silence,
                 sensor,
             };
-            let p = playing::set_up(r.replay, post, channel, limits);
+            let p = playing_setups::set_up(r.replay, post, channel, limits);
             let replay = p.replay;
             Ready { replay, well: true }
         }
@@ -169,7 +169,7 @@ fn called(c: Course, log: &[u8], line: &mut [u8], out: &mut [u8]) -> Course {
     let at = c.at;
     let p = c.pen;
     let pen = paper::half_full(p, out);
-    let n = playing::next_line(c.replay, log, at, line);
+    let n = playing_calls::next_line(c.replay, log, at, line);
     let replay = n.replay;
     let a = n.answer;
     let t = put_answer(a, line, out, pen);

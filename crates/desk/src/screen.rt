@@ -2,7 +2,7 @@
 // its place.
 use messages::fields::short;
 use messages::fields::word;
-use notation_write::answer;
+use notation_answers::answer;
 use service::Probe;
 use text_numbers::sign::Signed;
 use text_pen::Pen;

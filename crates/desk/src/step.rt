@@ -5,8 +5,8 @@ use crate::replaying;
 use crate::screen;
 use crate::watching;
 use crate::words;
+use notation_answers::answer;
 use notation_read::script;
-use notation_write::answer;
 use text_pen::Pen;
 use watch::Table;
 

@@ -1,7 +1,7 @@
 // Findings and refusals in words: 01's sentences, in short.
+use notation_answers::answer;
 use notation_read::fields;
 use notation_read::fields::Last;
-use notation_write::answer;
 use text_pen::Pen;
 
 // Findings 1 to 6, of the watch over a session.

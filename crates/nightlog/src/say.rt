@@ -66,7 +66,7 @@ pub fn no_record(line: u64, out: &mut [u8]) {
 
 pub fn refused(line: u64, number: u32, out: &mut [u8]) {
     let p = at_line(line, out);
-    let q = notation_write::answer::named(out, p, b": R", number);
+    let q = notation_answers::answer::named(out, p, b": R", number);
     ended(q, out);
 }
 

@@ -27,8 +27,8 @@ fn with_room(out: &[u8], pen: Pen) -> Pen {
 
 // `WORD CHANNEL TIME`
 fn put_stamp(out: &mut [u8], pen: Pen, word: &[u8], channel: u32, time: u32) -> Pen {
-    let p = notation_write::answer::named(out, pen, word, channel);
-    notation_write::answer::named(out, p, b" ", time)
+    let p = notation_answers::answer::named(out, pen, word, channel);
+    notation_answers::answer::named(out, p, b" ", time)
 }
 
 fn put_form(out: &mut [u8], pen: Pen, extended: bool) -> Pen {
@@ -43,7 +43,7 @@ fn put_frame(out: &mut [u8], pen: Pen, id: u32, extended: bool, bytes: &[u8]) ->
     let p = text_pen::put(out, pen, b" ");
     let q = text_pen::put_hexadecimal(out, p, id as u64);
     let r = put_form(out, q, extended);
-    notation_write::answer::bytes_end(out, r, bytes)
+    notation_answers::answer::bytes_end(out, r, bytes)
 }
 
 // A record of this log as its line.
@@ -51,7 +51,7 @@ pub fn record(s: &[u8], e: Entry, out: &mut [u8], pen: Pen) -> Pen {
     let p = with_room(out, pen);
     if e.tick {
         let q = put_stamp(out, p, b"tick ", e.channel, e.time);
-        return notation_write::answer::line_end(out, q);
+        return notation_answers::answer::line_end(out, q);
     }
     let q = put_stamp(out, p, b"frame ", e.channel, e.time);
     put_frame(
@@ -67,8 +67,8 @@ pub fn record(s: &[u8], e: Entry, out: &mut [u8], pen: Pen) -> Pen {
 pub fn put_ending(out: &mut [u8], pen: Pen, ending: Ending, at: u64) -> Pen {
     match ending {
         Ending::End => text_pen::put(out, pen, b"END"),
-        Ending::Cut => notation_write::ending::cut(out, pen, at),
-        Ending::Bad(why) => notation_write::ending::bad(out, pen, why, at),
+        Ending::Cut => notation_endings::ending::cut(out, pen, at),
+        Ending::Bad(why) => notation_endings::ending::bad(out, pen, why, at),
         Ending::Failed => pen,
     }
 }
@@ -118,7 +118,7 @@ fn put_count(out: &mut [u8], records: u64, ending: Ending, at: u64) -> Pen {
     let p = text_pen::put_decimal(out, Pen { at: 0, full: false }, records);
     let q = text_pen::put(out, p, b" records, ");
     let r = put_ending(out, q, ending, at);
-    notation_write::answer::line_end(out, r)
+    notation_answers::answer::line_end(out, r)
 }
 
 pub fn count(name: &[u8]) {

@@ -1,4 +1,4 @@
-// The desk's notation, read: for every program that takes it from a line. The fields of a line, and a frame's, a tick's and a set-up's line. Every public
+// Lines in the desk's notation, read: for every program that takes them. The fields of a line, and a frame's, a tick's and a set-up's line. Every public
 // function takes any input.
 pub mod fields; // fields.rt: fields of a line that stand together
 pub mod heard; // heard.rt: a frame and a tick of a line

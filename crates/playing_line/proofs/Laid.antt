@@ -7,7 +7,7 @@ use native.Mathlib.Omega.{arith}
 use lib.ListN.{length, drop}
 use Rattle.text_pen.specs.declared.Pen.{Pen}
 use Rattle.text_pen.proofs.Laws.{whole-text}
-use Rattle.notation_write.specs.Answers.{Wrote}
+use Rattle.notation_answers.specs.Answers.{Wrote}
 use Rattle.watch.specs.declared.Answer.{Answer}
 use Rattle.playing_line.specs.Lines.{lineWords, lineOf, laid, newPen}
 

@@ -11,7 +11,7 @@ use Rattle.pages.specs.Refusals.{numberOf, startOf}
 use Rattle.text_numbers.specs.Ascii.{space, dash}
 use Rattle.text_numbers.specs.Numbers.{numeral}
 use Rattle.text_pen.specs.Pens.{textOf}
-use Rattle.notation_write.specs.Answers.{lineFeed, capitalA, capitalR, namedWords, endWords}
+use Rattle.notation_answers.specs.Answers.{lineFeed, capitalA, capitalR, namedWords, endWords}
 use Rattle.watch.specs.declared.Answer.{Answer}
 use Rattle.watch.specs.declared.Answer.the-variants.{Findings, Refused}
 use Rattle.playing_line.specs.Lines.{lineRoom, unheld, postWords, refusedWords, answerWords, lineOf, InWords}

@@ -9,7 +9,7 @@ use Rattle.text_numbers.specs.Ascii.{space, dash}
 use Rattle.text_numbers.specs.Numbers.{numeral}
 use Rattle.text_pen.specs.Pens.{textOf}
 use Rattle.text_pen.specs.declared.Pen.{Pen}
-use Rattle.notation_write.specs.Answers.{capitalA, capitalR, namedWords, endWords}
+use Rattle.notation_answers.specs.Answers.{capitalA, capitalR, namedWords, endWords}
 use Rattle.watch.specs.declared.Answer.{Answer}
 use Rattle.watch.specs.declared.Answer.the-variants.{Findings, Refused}
 

@@ -1,5 +1,5 @@
 // What a replay of a night is (02, Req 05), without functions: one set-up and one call, whole nights, nights over pieces of a log, and the laws that hold them
-// to the records fed singly and to 01's rules. Whoever checks a replay against 02 reads this crate; `playing` answers by it.
+// to the records fed singly and to 01's rules. Whoever checks a replay against 02 reads this crate; playing_setups and playing_calls answer by it.
 use pages::Refusal;
 use watch::Table;
 

@@ -100,7 +100,7 @@ pub fn played(
     let mut c = start;
     let mut turns = piece.len();
     while turns > 0 {
-        let n = playing::next_line(r, piece, c.at, line);
+        let n = playing_calls::next_line(r, piece, c.at, line);
         r = n.replay;
         let answer = n.answer;
         c = answered(c, answer, line, out);

@@ -18,7 +18,7 @@ pub struct Posts {
 
 fn fresh() -> Posts {
     Posts {
-        replay: playing::start(),
+        replay: playing_setups::start(),
         line: 0,
         ready: true,
     }
@@ -54,7 +54,7 @@ fn refused(p: Posts, name: &[u8], why: Refusal) -> Posts {
 // No set-up here is late: the records come after the file.
 fn prepared(p: Posts, name: &[u8], post: u32, channel: u32, limits: PlainLimits) -> Posts {
     let line = p.line;
-    let r = playing::set_up(p.replay, post, channel, limits);
+    let r = playing_setups::set_up(p.replay, post, channel, limits);
     let replay = r.replay;
     let answer = r.answer;
     let q = Posts {

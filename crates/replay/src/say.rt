@@ -60,8 +60,8 @@ pub fn refused(name: &[u8], line: u64, why: Refusal) {
     let mut out = io::large_buffer();
     let p = at_line(name, line, &mut out);
     let q = text_pen::put(&mut out, p, b"the set-up is refused\n");
-    let r = notation_write::ending::set_up(&mut out, q, why);
-    let t = notation_write::answer::line_end(&mut out, r);
+    let r = notation_endings::ending::set_up(&mut out, q, why);
+    let t = notation_answers::answer::line_end(&mut out, r);
     written(t.at, &out);
 }
 

@@ -10,8 +10,8 @@ fn put_ending(out: &mut [u8], pen: Pen, behind: Behind, at: u64) -> Pen {
     match behind {
         Behind::Going => pen,
         Behind::End => text_pen::put(out, pen, b"END"),
-        Behind::Cut => notation_write::ending::cut(out, pen, at),
-        Behind::Bad(why) => notation_write::ending::bad(out, pen, why, at),
+        Behind::Cut => notation_endings::ending::cut(out, pen, at),
+        Behind::Bad(why) => notation_endings::ending::bad(out, pen, why, at),
         Behind::Failed => pen,
     }
 }
@@ -33,7 +33,7 @@ fn put_number(out: &mut [u8], pen: Pen, name: &[u8], k: u32, n: u64) -> Pen {
     if n == 0 {
         return pen;
     }
-    let p = notation_write::answer::named(out, pen, name, k);
+    let p = notation_answers::answer::named(out, pen, name, k);
     let q = text_pen::put(out, p, b": ");
     put_counted(out, q, n, b"\n")
 }
@@ -62,7 +62,7 @@ pub fn say(w: Night) {
     let records = w.replay.count;
     let mut out = io::large_buffer();
     let p = put_ending(&mut out, Pen { at: 0, full: false }, behind, at);
-    let q = notation_write::answer::line_end(&mut out, p);
+    let q = notation_answers::answer::line_end(&mut out, p);
     let r = put_tally(&mut out, q, records, w.tally);
     say::written(r.at, &out);
 }

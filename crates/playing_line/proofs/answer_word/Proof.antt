@@ -1,6 +1,6 @@
 -- `playing_line::answer_word` meets its contract, case by case; what the program holds has 32 bits.
 use mathlib.Core.Path.{sym, ap, ap₂, subst, _∙_}
-use Rattle.notation_write.proofs.Ink.{like}
+use Rattle.notation_answers.proofs.Ink.{like}
 use Rattle.playing_line.specs.Lines.{refusedWords, answerWords, InWords}
 use borrow.Author.Needs.{needs}
 use Rattle.playing_line.proofs.answer_word.Statement.{statement}

@@ -1,7 +1,7 @@
 -- `playing_line::head` meets its contract: the count, and then the post.
 use mathlib.Core.List.{[], _∷_}
 use Rattle.text_numbers.specs.Numbers.{numeral}
-use Rattle.notation_write.proofs.Ink.{one, then}
+use Rattle.notation_answers.proofs.Ink.{one, then}
 use Rattle.playing_line.specs.Lines.{postWords, newPen}
 use borrow.Author.Needs.{needs}
 use Rattle.playing_line.proofs.head.Statement.{statement}

@@ -1,6 +1,6 @@
 -- `playing_line::post_word` meets its contract: a dash, or the number.
 use mathlib.Core.Path.{sym, ap}
-use Rattle.notation_write.proofs.Ink.{one, like}
+use Rattle.notation_answers.proofs.Ink.{one, like}
 use Rattle.playing_line.specs.Lines.{postWords}
 use borrow.Author.Needs.{needs}
 use Rattle.playing_line.proofs.post_word.Statement.{statement}

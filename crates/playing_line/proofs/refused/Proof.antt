@@ -5,8 +5,8 @@ use mathlib.Core.List.{List, [], _∷_, _++_, append-nil}
 use Prim.Native.Nat.{ℕ}
 use borrow.Author.Tests.{eq-eqb, ne-eqb}
 use Rattle.text_numbers.specs.Ascii.{space}
-use Rattle.notation_write.specs.Answers.{capitalR, namedWords}
-use Rattle.notation_write.proofs.Ink.{like, then}
+use Rattle.notation_answers.specs.Answers.{capitalR, namedWords}
+use Rattle.notation_answers.proofs.Ink.{like, then}
 use Rattle.playing_line.specs.Lines.{refusedWords}
 use borrow.Author.Needs.{needs}
 use Rattle.playing_line.proofs.refused.Statement.{statement}

@@ -4,8 +4,8 @@ use mathlib.Core.Bool.{Bool}
 use mathlib.Core.List.{List, [], _∷_, _++_}
 use Prim.Native.Nat.{ℕ}
 use Rattle.text_numbers.specs.Numbers.{numeral}
-use Rattle.notation_write.specs.Answers.{endWords}
-use Rattle.notation_write.proofs.Ink.{then, like}
+use Rattle.notation_answers.specs.Answers.{endWords}
+use Rattle.notation_answers.proofs.Ink.{then, like}
 use Rattle.playing_line.specs.Lines.{postWords, answerWords, newPen}
 use borrow.Author.Needs.{needs}
 use Rattle.playing_line.proofs.words.Statement.{statement}
