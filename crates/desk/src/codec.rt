@@ -203,11 +203,11 @@ fn put_written(out: &mut [u8], pen: Pen, w: Written, buf: &[u8]) -> Pen {
 // `A ID LEN`
 fn put_head(out: &mut [u8], pen: Pen, id: u32, len: usize) -> Pen {
     let p = text_pen::put(out, pen, b"A ");
-    let q = text_pen::put_hexadecimal(out, p, id as u64);
+    let q = text_written::put_hexadecimal(out, p, id as u64);
     put_length(out, q, len)
 }
 
 fn put_length(out: &mut [u8], pen: Pen, len: usize) -> Pen {
     let p = text_pen::put(out, pen, b" ");
-    text_pen::put_decimal(out, p, len as u64)
+    text_written::put_decimal(out, p, len as u64)
 }

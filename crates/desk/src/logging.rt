@@ -141,7 +141,7 @@ fn put_logged(out: &mut [u8], pen: Pen, w: Logged, buf: &[u8]) -> Pen {
     match w {
         Logged::Bytes(n) => {
             let p = text_pen::put(out, pen, b"A ");
-            let q = text_pen::put_decimal(out, p, n as u64);
+            let q = text_written::put_decimal(out, p, n as u64);
             answer::bytes_end(out, q, buf)
         }
         Logged::Refused(w) => answer::refusal_bytes(out, pen, w, buf),
@@ -209,7 +209,7 @@ fn put_records(bytes: &[u8], records: usize, out: &mut [u8], pen: Pen) -> Pen {
 
 fn put_count(out: &mut [u8], pen: Pen, records: usize) -> Pen {
     let p = text_pen::put(out, pen, b"L ");
-    text_pen::put_decimal(out, p, records as u64)
+    text_written::put_decimal(out, p, records as u64)
 }
 
 struct Put {
@@ -241,7 +241,7 @@ fn put_entry(bytes: &[u8], e: Entry, out: &mut [u8], pen: Pen) -> Pen {
     let q = put_identifier(out, p, e.id, e.extended);
     let start = e.start;
     let length = e.length;
-    text_pen::put_hex(out, q, log_read::payload(bytes, start, length))
+    text_written::put_hex(out, q, log_read::payload(bytes, start, length))
 }
 
 fn put_heard(out: &mut [u8], pen: Pen, name: &[u8], time: u32, channel: u32) -> Pen {
@@ -251,7 +251,7 @@ fn put_heard(out: &mut [u8], pen: Pen, name: &[u8], time: u32, channel: u32) -> 
 
 fn put_identifier(out: &mut [u8], pen: Pen, id: u32, extended: bool) -> Pen {
     let p = text_pen::put(out, pen, b",");
-    let q = text_pen::put_hexadecimal(out, p, id as u64);
+    let q = text_written::put_hexadecimal(out, p, id as u64);
     if extended {
         return text_pen::put(out, q, b",x,");
     }

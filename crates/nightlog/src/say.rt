@@ -16,7 +16,7 @@ pub fn about(name: &[u8], out: &mut [u8]) -> Pen {
 // `nightlog: line N`
 fn at_line(line: u64, out: &mut [u8]) -> Pen {
     let p = text_pen::put(out, Pen { at: 0, full: false }, b"nightlog: line ");
-    text_pen::put_decimal(out, p, line)
+    text_written::put_decimal(out, p, line)
 }
 
 fn written(at: usize, out: &[u8]) {
@@ -48,7 +48,7 @@ pub fn fail(name: &[u8], doing: &[u8], out: &mut [u8]) {
 pub fn fail_line(name: &[u8], line: u64, out: &mut [u8]) {
     let p = named(name, out);
     let q = text_pen::put(out, p, b": writing line ");
-    let r = text_pen::put_decimal(out, q, line);
+    let r = text_written::put_decimal(out, q, line);
     failed(r.at, out);
 }
 
@@ -72,21 +72,21 @@ pub fn refused(line: u64, number: u32, out: &mut [u8]) {
 
 fn put_left(left: u64, pen: Pen, out: &mut [u8]) -> Pen {
     let p = text_pen::put(out, pen, b", ");
-    let q = text_pen::put_decimal(out, p, left);
+    let q = text_written::put_decimal(out, p, left);
     text_pen::put(out, q, b" bytes of a piece left over")
 }
 
 pub fn cut_back(name: &[u8], at: u64, left: u64, out: &mut [u8]) {
     let p = about(name, out);
     let q = text_pen::put(out, p, b"cut back to byte ");
-    let r = text_pen::put_decimal(out, q, at);
+    let r = text_written::put_decimal(out, q, at);
     let t = put_left(left, r, out);
     ended(t, out);
 }
 
 pub fn appended(name: &[u8], records: u64, out: &mut [u8]) {
     let p = about(name, out);
-    let q = text_pen::put_decimal(out, p, records);
+    let q = text_written::put_decimal(out, p, records);
     let r = text_pen::put(out, q, b" records appended");
     ended(r, out);
 }

@@ -41,7 +41,7 @@ fn put_form(out: &mut [u8], pen: Pen, extended: bool) -> Pen {
 // ` ID x|s HEX`
 fn put_frame(out: &mut [u8], pen: Pen, id: u32, extended: bool, bytes: &[u8]) -> Pen {
     let p = text_pen::put(out, pen, b" ");
-    let q = text_pen::put_hexadecimal(out, p, id as u64);
+    let q = text_written::put_hexadecimal(out, p, id as u64);
     let r = put_form(out, q, extended);
     notation_answers::answer::bytes_end(out, r, bytes)
 }
@@ -115,7 +115,7 @@ pub fn lines(name: &[u8]) {
 
 // `N records, ENDING`
 fn put_count(out: &mut [u8], records: u64, ending: Ending, at: u64) -> Pen {
-    let p = text_pen::put_decimal(out, Pen { at: 0, full: false }, records);
+    let p = text_written::put_decimal(out, Pen { at: 0, full: false }, records);
     let q = text_pen::put(out, p, b" records, ");
     let r = put_ending(out, q, ending, at);
     notation_answers::answer::line_end(out, r)

@@ -9,7 +9,8 @@ use Rattle.pages.specs.declared.Refusal.{Refusal}
 use Rattle.pages.specs.Refusals.{numberOf, startOf}
 use Rattle.text_numbers.specs.Ascii.{space}
 use Rattle.text_numbers.specs.Numbers.{numeral}
-use Rattle.text_pen.specs.Pens.{movedBy, inkedBy, hexWords}
+use Rattle.text_pen.specs.Pens.{movedBy, inkedBy}
+use Rattle.text_written.specs.Words.{hexWords}
 use Rattle.text_pen.specs.declared.Pen.{Pen}
 
 -- the pen p over the buffer out put the words ws: it is r then, and the buffer is after

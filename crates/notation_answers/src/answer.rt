@@ -22,7 +22,7 @@ pub fn named(out: &mut [u8], pen: Pen, name: &[u8], n: u32) -> Pen
     ensures { λ r. ⌜ Wrote (now (out .entry)) pen (namedWords (now (name .entry)) n) r (now (out .exit)) ⌝ }
 {
     let p = text_pen::put(out, pen, name);
-    text_pen::put_decimal(out, p, n as u64)
+    text_written::put_decimal(out, p, n as u64)
 }
 
 fn numbered(out: &mut [u8], pen: Pen, name: &[u8], n: u32) -> Pen
@@ -90,7 +90,7 @@ pub fn bytes_end(out: &mut [u8], pen: Pen, bytes: &[u8]) -> Pen
     ensures { λ r. ⌜ Wrote (now (out .entry)) pen (bytesWords (now (bytes .entry))) r (now (out .exit)) ⌝ }
 {
     let p = text_pen::put(out, pen, b" ");
-    let q = text_pen::put_hex(out, p, bytes);
+    let q = text_written::put_hex(out, p, bytes);
     line_end(out, q)
 }
 

@@ -10,7 +10,7 @@ pub fn cut(out: &mut [u8], pen: Pen, at: u64) -> Pen
     ensures { λ r. ⌜ Wrote (now (out .entry)) pen (cutWords at) r (now (out .exit)) ⌝ }
 {
     let p = text_pen::put(out, pen, b"CUT@");
-    text_pen::put_decimal(out, p, at)
+    text_written::put_decimal(out, p, at)
 }
 
 // A malformed record begins at this byte.
@@ -19,7 +19,7 @@ pub fn bad(out: &mut [u8], pen: Pen, why: Refusal, at: u64) -> Pen
 {
     let p = answer::named(out, pen, b"BAD R", pages::refusal_number(why));
     let q = text_pen::put(out, p, b"@");
-    text_pen::put_decimal(out, q, at)
+    text_written::put_decimal(out, q, at)
 }
 
 pub fn set_up(out: &mut [u8], pen: Pen, why: Refusal) -> Pen

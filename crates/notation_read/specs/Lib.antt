@@ -1,4 +1,3 @@
 pub mod Fields
 pub mod Heard
-pub mod Setup
 pub mod Script

@@ -52,7 +52,7 @@ fn head(out: &mut [u8], count: u64, post: u32, dash: bool) -> Pen
     ensures { λ r. ⌜ Wrote (now (out .entry)) newPen ((numeral 10 count ∷ []) ++ postWords post dash) r (now (out .exit)) ⌝ }
 {
     let pen = Pen { at: 0, full: false };
-    let p = text_pen::put_decimal(out, pen, count);
+    let p = text_written::put_decimal(out, pen, count);
     post_word(out, p, post, dash)
 }
 

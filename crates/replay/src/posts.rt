@@ -1,8 +1,8 @@
 // The set-ups of a file: the desk's `setup` lines, blank lines and comments.
 use crate::say;
 use notation_read::script;
-use notation_read::setup;
-use notation_read::setup::Asked;
+use notation_setup::setup;
+use notation_setup::setup::Asked;
 use pages::Refusal;
 use playing_nights::Preparing;
 use playing_nights::Replay;

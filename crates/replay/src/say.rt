@@ -12,7 +12,7 @@ fn named(name: &[u8], out: &mut [u8]) -> Pen {
 fn at_line(name: &[u8], line: u64, out: &mut [u8]) -> Pen {
     let p = named(name, out);
     let q = text_pen::put(out, p, b": line ");
-    let r = text_pen::put_decimal(out, q, line);
+    let r = text_written::put_decimal(out, q, line);
     text_pen::put(out, r, b": ")
 }
 
@@ -69,9 +69,9 @@ pub fn refused(name: &[u8], line: u64, why: Refusal) {
 pub fn progress(records: u64, at: u64) {
     let mut out = io::buffer();
     let p = text_pen::put(&mut out, Pen { at: 0, full: false }, b"\rreplay: ");
-    let q = text_pen::put_decimal(&mut out, p, records);
+    let q = text_written::put_decimal(&mut out, p, records);
     let r = text_pen::put(&mut out, q, b" records, byte ");
-    let t = text_pen::put_decimal(&mut out, r, at);
+    let t = text_written::put_decimal(&mut out, r, at);
     written(t.at, &out);
 }
 

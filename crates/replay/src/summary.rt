@@ -17,7 +17,7 @@ fn put_ending(out: &mut [u8], pen: Pen, behind: Behind, at: u64) -> Pen {
 }
 
 fn put_counted(out: &mut [u8], pen: Pen, n: u64, words: &[u8]) -> Pen {
-    let p = text_pen::put_decimal(out, pen, n);
+    let p = text_written::put_decimal(out, pen, n);
     text_pen::put(out, p, words)
 }
 

@@ -1,4 +1,3 @@
 pub mod Inks
 pub mod Written
-pub mod Hexed
 pub mod Laws

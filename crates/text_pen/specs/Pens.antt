@@ -1,12 +1,9 @@
 -- A pen over a lent buffer: its place, and whether something did not fit.
-use Prim.Native.Nat.{ℕ, suc, _+_, _/_, _%_}
+use Prim.Native.Nat.{ℕ, _+_}
 use mathlib.Core.Bool.{Bool, true, false, cond, not, _&&_}
-use mathlib.Core.List.{List, [], _∷_, _++_, map}
+use mathlib.Core.List.{List, [], _∷_, _++_}
 use lib.Dec.{leb}
-use lib.IntN.{ℤ, pos, negsuc}
 use lib.ListN.{length, take, drop}
-use Rattle.text_numbers.specs.Ascii.{dash}
-use Rattle.text_numbers.specs.Numbers.{glyphOf, numeral}
 use Rattle.text_pen.specs.declared.Pen.{Pen}
 
 -- n bytes more fit a buffer of room bytes
@@ -35,16 +32,3 @@ inkedBy out p (w ∷ ws) = inkedBy (inked out p w) (moved (length out) p (length
 unfoldable pub textOf : List (List ℕ) → List ℕ
 textOf [] = []
 textOf (w ∷ ws) = w ++ textOf ws
-
--- desk.md: "decimal whole number, `-` sign if negative"
-unfoldable pub signedWords : ℤ → List (List ℕ)
-signedWords (pos n) = numeral 10 n ∷ []
-signedWords (negsuc n) = (dash ∷ []) ∷ numeral 10 (suc n) ∷ []
-
-abbrev pub twoDigits : ℕ → List ℕ
-twoDigits x = glyphOf (x / 16) ∷ glyphOf (x % 16) ∷ []
-
--- desk.md: "bytes as two lower-case hexadecimal digits each; `-` when empty"
-unfoldable pub hexWords : List ℕ → List (List ℕ)
-hexWords [] = (dash ∷ []) ∷ []
-hexWords (x ∷ xs) = twoDigits x ∷ map twoDigits xs

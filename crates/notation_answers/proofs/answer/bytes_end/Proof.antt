@@ -1,7 +1,7 @@
 -- `notation_answers::answer::bytes_end` meets its contract: a space, the bytes and the line's end.
 use mathlib.Core.List.{[], _∷_, _++_}
 use Rattle.text_numbers.specs.Ascii.{space}
-use Rattle.text_pen.specs.Pens.{hexWords}
+use Rattle.text_written.specs.Words.{hexWords}
 use Rattle.notation_answers.specs.Answers.{endWords}
 use Rattle.notation_answers.proofs.Ink.{one, then}
 use borrow.Author.Needs.{needs}

@@ -1,11 +1,11 @@
--- `notation_read::setup::take_sensor` meets its contract: past the line's end it is 0, and else the line ends with it.
+-- `notation_setup::setup::take_sensor` meets its contract: past the line's end it is 0, and else the line ends with it.
 use mathlib.Core.Path.{_∙_}
 use lib.ListN.{length}
 use borrow.Author.Needs.{needs}
 use borrow.Author.Tests.{le-leb, lt-leb}
-use Rattle.notation_read.specs.Setup.{sensorOf}
-use Rattle.notation_read.proofs.setup.take_sensor.Statement.{statement}
-use Rattle.notation_read.proofs.setup.take_sensor.Tie as tie
+use Rattle.notation_setup.specs.Setup.{sensorOf}
+use Rattle.notation_setup.proofs.setup.take_sensor.Statement.{statement}
+use Rattle.notation_setup.proofs.setup.take_sensor.Tie as tie
 
 returns : tie.Need-returns
 unfolding sensorOf

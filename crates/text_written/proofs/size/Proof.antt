@@ -1,4 +1,4 @@
--- `text_pen::size` meets its contract. Assumes nothing.
+-- `text_written::size` meets its contract. Assumes nothing.
 use mathlib.Core.Path.{_≡_, sym, ap, _∙_}
 use Prim.Native.Nat.{ℕ, suc, _+_, _-_, _^_, _<_}
 use native.Mathlib.Omega.{arith}
@@ -8,8 +8,8 @@ use mir.Val.{toZ, ofZ}
 use mir.Facts.{toZ-ofZ}
 use borrow.Author.Needs.{needs}
 use Rattle.text_numbers.proofs.Signs.{below, not-below, back, cast-fits}
-use Rattle.text_pen.proofs.size.Statement.{statement}
-use Rattle.text_pen.proofs.size.Tie as tie
+use Rattle.text_written.proofs.size.Statement.{statement}
+use Rattle.text_written.proofs.size.Tie as tie
 
 turned : (c : tie.Then1) → (n : ℕ) × (c .before .args .v ≡ negsuc n) × (toZ w64 ((2 ^ 64 - 1) - ofZ w64 (c .before .args .v)) ≡ pos n) × (n < 2 ^ 63)
 turned c =

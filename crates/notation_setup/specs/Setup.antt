@@ -7,13 +7,13 @@ use lib.ListN.{length}
 use Rattle.text_lines.specs.Lines.{fieldOf}
 use Rattle.text_lines.specs.declared.Field.{Field}
 use Rattle.text_lines.specs.declared.Field.the-variants.{Bad, Is}
 use Rattle.notation_read.specs.Fields.{lastOf}
 use Rattle.notation_read.specs.declared.fields.Last.{Last}
 use Rattle.notation_read.specs.declared.fields.Last.the-variants.{Bad as NoLast, Is as IsLast}
-use Rattle.notation_read.specs.declared.setup.Limits.{Limits}
-use Rattle.notation_read.specs.declared.setup.Limits.the-variants.{Bad as NoLimits, Is as IsLimits}
-use Rattle.notation_read.specs.declared.setup.Asked.{Asked}
-use Rattle.notation_read.specs.declared.setup.Asked.the-variants.{Bad as NoSetup, Setup}
+use Rattle.notation_setup.specs.declared.setup.Limits.{Limits}
+use Rattle.notation_setup.specs.declared.setup.Limits.the-variants.{Bad as NoLimits, Is as IsLimits}
+use Rattle.notation_setup.specs.declared.setup.Asked.{Asked}
+use Rattle.notation_setup.specs.declared.setup.Asked.the-variants.{Bad as NoSetup, Setup}
 
 -- the line may end before it
 unfoldable pub sensorOf : List ℕ → ℕ → Last

@@ -1,4 +1,4 @@
--- `text_pen::put_signed` meets its contract. Assumes nothing.
+-- `text_written::put_signed` meets its contract. Assumes nothing.
 use mathlib.Core.Path.{_≡_, ap, ap₂, _∙_}
 use mathlib.Core.List.{List}
 use Prim.Native.Nat.{ℕ, suc}
@@ -7,12 +7,12 @@ use lib.ListN.{length}
 use borrow.Author.Needs.{needs}
 use mir.Facts.{toZ-ofZ}
 use Rattle.text_numbers.specs.Numbers.{numeral}
 use Rattle.text_pen.specs.Pens.{moved, inked}
 use Rattle.text_pen.specs.declared.Pen.{Pen}
 use Rattle.text_numbers.proofs.Signs.{below, not-below}
-use Rattle.text_pen.proofs.Inks.{with-dash, without}
-use Rattle.text_pen.proofs.put_signed.Statement.{statement}
-use Rattle.text_pen.proofs.put_signed.Tie as tie
+use Rattle.text_written.proofs.Turns.{with-dash, without}
+use Rattle.text_written.proofs.put_signed.Statement.{statement}
+use Rattle.text_written.proofs.put_signed.Tie as tie
 
 slice-aggregate-put : tie.Need-slice-aggregate-put
 slice-aggregate-put c = search needs

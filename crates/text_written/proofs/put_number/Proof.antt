@@ -1,4 +1,4 @@
--- `text_pen::put_number` meets its contract. The invariant: the numeral is that of rest, with what stands in t from at on after it. Assumes nothing.
+-- `text_written::put_number` meets its contract. The invariant: the numeral is that of rest, with what stands in t from at on after it. Assumes nothing.
 use mathlib.Core.Path.{_≡_, refl, sym, ap, ap₂, _∙_}
 use mathlib.Core.List.{List, _∷_, _++_, append-nil}
 use Prim.Native.Nat.{ℕ, suc, _-_, _/_, _%_, _^_, _≤_, _<_}
@@ -8,10 +8,10 @@ use lib.ListN.{length, take, drop, set, length-set, length-drop}
 use lib.Seq.{append-snoc, take-all}
 use borrow.Author.Needs.{needs}
 use Rattle.text_numbers.specs.Numbers.{glyphOf, numeral}
 use Rattle.text_pen.specs.Pens.{moved, inked}
 use Rattle.text_numbers.proofs.Numerals.{one-digit, more-digits, shorter, in-front}
-use Rattle.text_pen.proofs.put_number.Statement.{statement}
-use Rattle.text_pen.proofs.put_number.Tie as tie
+use Rattle.text_written.proofs.put_number.Statement.{statement}
+use Rattle.text_written.proofs.put_number.Tie as tie
 
 abbrev Inv-loop : tie.InvT-loop
 Inv-loop out pen n base t₀ at₀ rest₀ t at rest =

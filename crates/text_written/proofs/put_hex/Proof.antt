@@ -1,15 +1,16 @@
--- `text_pen::put_hex` meets its contract. The invariant: what is still to be put is the digits of the bytes from i on. Assumes nothing.
+-- `text_written::put_hex` meets its contract. The invariant: what is still to be put is the digits of the bytes from i on. Assumes nothing.
 use mathlib.Core.Path.{_≡_, refl, sym, ap, ap₂, _∙_}
 use mathlib.Core.List.{List, [], _∷_, map}
 use Prim.Native.Nat.{ℕ, _+_, _≤_, _-_}
 use native.Mathlib.Omega.{arith}
 use lib.ListN.{length, getD, drop}
 use borrow.Author.Needs.{needs}
-use Rattle.text_pen.specs.Pens.{moved, inked, movedBy, inkedBy, twoDigits, hexWords}
+use Rattle.text_pen.specs.Pens.{moved, inked, movedBy, inkedBy}
+use Rattle.text_written.specs.Words.{twoDigits, hexWords}
 use Rattle.text_pen.specs.declared.Pen.{Pen}
-use Rattle.text_pen.proofs.Inks.{moved-past, moved-next, inked-past, inked-next, no-bytes, some-bytes}
-use Rattle.text_pen.proofs.put_hex.Statement.{statement}
-use Rattle.text_pen.proofs.put_hex.Tie as tie
+use Rattle.text_written.proofs.Turns.{moved-past, moved-next, inked-past, inked-next, no-bytes, some-bytes}
+use Rattle.text_written.proofs.put_hex.Statement.{statement}
+use Rattle.text_written.proofs.put_hex.Tie as tie
 
 abbrev Inv-loop : tie.InvT-loop
 Inv-loop out₀ src p₀ i₀ out p i =

@@ -1,10 +1,10 @@
--- `text_pen::glyph` meets its contract. Assumes nothing.
+-- `text_written::glyph` meets its contract. Assumes nothing.
 use mathlib.Core.Path.{sym}
 use native.Mathlib.Omega.{arith}
 use borrow.Author.Needs.{needs}
 use Rattle.text_numbers.proofs.Digits.{low-glyph, high-glyph}
-use Rattle.text_pen.proofs.glyph.Statement.{statement}
-use Rattle.text_pen.proofs.glyph.Tie as tie
+use Rattle.text_written.proofs.glyph.Statement.{statement}
+use Rattle.text_written.proofs.glyph.Tie as tie
 
 add-result : tie.Need-add-result
 add-result c = search needs

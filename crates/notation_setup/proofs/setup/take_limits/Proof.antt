@@ -1,11 +1,11 @@
--- `notation_read::setup::take_limits` meets its contract: each field is told by what its function ensures.
+-- `notation_setup::setup::take_limits` meets its contract: each field is told by what its function ensures.
 use mathlib.Core.Path.{_≡_, sym, ap, _∙_}
 use borrow.Author.Needs.{needs}
 use Rattle.text_lines.specs.declared.Field.{Field}
-use Rattle.notation_read.specs.Setup.{withVoltage, withCharge, withDischarge, withSilence, withSensor, limitsOf}
+use Rattle.notation_setup.specs.Setup.{withVoltage, withCharge, withDischarge, withSilence, withSensor, limitsOf}
 use Rattle.notation_read.specs.declared.fields.Last.{Last}
-use Rattle.notation_read.proofs.setup.take_limits.Statement.{statement}
-use Rattle.notation_read.proofs.setup.take_limits.Tie as tie
+use Rattle.notation_setup.proofs.setup.take_limits.Statement.{statement}
+use Rattle.notation_setup.proofs.setup.take_limits.Tie as tie
 
 -- by the variant that each field was told as
 told1 : {b : Field} (c : tie.After-take-u32) → c .take-u32 .result ≡ b → withVoltage (c .before .before .args .s .now) b ≡ limitsOf (c .before .before .args .s .now) (c .before .before .args .at)

@@ -1,8 +1,8 @@
 // A post's set-up as a line tells it, by the fields behind the line's word.
 ghost use mathlib.Core.Path.{_≡_};
-ghost use Rattle.notation_read.specs.Setup.{sensorOf, limitsOf, setupOf};
-use crate::fields;
-use crate::fields::Last;
+ghost use Rattle.notation_setup.specs.Setup.{sensorOf, limitsOf, setupOf};
+use notation_read::fields;
+use notation_read::fields::Last;
 use text_lines::Field;
 
 // `VOLT CHG DIS W [SENSOR]`

@@ -1,11 +1,11 @@
--- `notation_read::setup::setup_line` meets its contract: each part is told by what its function ensures.
+-- `notation_setup::setup::setup_line` meets its contract: each part is told by what its function ensures.
 use mathlib.Core.Path.{_≡_, sym, ap, _∙_}
 use borrow.Author.Needs.{needs}
 use Rattle.text_lines.specs.declared.Field.{Field}
-use Rattle.notation_read.specs.Setup.{forPost, onChannel, withLimits, setupOf}
-use Rattle.notation_read.specs.declared.setup.Limits.{Limits}
-use Rattle.notation_read.proofs.setup.setup_line.Statement.{statement}
-use Rattle.notation_read.proofs.setup.setup_line.Tie as tie
+use Rattle.notation_setup.specs.Setup.{forPost, onChannel, withLimits, setupOf}
+use Rattle.notation_setup.specs.declared.setup.Limits.{Limits}
+use Rattle.notation_setup.proofs.setup.setup_line.Statement.{statement}
+use Rattle.notation_setup.proofs.setup.setup_line.Tie as tie
 
 -- by the variant that each field was told as
 told1 : {b : Field} (c : tie.After-take-u32) → c .take-u32 .result ≡ b → forPost (c .before .before .args .s .now) b ≡ setupOf (c .before .before .args .s .now) (c .before .before .args .at)

@@ -9,7 +9,8 @@ use borrow.Author.Tests.{lt-ltb}
 use Rattle.text_numbers.specs.Ascii.{dash}
 use Rattle.text_numbers.specs.Numbers.{digitOf, glyphOf, areDigits}
 use Rattle.text_bytes.specs.Hex.{isDash, bytesOf, haveRoom}
-use Rattle.text_pen.specs.Pens.{textOf, twoDigits, hexWords}
+use Rattle.text_pen.specs.Pens.{textOf}
+use Rattle.text_written.specs.Words.{twoDigits, hexWords}
 use Rattle.text_numbers.proofs.Digits.{digit-glyph}
 use Rattle.text_bytes.proofs.Pairs.{has-hex, has-dash, hex-is}
 
