@@ -1,7 +1,8 @@
 // A step on the table, by value or through the entry that changes a lent table in place: the answer word and the table are the same.
 ghost use mathlib.Core.Path.{_≡_};
-ghost use Rattle.gateway.specs.Lent.{setUpWord, releaseWord, frameWord, tickWord};
-use gateway::Lent;
+ghost use Rattle.lent_words.specs.Lent.{setUpWord, releaseWord};
+ghost use Rattle.lent_step.specs.Fed.{frameWord, tickWord};
+use lent_words::Lent;
 use watch::Table;
 
 pub fn set_up(
@@ -29,7 +30,7 @@ pub fn set_up(
             sensor,
         );
     }
-    gateway::settled(
+    lent_words::settled(
         t,
         post,
         channel,
@@ -47,7 +48,7 @@ pub fn release(lent: bool, t: Table, post: u32) -> Lent
     if lent {
         return gateway::lend_release(t, post);
     }
-    gateway::released(t, post)
+    lent_words::released(t, post)
 }
 
 pub fn frame(
@@ -69,7 +70,7 @@ pub fn frame(
     let a = r.answer;
     Lent {
         table: u,
-        answer: gateway::answer_word(a),
+        answer: lent_words::answer_word(a),
     }
 }
 
@@ -84,6 +85,6 @@ pub fn tick(lent: bool, t: Table, channel: u32, time: u32) -> Lent
     let a = r.answer;
     Lent {
         table: u,
-        answer: gateway::answer_word(a),
+        answer: lent_words::answer_word(a),
     }
 }

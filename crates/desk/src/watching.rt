@@ -2,7 +2,7 @@
 use crate::both;
 use crate::record;
 use crate::step::Line;
-use gateway::Lent;
+use lent_words::Lent;
 use notation::answer;
 use notation::fields;
 use notation::fields::Last;

@@ -38,15 +38,15 @@ use denote.Exit.{yes}
 use Rattle.watch.specs.declared.Table.{Table}
 use Rattle.watch.proofs.Table as T
 use Rattle.watch.proofs.Table.Laws as T′
-use Rattle.gateway.specs.declared.Lent.{Lent}
-use Rattle.gateway.proofs.Lent as F
-use Rattle.gateway.proofs.Lent.Laws as F′
-use Rattle.gateway.proofs.Answered.{taking, answer-val}
-use Rattle.gateway.proofs.Called.{beside, called}
+use Rattle.lent_words.specs.declared.Lent.{Lent}
+use Rattle.lent_words.proofs.Lent as F
+use Rattle.lent_words.proofs.Lent.Laws as F′
+use Rattle.lent_walks.proofs.Answered.{taking, answer-val}
+use Rattle.lent_walks.proofs.Called.{beside, called}
 use Rattle.gateway.proofs.Entry.{table-val, Wanted, Done, values, in-a-row, ended, Own}
-use Rattle.gateway.proofs.InPlace.{Of}
-use Rattle.gateway.proofs.Lender as Lend
-use Rattle.gateway.proofs.Params.{Param, slots, rows, mir-types, mirs-are, spells, telling, lawful, twice, stays, ends, fits, had, goes}
+use Rattle.lent_walks.proofs.InPlace.{Of}
+use Rattle.lent_walks.proofs.Lender as Lend
+use Rattle.lent_walks.proofs.Params.{Param, slots, rows, mir-types, mirs-are, spells, telling, lawful, twice, stays, ends, fits, had, goes}
 use Rattle.gateway.proofs.Thin.{whole}
 
 -- the answer, and the table that is left

@@ -17,11 +17,11 @@ use Rattle.watch.specs.Table.{postCount, putIn, noPost}
 use Rattle.watch.specs.declared.Table.{Table}
 use Rattle.watch.proofs.Table as T
 use Rattle.watch.proofs.Table.Laws as T′
-use Rattle.gateway.specs.declared.Stepped.{Stepped}
-use Rattle.gateway.proofs.Stepped as F
-use Rattle.gateway.proofs.Stepped.Laws as F′
-use Rattle.gateway.proofs.Answered.{Answered}
-use Rattle.gateway.proofs.Elem.{map-set, array-long, array-set, array-at}
+use Rattle.lent_step.specs.declared.Stepped.{Stepped}
+use Rattle.lent_step.proofs.Stepped as F
+use Rattle.lent_step.proofs.Stepped.Laws as F′
+use Rattle.lent_walks.proofs.Answered.{Answered}
+use Rattle.lent_walks.proofs.Elem.{map-set, array-long, array-set, array-at}
 use Rattle.gateway.proofs.Entry.{table-val}
 
 abbrev pub one : Answered

@@ -26,14 +26,14 @@ use denote.Triple.Spec.{Meets}
 use Rattle.watch.specs.declared.Table.{Table}
 use Rattle.watch.proofs.Table as T
 use Rattle.watch.proofs.Table.Laws as T′
-use Rattle.gateway.specs.declared.Lent.{Lent}
-use Rattle.gateway.proofs.Lent as F
-use Rattle.gateway.proofs.Lent.Laws as F′
-use Rattle.gateway.proofs.Answered.{Answered, Gives, Good, answer-val}
+use Rattle.lent_words.specs.declared.Lent.{Lent}
+use Rattle.lent_words.proofs.Lent as F
+use Rattle.lent_words.proofs.Lent.Laws as F′
+use Rattle.lent_walks.proofs.Answered.{Answered, Gives, Good, answer-val}
 use Rattle.gateway.proofs.Entry.{table-val, Wanted, values, in-a-row, signature, ended, Tok, Own, Held, Walk, Shown}
 use Rattle.gateway.proofs.Entry as Entry
-use Rattle.gateway.proofs.InPlace as In
-use Rattle.gateway.proofs.Params.{Param, rows, mir-types, mirs-are, lawful}
+use Rattle.lent_walks.proofs.InPlace as In
+use Rattle.lent_walks.proofs.Params.{Param, rows, mir-types, mirs-are, lawful}
 
 abbrev pub whole : Answered
 whole = record {

@@ -1,5 +1,5 @@
 -- `desk::both::frame` meets its contract either way: lent by what `lend_frame` ensures, by value by what `watch::frame` does.
-use Rattle.gateway.specs.Lent.{frameWord}
+use Rattle.lent_step.specs.Fed.{frameWord}
 use borrow.Author.Needs.{needs}
 use Rattle.desk.proofs.both.frame.Statement.{statement}
 use Rattle.desk.proofs.both.frame.Tie as tie

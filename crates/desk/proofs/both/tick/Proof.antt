@@ -1,5 +1,5 @@
 -- `desk::both::tick` meets its contract either way: lent by what `lend_tick` ensures, by value by what `watch::tick` does.
-use Rattle.gateway.specs.Lent.{tickWord}
+use Rattle.lent_step.specs.Fed.{tickWord}
 use borrow.Author.Needs.{needs}
 use Rattle.desk.proofs.both.tick.Statement.{statement}
 use Rattle.desk.proofs.both.tick.Tie as tie
