@@ -41,21 +41,12 @@ returns c =
     let a = c .before .before .before .before .args in
     ends (a .l) (a .kind) (a .time .now) (a .buf .now) false _ _ (not-true (a .l .known) (c .if1 .taken)) refl refl
 
-refusal-word-requires : tie.Need-refusal-word-requires
-refusal-word-requires c κs = search needs
-
 returns-2 : tie.Need-returns-2
 returns-2 c =
     let s = c .before .before in
     let a = s .before .before .before .before .args in
     let e = ends (a .l) (a .kind) (a .time .now) (a .buf .now) true false _ (not-false (a .l .known) (s .if1 .left)) (lt-leb _ _ (c .before .if2 .taken)) refl in
     (c .refusal-word .ensures ∙ e .0, e .1, e .2)
-
-length-of-requires : tie.Need-length-of-requires
-length-of-requires c κs = search needs
-
-refusal-word-requires-2 : tie.Need-refusal-word-requires-2
-refusal-word-requires-2 c κs = search needs
 
 returns-3 : tie.Need-returns-3
 returns-3 c =
@@ -66,25 +57,10 @@ returns-3 c =
     let e = ends (a .l) (a .kind) (a .time .now) (a .buf .now) true true false (not-false (a .l .known) (s .if1 .left)) (le-leb _ _ (r .if2 .left)) (lt-leb _ _ (rw (n .length-of .ensures) at (c .before .if3 .taken))) in
     (c .refusal-word2 .ensures ∙ e .0, e .1, e .2)
 
-slice-write-time : tie.Need-slice-write-time
-slice-write-time c = search needs
-
-is-big-requires : tie.Need-is-big-requires
-is-big-requires c κs = search needs
-
-store-requires : tie.Need-store-requires
-store-requires c κs = search needs
-
 cast-result : tie.Need-cast-result
 cast-result c =
     let n = c .before .before .before .before .before .before in
     record { fits = omega (arith, n .length-of .ensures, short-length (n .before .before .before .before .before .before .args .kind)) }
-
-same-length : tie.Need-same-length
-same-length c = search needs
-
-same-length-2 : tie.Need-same-length-2
-same-length-2 c = search needs
 
 returns-4 : tie.Need-returns-4
 returns-4 c =
@@ -110,15 +86,15 @@ hand-out-spec =
     tie.close
     (tie.spec
     returns
-    refusal-word-requires
+    (λ c κs. search needs)
     returns-2
-    length-of-requires
-    refusal-word-requires-2
+    (λ c κs. search needs)
+    (λ c κs. search needs)
     returns-3
-    slice-write-time
-    is-big-requires
-    store-requires
+    (λ c. search needs)
+    (λ c κs. search needs)
+    (λ c κs. search needs)
     cast-result
-    same-length
-    same-length-2
+    (λ c. search needs)
+    (λ c. search needs)
     returns-4)

@@ -11,23 +11,11 @@ use Rattle.lent_latest.proofs.ByCase.{handed-by, handed-kept}
 use Rattle.lent_latest.proofs.latest_of.Statement.{statement}
 use Rattle.lent_latest.proofs.latest_of.Tie as tie
 
-refusal-word-requires : tie.Need-refusal-word-requires
-refusal-word-requires c κs = search needs
-
 returns : tie.Need-returns
 returns c =
     let a = c .before .before .before .before .args in
     let e = handed-by (a .t1) (a .post) (a .kind) (a .time .now) (a .buf .now) (no-post (a .t1) (a .post) (omega arith)) in
     (c .refusal-word .ensures ∙ e .0, e .1, e .2)
-
-mul-p : tie.Need-mul-p
-mul-p c = search needs
-
-element-copy-out-p : tie.Need-element-copy-out-p
-element-copy-out-p c = search needs
-
-refusal-word-requires-2 : tie.Need-refusal-word-requires-2
-refusal-word-requires-2 c κs = search needs
 
 returns-2 : tie.Need-returns-2
 returns-2 c =
@@ -35,9 +23,6 @@ returns-2 c =
     let p = getD (a .t1 .posts) (a .post) noPost in
     let e = handed-by (a .t1) (a .post) (a .kind) (a .time .now) (a .buf .now) (not-set-up (a .t1) (a .post) (omega arith) (not-true (p .used) (c .before .if2 .taken))) in
     (c .refusal-word2 .ensures ∙ e .0, e .1, e .2)
-
-refusal-word-requires-3 : tie.Need-refusal-word-requires-3
-refusal-word-requires-3 c κs = search needs
 
 returns-3 : tie.Need-returns-3
 returns-3 c =
@@ -47,21 +32,6 @@ returns-3 c =
     let e = handed-by (a .t1) (a .post) (a .kind) (a .time .now) (a .buf .now) (set-up (a .t1) (a .post) (omega arith) (not-false (p .used) (s .if2 .left))) in
     let f = rw (le-ltb (a .kind) kindCount (omega arith)) at e in
     (c .refusal-word3 .ensures ∙ f .0, f .1, f .2)
-
-mul-l : tie.Need-mul-l
-mul-l c = search needs
-
-element-copy-out-l : tie.Need-element-copy-out-l
-element-copy-out-l c = search needs
-
-hand-out-requires : tie.Need-hand-out-requires
-hand-out-requires c κs = search needs
-
-same-length : tie.Need-same-length
-same-length c = search needs
-
-same-length-2 : tie.Need-same-length-2
-same-length-2 c = search needs
 
 returns-4 : tie.Need-returns-4
 returns-4 c =
@@ -75,17 +45,17 @@ pub latest-of-spec : {M : Type 1} → statement M
 latest-of-spec =
     tie.close
     (tie.spec
-    refusal-word-requires
+    (λ c κs. search needs)
     returns
-    mul-p
-    element-copy-out-p
-    refusal-word-requires-2
+    (λ c. search needs)
+    (λ c. search needs)
+    (λ c κs. search needs)
     returns-2
-    refusal-word-requires-3
+    (λ c κs. search needs)
     returns-3
-    mul-l
-    element-copy-out-l
-    hand-out-requires
-    same-length
-    same-length-2
+    (λ c. search needs)
+    (λ c. search needs)
+    (λ c κs. search needs)
+    (λ c. search needs)
+    (λ c. search needs)
     returns-4)

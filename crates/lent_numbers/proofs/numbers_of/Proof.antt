@@ -33,45 +33,6 @@ spelled p = go (p .heard) (p .session .opened) refl refl
     go false true e f = rw (e, f)
     go false false e f = rw (e, f)
 
-sensor-of-requires : tie.Need-sensor-of-requires
-sensor-of-requires c κs = search needs
-
-session-in-requires : tie.Need-session-in-requires
-session-in-requires c κs = search needs
-
-sensor-number-requires : tie.Need-sensor-number-requires
-sensor-number-requires c κs = search needs
-
-flag-requires : tie.Need-flag-requires
-flag-requires c κs = search needs
-
-where-set-requires : tie.Need-where-set-requires
-where-set-requires c κs = search needs
-
-flag-requires-2 : tie.Need-flag-requires-2
-flag-requires-2 c κs = search needs
-
-where-set-requires-2 : tie.Need-where-set-requires-2
-where-set-requires-2 c κs = search needs
-
-protocol-number-requires : tie.Need-protocol-number-requires
-protocol-number-requires c κs = search needs
-
-cast-where-set : tie.Need-cast-where-set
-cast-where-set c = search needs
-
-where-set-requires-3 : tie.Need-where-set-requires-3
-where-set-requires-3 c κs = search needs
-
-plug-number-requires : tie.Need-plug-number-requires
-plug-number-requires c κs = search needs
-
-cast-where-set-2 : tie.Need-cast-where-set-2
-cast-where-set-2 c = search needs
-
-where-set-requires-4 : tie.Need-where-set-requires-4
-where-set-requires-4 c κs = search needs
-
 returns : tie.Need-returns
 returns c =
     let plug = c .before in
@@ -99,17 +60,17 @@ pub numbers-of-spec : {M : Type 1} → statement M
 numbers-of-spec =
     tie.close
     (tie.spec
-    sensor-of-requires
-    session-in-requires
-    sensor-number-requires
-    flag-requires
-    where-set-requires
-    flag-requires-2
-    where-set-requires-2
-    protocol-number-requires
-    cast-where-set
-    where-set-requires-3
-    plug-number-requires
-    cast-where-set-2
-    where-set-requires-4
+    (λ c κs. search needs)
+    (λ c κs. search needs)
+    (λ c κs. search needs)
+    (λ c κs. search needs)
+    (λ c κs. search needs)
+    (λ c κs. search needs)
+    (λ c κs. search needs)
+    (λ c κs. search needs)
+    (λ c. search needs)
+    (λ c κs. search needs)
+    (λ c κs. search needs)
+    (λ c. search needs)
+    (λ c κs. search needs)
     returns)

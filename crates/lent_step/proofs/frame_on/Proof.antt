@@ -18,30 +18,6 @@ use Rattle.lent_step.proofs.refused.Reads as refused-reads
 use Rattle.pages.proofs.judge.Reads as judge-reads
 use Rattle.post.proofs.frame.Reads as frame-reads
 
-refused-requires : tie.Need-refused-requires
-refused-requires c κs = search needs
-
-judge-requires : tie.Need-judge-requires
-judge-requires c κs = search needs
-
-enum-known-j : tie.Need-enum-known-j
-enum-known-j c = search needs
-
-refusal-word-requires : tie.Need-refusal-word-requires
-refusal-word-requires c κs = search needs
-
-enum-known-j-2 : tie.Need-enum-known-j-2
-enum-known-j-2 c = search needs
-
-frame-requires : tie.Need-frame-requires
-frame-requires c κs = search needs
-
-mul-t20 : tie.Need-mul-t20
-mul-t20 c = search needs
-
-element-set-from-q : tie.Need-element-set-from-q
-element-set-from-q c = search needs
-
 returns : tie.Need-returns
 returns c =
     let told = c .before .before in
@@ -85,14 +61,14 @@ pub frame-on-spec : {M : Type 1} → statement M
 frame-on-spec =
     tie.close
     (tie.spec
-    refused-requires
-    judge-requires
-    enum-known-j
-    refusal-word-requires
-    enum-known-j-2
-    frame-requires
-    mul-t20
-    element-set-from-q
+    (λ c κs. search needs)
+    (λ c κs. search needs)
+    (λ c. search needs)
+    (λ c κs. search needs)
+    (λ c. search needs)
+    (λ c κs. search needs)
+    (λ c. search needs)
+    (λ c. search needs)
     returns
     returns-2
     returns-3

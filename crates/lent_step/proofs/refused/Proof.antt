@@ -5,28 +5,13 @@ use borrow.Author.Needs.{needs}
 use Rattle.lent_step.proofs.refused.Statement.{statement}
 use Rattle.lent_step.proofs.refused.Tie as tie
 
-refusal-word-requires : tie.Need-refusal-word-requires
-refusal-word-requires c κs = search needs
-
 returns : tie.Need-returns
 returns c = rw (lt-leb _ _ (c .before .if1 .taken), c .refusal-word .ensures)
-
-holds-channel-requires : tie.Need-holds-channel-requires
-holds-channel-requires c κs = search needs
-
-refusal-word-requires-2 : tie.Need-refusal-word-requires-2
-refusal-word-requires-2 c κs = search needs
 
 returns-2 : tie.Need-returns-2
 returns-2 c =
     let asked = c .before .before in
     rw (le-leb _ _ (asked .before .if1 .left), sym (asked .holds-channel .ensures) ∙ not-true _ (c .before .if2 .taken), c .refusal-word2 .ensures)
-
-is-early-requires : tie.Need-is-early-requires
-is-early-requires c κs = search needs
-
-refusal-word-requires-3 : tie.Need-refusal-word-requires-3
-refusal-word-requires-3 c κs = search needs
 
 returns-3 : tie.Need-returns-3
 returns-3 c =
@@ -53,12 +38,12 @@ pub refused-spec : {M : Type 1} → statement M
 refused-spec =
     tie.close
     (tie.spec
-    refusal-word-requires
+    (λ c κs. search needs)
     returns
-    holds-channel-requires
-    refusal-word-requires-2
+    (λ c κs. search needs)
+    (λ c κs. search needs)
     returns-2
-    is-early-requires
-    refusal-word-requires-3
+    (λ c κs. search needs)
+    (λ c κs. search needs)
     returns-3
     returns-4)

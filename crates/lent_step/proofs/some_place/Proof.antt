@@ -6,9 +6,6 @@ use Rattle.lent_step.specs.One.{somePlace}
 use Rattle.lent_step.proofs.some_place.Statement.{statement}
 use Rattle.lent_step.proofs.some_place.Tie as tie
 
-place-requires : tie.Need-place-requires
-place-requires c κs = search needs
-
 returns : tie.Need-returns
 unfolding somePlace
 returns c = (rw (← c .before .place .ensures .0, lt-ltb _ _ (c .if1 .taken)), c .if1 .taken)
@@ -18,4 +15,4 @@ unfolding somePlace
 returns-2 c = (rw (← c .before .place .ensures .0, le-ltb _ _ (c .if1 .left)), omega arith)
 
 pub some-place-spec : {M : Type 1} → statement M
-some-place-spec = tie.close (tie.spec place-requires returns returns-2)
+some-place-spec = tie.close (tie.spec (λ c κs. search needs) returns returns-2)

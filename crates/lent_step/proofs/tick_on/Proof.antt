@@ -6,12 +6,6 @@ use Rattle.lent_step.proofs.Hearing.{refused-on, taken-on}
 use Rattle.lent_step.proofs.tick_on.Statement.{statement}
 use Rattle.lent_step.proofs.tick_on.Tie as tie
 
-refused-requires : tie.Need-refused-requires
-refused-requires c κs = search needs
-
-tick-requires : tie.Need-tick-requires
-tick-requires c κs = search needs
-
 returns : tie.Need-returns
 unfolding tickStep agedTo
 returns c =
@@ -22,4 +16,4 @@ returns-2 : tie.Need-returns-2
 returns-2 c = refused-on _ _ _ _ Tick (c .before .refused .ensures) (c .if1 .left)
 
 pub tick-on-spec : {M : Type 1} → statement M
-tick-on-spec = tie.close (tie.spec refused-requires tick-requires returns returns-2)
+tick-on-spec = tie.close (tie.spec (λ c κs. search needs) (λ c κs. search needs) returns returns-2)

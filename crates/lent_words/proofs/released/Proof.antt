@@ -4,15 +4,9 @@ use Rattle.lent_words.specs.Lent.{releaseWord}
 use Rattle.lent_words.proofs.released.Statement.{statement}
 use Rattle.lent_words.proofs.released.Tie as tie
 
-release-requires : tie.Need-release-requires
-release-requires c κs = search needs
-
-setting-word-requires : tie.Need-setting-word-requires
-setting-word-requires c κs = search needs
-
 returns : tie.Need-returns
 unfolding releaseWord
 returns c = rw (← c .before .before .release .ensures .0, c .setting-word .ensures)
 
 pub released-spec : {M : Type 1} → statement M
-released-spec = tie.close (tie.spec release-requires setting-word-requires returns)
+released-spec = tie.close (tie.spec (λ c κs. search needs) (λ c κs. search needs) returns)

@@ -4,12 +4,9 @@ use Rattle.lent_words.specs.Lent.{startOf}
 use Rattle.lent_words.proofs.started.Statement.{statement}
 use Rattle.lent_words.proofs.started.Tie as tie
 
-empty-requires : tie.Need-empty-requires
-empty-requires c κs = search needs
-
 returns : tie.Need-returns
 unfolding startOf
 returns c = rw (c .empty .ensures .0)
 
 pub started-spec : {M : Type 1} → statement M
-started-spec = tie.close (tie.spec empty-requires returns)
+started-spec = tie.close (tie.spec (λ c κs. search needs) returns)

@@ -1,13 +1,12 @@
--- `plain_frames::load_raws` meets its contract. The invariant: the first j of raws stand in zs, and zeros behind them.
--- The measure is what is left of zs.
-use mathlib.Core.Path.{_≡_, refl, ap, _∙_}
-use mathlib.Core.List.{List, _++_, append-nil}
-use Prim.Native.Nat.{ℕ, _-_, _≤_}
+-- `plain_frames::load_raws` meets its contract: the numbers are stored one by one over zeros (`Stored.antt` of `plain_words`). The measure is what is left of them.
+use mathlib.Core.Path.{_∙_}
+use mathlib.Core.List.{List, append-nil}
+use Prim.Native.Nat.{_-_}
 use native.Mathlib.Omega.{arith}
 use lib.IntN.{ℤ, pos}
-use lib.ListN.{take, drop, replicate}
+use lib.ListN.{take, replicate}
 use Rattle.pages.specs.Raws.{signalCount}
-use Rattle.plain_words.proofs.Stored.{copied-more}
+use Rattle.plain_words.proofs.Stored.{Stored, stored-none, signed-more, stored-all}
 use Rattle.plain_frames.proofs.load_raws.Statement.{statement}
 use Rattle.plain_frames.proofs.load_raws.Tie as tie
 
@@ -15,59 +14,33 @@ abbrev zeros : List ℤ
 zeros = replicate signalCount (pos 0)
 
 abbrev Inv-loop : tie.InvT-loop
-Inv-loop raws zs₀ j₀ zs j = (j ≤ signalCount) × (zs ≡ take j raws ++ drop j zeros)
+Inv-loop raws zs₀ j₀ zs j = Stored signalCount raws zeros zs j
 
 abbrev μ-loop : tie.MeasureT-loop
 μ-loop raws zs₀ j₀ zs j = signalCount - j
 
-loop-holds : tie.Need-loop-holds Inv-loop μ-loop
-loop-holds c = (omega arith, refl)
-
-mul-zs : tie.Need-mul-zs Inv-loop μ-loop
-mul-zs c = omega arith
-
-shared-slice-copy-out-zs : tie.Need-shared-slice-copy-out-zs Inv-loop μ-loop
-shared-slice-copy-out-zs c = omega arith
-
-mul-zs-2 : tie.Need-mul-zs-2 Inv-loop μ-loop
-mul-zs-2 c = omega arith
-
-array-set-from-zs : tie.Need-array-set-from-zs Inv-loop μ-loop
-array-set-from-zs c = omega arith
-
-add-j : tie.Need-add-j Inv-loop μ-loop
-add-j c = omega arith
-
-loop-less : tie.Need-loop-less Inv-loop μ-loop
-loop-less c = omega arith
-
 loop-again : tie.Need-loop-again Inv-loop μ-loop
 loop-again c =
     let l = c .before .before .loop in
-    let raws = c .before .before .before .args .raws .now in (
-      omega arith,
-      copied-more zeros raws (l .j) (omega arith) (omega arith) (record { sfits = c .zs .given }) (l .inv .1),
-    )
+    let raws = c .before .before .before .args .raws .now in
+    signed-more signalCount raws zeros (l .j) (omega arith) (omega arith) (omega arith) (record { sfits = c .zs .given }) (l .inv)
 
 returns : tie.Need-returns Inv-loop μ-loop
 returns c =
     let l = c .before .loop in
     let raws = c .before .before .args .raws .now in
-    let all : l .j ≡ signalCount = omega arith in
-    l .inv .1 ∙ ap (λ (x : ℕ). take x raws ++ drop x zeros) all ∙ append-nil (take signalCount raws)
+    stored-all signalCount raws zeros (l .j) (omega arith) (l .inv) ∙ append-nil (take signalCount raws)
 
 pub load-raws-spec : {M : Type 1} → statement M
 load-raws-spec =
     tie.close
-    (tie.spec
-    Inv-loop
-    μ-loop
-    loop-holds
-    mul-zs
-    shared-slice-copy-out-zs
-    mul-zs-2
-    array-set-from-zs
-    add-j
-    loop-less
+    (tie.spec Inv-loop μ-loop
+    (λ c. stored-none signalCount (c .args .raws .now) zeros)
+    (λ c. omega arith)
+    (λ c. omega arith)
+    (λ c. omega arith)
+    (λ c. omega arith)
+    (λ c. omega arith)
+    (λ c. omega arith)
     loop-again
     returns)

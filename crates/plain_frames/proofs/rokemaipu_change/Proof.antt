@@ -36,27 +36,9 @@ answered c g =
     let a = start c .args in
     ends (a .id) (a .extended) (a .payload .now) (a .start) _ (a .raw) (c .change .ensures) (toZ-ofZ (start c .fits .raw)) g
 
-change-requires : tie.Need-change-requires
-change-requires c κs = search needs
-
-enum-told : tie.Need-enum-told
-enum-told c = search needs
-
-enum-known-j : tie.Need-enum-known-j
-enum-known-j c = search needs
-
-refusal-word-requires : tie.Need-refusal-word-requires
-refusal-word-requires c κs = search needs
-
-same-length : tie.Need-same-length
-same-length c = search needs
-
 returns : tie.Need-returns
 unfolding start
 returns c = answered (c .before .before .before .before) (c .enum-told .given .1)
-
-same-length-2 : tie.Need-same-length-2
-same-length-2 c = search needs
 
 returns-2 : tie.Need-returns-2
 unfolding start
@@ -69,11 +51,11 @@ pub rokemaipu-change-spec : {M : Type 1} → statement M
 rokemaipu-change-spec =
     tie.close
     (tie.spec
-    change-requires
-    enum-told
-    enum-known-j
-    refusal-word-requires
-    same-length
+    (λ c κs. search needs)
+    (λ c. search needs)
+    (λ c. search needs)
+    (λ c κs. search needs)
+    (λ c. search needs)
     returns
-    same-length-2
+    (λ c. search needs)
     returns-2)

@@ -26,15 +26,6 @@ judged : (m : ℕ) (x : Bool) (bs : List ℕ) (raws : List ℤ) (j : Judged) →
 unfolding readWord rawsAfter
 judged m x bs raws j e = (ap (λ (q : Judged). readAnswer q (length raws)) e, ap (λ (q : Judged). rawsLeft q raws) e)
 
-judge-requires : tie.Need-judge-requires
-judge-requires c κs = search needs
-
-enum-known-j : tie.Need-enum-known-j
-enum-known-j c = search needs
-
-refusal-word-requires : tie.Need-refusal-word-requires
-refusal-word-requires c κs = search needs
-
 start : (c : tie.After-j) → tie.Start
 start c = c .before .before .before .before
 
@@ -53,24 +44,6 @@ unfolding start
 returns c =
     let e = frame (c .before .before .before) false (lt-leb _ _ (c .before .if1 .taken)) in
     (c .refusal-word .ensures ∙ e .0, e .1)
-
-raws-of-requires : tie.Need-raws-of-requires
-raws-of-requires c κs = search needs
-
-store-raws-requires : tie.Need-store-raws-requires
-store-raws-requires c κs = search needs
-
-cast-result : tie.Need-cast-result
-cast-result c = search needs
-
-enum-known-j-2 : tie.Need-enum-known-j-2
-enum-known-j-2 c = search needs
-
-refusal-word-requires-2 : tie.Need-refusal-word-requires-2
-refusal-word-requires-2 c κs = search needs
-
-same-length : tie.Need-same-length
-same-length c = search needs
 
 returns-2 : tie.Need-returns-2
 unfolding start
@@ -94,15 +67,15 @@ pub rokemaipu-read-spec : {M : Type 1} → statement M
 rokemaipu-read-spec =
     tie.close
     (tie.spec
-    judge-requires
-    enum-known-j
-    refusal-word-requires
+    (λ c κs. search needs)
+    (λ c. search needs)
+    (λ c κs. search needs)
     returns
-    raws-of-requires
-    store-raws-requires
-    cast-result
-    enum-known-j-2
-    refusal-word-requires-2
-    same-length
+    (λ c κs. search needs)
+    (λ c κs. search needs)
+    (λ c. search needs)
+    (λ c. search needs)
+    (λ c κs. search needs)
+    (λ c. search needs)
     returns-2
     returns-3)

@@ -52,44 +52,17 @@ answered c h =
     let r = c .before .before in
     written (a .kind) (a .raws .now) (a .buf .now) (r .before .if1 .left) (r .load-raws .ensures) (c .write-raws .ensures) h
 
-refusal-word-requires : tie.Need-refusal-word-requires
-refusal-word-requires c κs = search needs
-
 returns : tie.Need-returns
 returns c =
     let a = c .before .before .before .args in
     let e = enough (a .kind) (a .raws .now) (a .buf .now) false (lt-leb _ _ (c .before .if1 .taken)) in
     (c .refusal-word .ensures ∙ e .0, e .1)
 
-load-raws-requires : tie.Need-load-raws-requires
-load-raws-requires c κs = search needs
-
-write-raws-requires : tie.Need-write-raws-requires
-write-raws-requires c κs = search needs
-
-enum-known-w : tie.Need-enum-known-w
-enum-known-w c = search needs
-
-cast-result : tie.Need-cast-result
-cast-result c = search needs
-
-enum-known-w-2 : tie.Need-enum-known-w-2
-enum-known-w-2 c = search needs
-
-refusal-word-requires-2 : tie.Need-refusal-word-requires-2
-refusal-word-requires-2 c κs = search needs
-
-same-length : tie.Need-same-length
-same-length c = search needs
-
 returns-2 : tie.Need-returns-2
 unfolding start
 returns-2 c =
     let w = c .before in
     answered (w .before .before .before .before) (w .w .given .1)
-
-same-length-2 : tie.Need-same-length-2
-same-length-2 c = search needs
 
 returns-3 : tie.Need-returns-3
 unfolding start
@@ -102,15 +75,15 @@ pub rokemaipu-write-spec : {M : Type 1} → statement M
 rokemaipu-write-spec =
     tie.close
     (tie.spec
-    refusal-word-requires
+    (λ c κs. search needs)
     returns
-    load-raws-requires
-    write-raws-requires
-    enum-known-w
-    cast-result
-    enum-known-w-2
-    refusal-word-requires-2
-    same-length
+    (λ c κs. search needs)
+    (λ c κs. search needs)
+    (λ c. search needs)
+    (λ c. search needs)
+    (λ c. search needs)
+    (λ c κs. search needs)
+    (λ c. search needs)
     returns-2
-    same-length-2
+    (λ c. search needs)
     returns-3)

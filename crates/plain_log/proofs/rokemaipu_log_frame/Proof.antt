@@ -6,17 +6,11 @@ use Rattle.plain_log.proofs.Logging.{written-short}
 use Rattle.plain_log.proofs.rokemaipu_log_frame.Statement.{statement}
 use Rattle.plain_log.proofs.rokemaipu_log_frame.Tie as tie
 
-write-frame-requires : tie.Need-write-frame-requires
-write-frame-requires c κs = search needs
-
 logged-word-requires : tie.Need-logged-word-requires
 logged-word-requires c κs =
     let w = c .before .before in
     let a = w .before .before .before .before .args in
     rw (w .write-frame .ensures .0) (written-short (frame (a .time) (a .channel) (a .extended) (a .id) (a .payload .now)) (a .out .now) (omega arith))
-
-same-length : tie.Need-same-length
-same-length c = search needs
 
 returns : tie.Need-returns
 returns c =
@@ -25,4 +19,4 @@ returns c =
 
 pub rokemaipu-log-frame-spec : {M : Type 1} → statement M
 rokemaipu-log-frame-spec =
-    tie.close (tie.spec write-frame-requires logged-word-requires same-length returns)
+    tie.close (tie.spec (λ c κs. search needs) logged-word-requires (λ c. search needs) returns)

@@ -24,12 +24,6 @@ Ends s at ns r after = (r ≡ foundWord (foundAt s at) (length ns)) × (after �
 answered : {f g : Found} (s : List ℕ) (at : ℕ) (ns : List ℕ) → f ≡ foundAt s at → f ≡ g → Ends s at ns (foundWord g (length ns)) (entryLeft g ns)
 answered s at ns e h = (ap (λ (q : Found). foundWord q (length ns)) (sym h ∙ e), ap (λ (q : Found). entryLeft q ns) (sym h ∙ e))
 
-record-at-requires : tie.Need-record-at-requires
-record-at-requires c κs = search needs
-
-enum-known-f : tie.Need-enum-known-f
-enum-known-f c = search needs
-
 start : (c : tie.After-f) → tie.Start
 start c = c .before .before .before .before .before
 
@@ -43,35 +37,11 @@ whole c b e =
     let a = start c .args in
     rw e at (answered (a .s .now) (a .at) (a .numbers .now) (c .before .before .record-at .ensures) (c .f .given .1))
 
-refusal-word-requires : tie.Need-refusal-word-requires
-refusal-word-requires c κs = search needs
-
 returns : tie.Need-returns
 unfolding start
 returns c =
     let e = whole (c .before .before .before) false (lt-leb _ _ (c .before .if1 .taken)) in
     (c .refusal-word .ensures ∙ e .0, e .1)
-
-entry-numbers-requires : tie.Need-entry-numbers-requires
-entry-numbers-requires c κs = search needs
-
-store-entry-requires : tie.Need-store-entry-requires
-store-entry-requires c κs = search needs
-
-enum-told : tie.Need-enum-told
-enum-told c = search needs
-
-enum-told-2 : tie.Need-enum-told-2
-enum-told-2 c = search needs
-
-enum-known-f-2 : tie.Need-enum-known-f-2
-enum-known-f-2 c = search needs
-
-refusal-word-requires-2 : tie.Need-refusal-word-requires-2
-refusal-word-requires-2 c κs = search needs
-
-same-length : tie.Need-same-length
-same-length c = search needs
 
 returns-2 : tie.Need-returns-2
 unfolding start
@@ -107,17 +77,17 @@ pub rokemaipu-log-record-spec : {M : Type 1} → statement M
 rokemaipu-log-record-spec =
     tie.close
     (tie.spec
-    record-at-requires
-    enum-known-f
-    refusal-word-requires
+    (λ c κs. search needs)
+    (λ c. search needs)
+    (λ c κs. search needs)
     returns
-    entry-numbers-requires
-    store-entry-requires
-    enum-told
-    enum-told-2
-    enum-known-f-2
-    refusal-word-requires-2
-    same-length
+    (λ c κs. search needs)
+    (λ c κs. search needs)
+    (λ c. search needs)
+    (λ c. search needs)
+    (λ c. search needs)
+    (λ c κs. search needs)
+    (λ c. search needs)
     returns-2
     returns-3
     returns-4

@@ -5,15 +5,6 @@ use Rattle.plain_screen.proofs.Screens.{by-case}
 use Rattle.plain_screen.proofs.rokemaipu_probe_degrees.Statement.{statement}
 use Rattle.plain_screen.proofs.rokemaipu_probe_degrees.Tie as tie
 
-probe-of-requires : tie.Need-probe-of-requires
-probe-of-requires c κs = search needs
-
-enum-told : tie.Need-enum-told
-enum-told c = search needs
-
-enum-known-p : tie.Need-enum-known-p
-enum-known-p c = search needs
-
 returns : tie.Need-returns
 returns c =
     let p = c .before .before in
@@ -26,4 +17,4 @@ returns-2 c =
 
 pub rokemaipu-probe-degrees-spec : {M : Type 1} → statement M
 rokemaipu-probe-degrees-spec =
-    tie.close (tie.spec probe-of-requires enum-told enum-known-p returns returns-2)
+    tie.close (tie.spec (λ c κs. search needs) (λ c. search needs) (λ c. search needs) returns returns-2)

@@ -5,15 +5,6 @@ use Rattle.plain_screen.proofs.Screens.{by-case}
 use Rattle.plain_screen.proofs.rokemaipu_probe_used.Statement.{statement}
 use Rattle.plain_screen.proofs.rokemaipu_probe_used.Tie as tie
 
-probe-of-requires : tie.Need-probe-of-requires
-probe-of-requires c κs = search needs
-
-enum-told : tie.Need-enum-told
-enum-told c = search needs
-
-enum-told-2 : tie.Need-enum-told-2
-enum-told-2 c = search needs
-
 returns : tie.Need-returns
 returns c =
     let p = c .before .before in
@@ -26,4 +17,4 @@ returns-2 c =
 
 pub rokemaipu-probe-used-spec : {M : Type 1} → statement M
 rokemaipu-probe-used-spec =
-    tie.close (tie.spec probe-of-requires enum-told enum-told-2 returns returns-2)
+    tie.close (tie.spec (λ c κs. search needs) (λ c. search needs) (λ c. search needs) returns returns-2)

@@ -38,12 +38,6 @@ start-small LogExtended vs h = omega arith
 start-small LogLength vs h = omega arith
 start-small LogTick vs h = omega arith
 
-refusal-number-requires : tie.Need-refusal-number-requires
-refusal-number-requires c κs = search needs
-
-refusal-start-requires : tie.Need-refusal-start-requires
-refusal-start-requires c κs = search needs
-
 add-result : tie.Need-add-result
 add-result c = omega (arith, number-small (c .before .args .w))
 
@@ -58,8 +52,5 @@ add-result-2 c =
     let s = n .before in
     omega (arith, n .refusal-number .ensures, number-small (s .args .w), c .refusal-start .ensures, start-small (s .args .w) _ (s .good .0))
 
-returns : tie.Need-returns
-returns c = search needs
-
 pub refusal-word-spec : {M : Type 1} → statement M
-refusal-word-spec = tie.close (tie.spec refusal-number-requires add-result refusal-start-requires mul-result add-result-2 returns)
+refusal-word-spec = tie.close (tie.spec (λ c κs. search needs) add-result (λ c κs. search needs) mul-result add-result-2 (λ c. search needs))
