@@ -1,5 +1,5 @@
--- What the latest frame of a kind promises: a refusal leaves the lent memory as it was, behind the places named nothing changes, the frame handed out is the one whose message the record
--- shows, and its bytes are those that came.
+-- What the latest frame of a kind promises: its bytes are those that came, a refusal leaves the lent memory as it was, behind the places named nothing changes, and the frame handed out is
+-- the one whose message the record shows.
 use Prim.Native.Nat.{ℕ, _<_, _≤_}
 use native.Mathlib.Omega.{arith}
 use mathlib.Core.Path.{_≡_, refl, sym, ap, _∙_}
@@ -33,6 +33,13 @@ use Rattle.watch.specs.Table.{postCount, noPost, lookUpOf}
 use Rattle.plain_words.specs.Words.{refusalWord}
 use Rattle.lent_latest.specs.Latest.{keptOf, hasRoom, latestAnswer, hands, handsOut, timeLeft, bytesLeft, latestWord, timeAfter, frameAfter}
 use Rattle.lent_look.proofs.Asked.{set-up}
+
+-- a frame that was read to what the post keeps is handed out byte for byte
+pub as-it-came : (t : Table) (i k : ℕ) (times buf : List ℕ) (id : ℕ) (extended : Bool) (bs : List ℕ) (time n : ℕ)
+    → judgeOf id extended bs ≡ Frame k n → Bytes bs → keptOf t i k ≡ slotAt time n → handsOut t i k times buf ≡ true
+    → (timeAfter t i k times buf ≡ time ∷ drop 1 times) × (frameAfter t i k times buf ≡ bs ++ drop (length bs) buf)
+unfolding timeAfter frameAfter
+as-it-came t i k times buf id extended bs time n e b s h = (rw (h, s), rw (h, s, raws-back id extended bs k n e b .bytes, ← accepted id extended bs k n e .sized))
 
 -- a refusal hands nothing out
 not-handed : (s : Setting) (k : ℕ) (l : Slot) (places room : ℕ) → 65536 ≤ latestAnswer s k l places room → hands s k l places room ≡ false
@@ -75,10 +82,3 @@ unfolding recordIn
 latest-shown t i k l u m =
     rw (set-up t i l u)
     (ap (λ (x : Latest). x .message) (count-at (λ j. record { message = datedIn j (latestIn (getD (t .posts) i noPost) j) }) (record { message = dated.Nothing }) k 0 kindCount k (omega arith) m))
-
--- a frame that was read to what the post keeps is handed out byte for byte
-pub as-it-came : (t : Table) (i k : ℕ) (times buf : List ℕ) (id : ℕ) (extended : Bool) (bs : List ℕ) (time n : ℕ)
-    → judgeOf id extended bs ≡ Frame k n → Bytes bs → keptOf t i k ≡ slotAt time n → handsOut t i k times buf ≡ true
-    → (timeAfter t i k times buf ≡ time ∷ drop 1 times) × (frameAfter t i k times buf ≡ bs ++ drop (length bs) buf)
-unfolding timeAfter frameAfter
-as-it-came t i k times buf id extended bs time n e b s h = (rw (h, s), rw (h, s, raws-back id extended bs k n e b .bytes, ← accepted id extended bs k n e .sized))
