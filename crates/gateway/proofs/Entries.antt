@@ -3,7 +3,6 @@
 use Prim.Native.Nat.{ℕ}
 use mathlib.Core.List.{[], _∷_, List}
 use contract.Lifetimes.{Within}
-use Rattle.watch.specs.declared.Table.{Table}
 use Rattle.lent_words.specs.Lent.{startOf, setUpWord, releaseWord}
 use Rattle.lent_step.specs.Fed.{frameWord, tickWord}
 use Rattle.gateway.proofs.Entry.{Wanted}

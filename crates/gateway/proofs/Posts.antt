@@ -1,5 +1,5 @@
 -- What a walk that reads or stores one post of a lent table needs: the machine values of the posts, that a table has `postCount` of them, and that a table with another post is a table.
---     one          the type of what steps a post, for `Answered.antt`
+--     one          the type of what steps a post, for `Answered.antt` of `lent_walks`
 -- Assumes nothing.
 use mathlib.Core.Path.{_≡_, refl, sym, _∙_, ap, subst}
 use Prim.Native.Nat.{ℕ, _<_}

@@ -1,6 +1,6 @@
 // The lent table: entries that change the gateway's table in place. Each leaves exactly what the by-value operation of `watch` gives; no entry requires
 // anything. An answer is one word: the findings, or 65,536 plus the refusal's number plus 256 times the start bit that 5 carries. What the C interface has
-// beside them stands in `lent_look` (the table is only read) and in `plain_frames`, `plain_log` and `plain_screen` (no table).
+// beside them stands in `lent_numbers` and `lent_latest` (the table is only read) and in `plain_frames`, `plain_log` and `plain_screen` (no table).
 ghost use mathlib.Core.Path.{_≡_};
 ghost use Rattle.lent_words.specs.Lent.{startOf, setUpWord, releaseWord};
 ghost use Rattle.lent_step.specs.Fed.{frameWord, tickWord};

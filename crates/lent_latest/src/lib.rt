@@ -1,4 +1,5 @@
-// The latest frame of a kind over the C interface: its time, and its bytes as they came. The lent table is only read.
+// The latest frame of a kind over the C interface: its time, and its bytes as they came. The lent table is only read. For C callers; a
+// caller in Rattle asks `watch::look_up`.
 ghost use mathlib.Core.Path.{_≡_};
 ghost use mathlib.Core.Bool.{_&&_};
 ghost use lib.ListN.{length};

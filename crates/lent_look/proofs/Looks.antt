@@ -1,6 +1,6 @@
 -- The entries that look at a table: it is handed to a function by value, and every other parameter goes with it. The table is left as it was.
 --     by-handing       what a call of such a function gives, from its contract
---     meets            the entry's contract, from that: `InLook.antt`'s walk at the crate's `Table`
+--     meets            the entry's contract, from that: `InLook.antt`'s walk (`lent_walks`) at `Table`
 -- Assumes nothing.
 use mathlib.Core.Path.{_≡_, refl, subst}
 use Prim.Native.Nat.{ℕ, suc}

@@ -1,4 +1,5 @@
 // A post's numbers over the C interface: of the record that `watch::look_up` hands out, all but the messages. The lent table is only read.
+// For C callers; a caller in Rattle asks `watch::look_up`.
 ghost use mathlib.Core.Path.{_≡_};
 ghost use mathlib.Core.Bool.{cond};
 ghost use mathlib.Core.List.{_++_};

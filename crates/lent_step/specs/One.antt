@@ -1,4 +1,4 @@
--- Inner step: the same over one post, so that a frame or tick copies one post and not the table. `feed-same` (proofs/Same.antt) shows that it is the table's step.
+-- Inner step: what comes, over one post, so that a frame or tick copies one post and not the table. `feed-same` (proofs/Same.antt) shows that it is the table's step.
 use Prim.Native.Nat.{ℕ}
 use mathlib.Core.List.{List}
 use mathlib.Core.Bool.{Bool, cond, _&&_}

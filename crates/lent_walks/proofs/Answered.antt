@@ -2,7 +2,7 @@
 --     Answered         the two types, with what is known of how they lie in memory
 --     Known B w r v    what a walk has of the result r at the machine value v, where the callee ensures that it is w: its two fields' values, and `Good`
 --     taking B cs      the signature of such a callee.        by-value     what a call of it gives
--- It says nothing of the crate. Assumes nothing.
+-- Assumes nothing.
 use mathlib.Core.Path.{_≡_, _∙_, ap, subst}
 use Prim.Native.Nat.{ℕ}
 use mathlib.Core.List.{[], _∷_, List}

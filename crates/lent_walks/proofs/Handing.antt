@@ -1,7 +1,7 @@
 -- The parameters that an entry hands on to its callee, one after the other, with what a walk and a contract want of them.
 --     word, slice j ok R     a `u32`, and a `&mut` slice of elements R at the lifetime numbered j, before further ones.        no-more     none
 --     saids        at exit nothing is had of a parameter but what the contract says of it: the callee has said it, since all was handed on
--- It says nothing of the crate. Assumes `Given`.
+-- Assumes `Given`.
 use mathlib.Core.Path.{_≡_, refl, ap}
 use Prim.Native.Nat.{ℕ}
 use mathlib.Core.List.{[], _∷_, List}

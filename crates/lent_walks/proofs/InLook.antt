@@ -4,7 +4,7 @@
 --     fn           the function's MIR. A function's `code.function` is this at its own types, by computation
 --     Gives v      what the call is to give for `Lent`: some x with `Good x v`, of which the machine value v has the answer's type, and `Back x`
 --     walk         from that, and from what is to be shown at exit
--- It says nothing of the crate. Assumes `Given`.
+-- Assumes `Given`.
 use mathlib.Core.Path.{_≡_, refl, sym}
 use Prim.Native.Nat.{ℕ, suc}
 use mathlib.Core.List.{[], _∷_, List}

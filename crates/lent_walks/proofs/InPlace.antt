@@ -5,7 +5,7 @@
 --     Result r v   what the walk has of the call's result: its machine value v is the struct of the two fields' values, which have their MIR types, and the table's relation holds
 --     Gives v      what the call is to give for `Lent`: `Back`, and some r with `Result r v` and what is wanted of r at exit, `Good r`. `Kept` stays with the entry
 --     walk         from that, and from what is to be shown at exit
--- It says nothing of the crate. Assumes `Given`.
+-- Assumes `Given`.
 use mathlib.Core.Path.{_≡_, refl, sym}
 use Prim.Native.Nat.{ℕ, suc}
 use mathlib.Core.List.{[], _∷_, List}

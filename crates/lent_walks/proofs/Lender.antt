@@ -1,7 +1,7 @@
 -- The walk of a function that lends its own table to an entry that changes it in place, by hand, over any types and any number of arguments:
 --     fn g(mut t: Table, a1, .., ak) -> Fed { let answer = f(&mut t, a1, .., ak); Fed { table: t, answer } }
 -- A lifetime is made for the call, the local is lent for it, and once it is ended the local is had again at the last value that the callee says.
--- It says nothing of the crate. Assumes `Given`.
+-- Assumes `Given`.
 use mathlib.Core.Path.{_≡_, refl, sym}
 use Prim.Native.Nat.{ℕ, suc}
 use mathlib.Core.List.{[], _∷_, List}

@@ -4,7 +4,7 @@
 --     relend                   the statements that lend each slice again, before rest
 --     Spelled, again           that a slice's machine value is a pointer and a count, and the values of the locals that lend again
 --     relends, reads-all       `relend` is walked; and the operands are read
--- It says nothing of the crate. Assumes `Given`.
+-- Assumes `Given`.
 use mathlib.Core.Path.{_≡_, refl, sym, subst}
 use Prim.Native.Nat.{ℕ, suc}
 use mathlib.Core.List.{[], _∷_, List}

@@ -1,6 +1,5 @@
 -- What starting, a set-up and a release leave of a table: exactly what the by-value operation of `watch` gives, the answer as a word.
 use Prim.Native.Nat.{ℕ}
-use Rattle.post.specs.declared.PlainLimits.{PlainLimits}
 use Rattle.watch.specs.declared.Table.{Table}
 use Rattle.watch.specs.declared.Settled.{Settled}
 use Rattle.watch.specs.Table.{setUpOf, releaseOf, emptyTable}

@@ -1,4 +1,4 @@
--- `gateway::rokemaipu_frame` meets its contract: `OnePost.antt`'s walk, over what `frame_on` ensures, whose step stored back is the table's (`Same.antt`).
+-- `gateway::rokemaipu_frame` meets its contract: `OnePost.antt`'s walk, over what `frame_on` ensures, whose step stored back is the table's (`Same.antt` of `lent_step`).
 use mathlib.Core.List.{_∷_}
 use base.Logic.{emp, id⊢}
 use contract.Monad.{factI}

@@ -1,4 +1,4 @@
--- `gateway::rokemaipu_tick` meets its contract: `OnePost.antt`'s walk, over what `tick_on` ensures, whose step stored back is the table's (`Same.antt`).
+-- `gateway::rokemaipu_tick` meets its contract: `OnePost.antt`'s walk, over what `tick_on` ensures, whose step stored back is the table's (`Same.antt` of `lent_step`).
 use mathlib.Core.List.{_∷_}
 use base.Logic.{emp, id⊢}
 use contract.Monad.{factI}

@@ -1,4 +1,4 @@
--- `lent_latest::rokemaipu_latest` meets its contract: `Looks.antt`'s walk, over what `latest_of` ensures.
+-- `lent_latest::rokemaipu_latest` meets its contract: `Looks.antt`'s walk (`lent_look`), over what `latest_of` ensures.
 use base.Logic.{emp, id⊢}
 use contract.Monad.{factI}
 use contract.Running.{tables}

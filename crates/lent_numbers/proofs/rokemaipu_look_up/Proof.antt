@@ -1,4 +1,4 @@
--- `lent_numbers::rokemaipu_look_up` meets its contract: `Looks.antt`'s walk, over what `looked` ensures.
+-- `lent_numbers::rokemaipu_look_up` meets its contract: `Looks.antt`'s walk (`lent_look`), over what `looked` ensures.
 use base.Logic.{emp, id⊢}
 use contract.Monad.{factI}
 use contract.Running.{tables}
