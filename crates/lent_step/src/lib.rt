@@ -45,6 +45,7 @@ fn refused(p: Post, channel: u32, time: u32) -> u32
 
 // Both steps store into the post only what they change of it, and return in one place: the compiler then leaves the rest where it lies,
 // and does not copy the post on each way.
+// A frame is read before 1 and 2 are asked, though they go first: with the reader built in behind them the compiler copies the post once more.
 pub fn frame_on(
     p: Post,
     channel: u32,
@@ -55,10 +56,10 @@ pub fn frame_on(
 ) -> Stepped
     ensures { λ r. ⌜ r ≡ frameOn p channel time id extended (now (payload .entry)) ⌝ }
 {
+    let j = pages::judge(id, extended, payload);
     let mut q = p;
     let mut answer = refused(p, channel, time);
     if answer == 0 {
-        let j = pages::judge(id, extended, payload);
         match j {
             Judged::Refused(w) => {
                 answer = refusal_word(w);

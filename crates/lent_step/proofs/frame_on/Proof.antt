@@ -21,20 +21,22 @@ use Rattle.post.proofs.frame.Reads as frame-reads
 returns : tie.Need-returns
 returns c =
     let told = c .before .before in
-    let judged = told .before .before in
-    let asked = judged .before .before in
-    rw (read-on _ _ _ _ _ _ _ (asked .refused .ensures) (judged .before .if1 .taken) (judged .judge .ensures) (told .j .given .1), c .refusal-word .ensures)
+    let then = told .before .before in
+    let asked = then .before in
+    let judged = asked .before in
+    rw (read-on _ _ _ _ _ _ _ (asked .refused .ensures) (then .if1 .taken) (judged .judge .ensures) (told .j .given .1), c .refusal-word .ensures)
 
 returns-2 : tie.Need-returns-2
 unfolding frameStep agedTo withFrame
 returns-2 c =
     let stepped = c .before .before .before in
     let told = stepped .before .before in
-    let judged = told .before .before in
-    let asked = judged .before .before in
-    rw (read-on _ _ _ _ _ _ _ (asked .refused .ensures) (judged .before .if1 .taken) (judged .judge .ensures) (told .j2 .given .1), stepped .frame .ensures)
+    let then = told .before .before in
+    let asked = then .before in
+    let judged = asked .before in
+    rw (read-on _ _ _ _ _ _ _ (asked .refused .ensures) (then .if1 .taken) (judged .judge .ensures) (told .j2 .given .1), stepped .frame .ensures)
 
-kinds : (c : lts.Start (refused-reads.Asked, refused-reads.Learnt, judge-reads.Asked, judge-reads.Learnt, refusal-word-reads.Asked, refusal-word-reads.Learnt, frame-reads.Asked, frame-reads.Learnt) reads.Pre reads.Post)
+kinds : (c : lts.Start (judge-reads.Asked, judge-reads.Learnt, refused-reads.Asked, refused-reads.Learnt, refusal-word-reads.Asked, refusal-word-reads.Learnt, frame-reads.Asked, frame-reads.Learnt) reads.Pre reads.Post)
     → length (c .args .p .latest) ≡ kindCount
 kinds c = search unmapped
 
@@ -43,13 +45,14 @@ unfolding frameStep agedTo withFrame
 returns-3 c =
     let stepped = c .before .before .before in
     let told = stepped .before .before in
-    let judged = told .before .before in
-    let asked = judged .before .before in
-    let a = asked .before .before .args in
-    let n : length (a .p .latest) ≡ kindCount = kinds (asked .before .before) in
+    let then = told .before .before in
+    let asked = then .before in
+    let judged = asked .before in
+    let a = judged .before .before .args in
+    let n : length (a .p .latest) ≡ kindCount = kinds (judged .before .before) in
     let past : kindCount ≤ told .j2 .given .0 .0 = c .if2 .left in
     rw (
-      read-on _ _ _ _ _ _ _ (asked .refused .ensures) (judged .before .if1 .taken) (judged .judge .ensures) (told .j2 .given .1),
+      read-on _ _ _ _ _ _ _ (asked .refused .ensures) (then .if1 .taken) (judged .judge .ensures) (told .j2 .given .1),
       stepped .frame .ensures,
       set-out (a .p .latest) (told .j2 .given .0 .0) (slotAt (a .time) (told .j2 .given .0 .1 .0)) (omega arith),
     )
