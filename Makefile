@@ -29,12 +29,7 @@ check:
 	@rt check
 
 lib:
-	@rt staticlib gateway > lib.log 2>&1 || { cat lib.log; rm -f lib.log; exit 1; }
-	@rm -f lib.log
-	@mkdir -p target/lib
-	@cp target/staticlib/libgateway.a target/lib/librokemaipu.a
-	@cp include/rokemaipu.h target/lib/
-	@echo "target/lib/librokemaipu.a, target/lib/rokemaipu.h"
+	@tools/lib
 
 bench: lib replay
 	@mkdir -p target/bench

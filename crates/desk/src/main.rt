@@ -1,22 +1,15 @@
 // The desk: reads a script on standard input and writes one answer line for each step, in order. Every step runs by value; with the argument
 // `lent` it runs through the entries that change a lent table in place.
-mod both; // both.rt: a step on the table, by value or lent
-mod message; // message.rt: a message and its values
-mod values; // values.rt: a message of values
-mod record; // record.rt: a post's record as text
-mod words; // words.rt: findings and refusals in words
-mod watching; // watching.rt: the steps on the table
-mod codec; // codec.rt: the steps on a frame by itself
-mod logging; // logging.rt: the steps of the night log
-mod replaying; // replaying.rt: the step that replays a night log
-mod screen; // screen.rt: the steps of the service screen
-mod step; // step.rt: a line and its answer
-mod paper; // paper.rt: the output buffer
+ghost use Prim.Native.Nat.{_≤_};
 
-use notation::answer;
-use notation::script;
-use text::Pen;
-use watch::Table;
+mod word; // word.rt: the word that a line begins with
+mod step; // step.rt: a line and its answer
+
+use desk_buffers::front;
+use notation_answers::answer;
+use notation_read::script;
+use text_pen::Pen;
+use watch_rules::Table;
 
 // What is kept from one piece of the input to the next: the table, how much of the last line is in the line buffer, whether that line is
 // over its length, and how much of the output buffer is written.
@@ -31,35 +24,33 @@ struct Desk {
 // desk.md: "a line over 65,535 bytes"
 const LONGEST: usize = 65535;
 
+// With nothing in the line buffer.
+fn emptied(desk: Desk, pen: Pen) -> Desk {
+    let mut d = desk;
+    d.have = 0;
+    d.over = false;
+    d.pen = pen;
+    d
+}
+
 // The line in the buffer is whole: its answer goes to the pen.
 fn ended(desk: Desk, line: &[u8], room: &mut [u8], out: &mut [u8]) -> Desk {
-    let have = desk.have;
+    let s = front(line, desk.have);
+    if script::is_skipped(s) {
+        return emptied(desk, desk.pen);
+    }
+    answered(desk, s, room, out)
+}
+
+fn answered(desk: Desk, s: &[u8], room: &mut [u8], out: &mut [u8]) -> Desk {
     let lent = desk.lent;
     let table = desk.table;
     let p = desk.pen;
-    let pen = paper::with_room(p, out, have);
+    let pen = desk_buffers::with_room(p, out, s.len());
     if desk.over {
-        if script::is_skipped(line) {
-            return Desk {
-                lent,
-                table,
-                have: 0,
-                over: false,
-                pen,
-            };
-        }
-        return Desk {
-            lent,
-            table,
-            have: 0,
-            over: false,
-            pen: answer::unknown(out, pen),
-        };
+        return emptied(desk, answer::unknown(out, pen));
     }
-    if have > line.len() {
-        return desk;
-    }
-    let l = step::answered(lent, table, &line[0..have], room, out, pen);
+    let l = step::answered(lent, table, s, room, out, pen);
     let t = l.table;
     let q = l.pen;
     Desk {
@@ -87,14 +78,17 @@ fn fed(desk: Desk, piece: &[u8], line: &mut [u8], room: &mut [u8], out: &mut [u8
     d
 }
 
+// How many bytes of a line are kept.
+fn most(n: usize) -> usize
+    ensures { λ r. ⌜ r ≤ n ⌝ }
+{
+    if n < LONGEST { n } else { LONGEST }
+}
+
 fn kept(desk: Desk, line: &mut [u8], b: u8) -> Desk {
     let have = desk.have;
     let mut d = desk;
-    if have >= LONGEST {
-        d.over = true;
-        return d;
-    }
-    if have >= line.len() {
+    if have >= most(line.len()) {
         d.over = true;
         return d;
     }
@@ -103,20 +97,25 @@ fn kept(desk: Desk, line: &mut [u8], b: u8) -> Desk {
     d
 }
 
+// How many bytes were read; none at the input's end, and none where the reading failed, which is said.
+fn counted(got: isize, piece: &[u8]) -> usize {
+    if got < 0 {
+        os::fail(b"desk: reading standard input");
+        return 0;
+    }
+    io::count(got, piece)
+}
+
 fn run(desk: Desk, piece: &mut [u8], line: &mut [u8], room: &mut [u8], out: &mut [u8]) -> Desk {
     let mut d = desk;
     let mut turns = u64::MAX;
     while turns > 0 {
         let got = libc::read(libc::STDIN_FILENO, piece);
-        if got < 0 {
-            os::fail(b"desk: reading standard input");
-            return d;
-        }
-        let n = io::count(got, piece);
+        let n = counted(got, piece);
         if n == 0 {
             return d;
         }
-        d = fed(d, &piece[..n], line, room, out);
+        d = fed(d, front(piece, n), line, room, out);
         turns -= 1;
     }
     d
@@ -126,11 +125,11 @@ fn run(desk: Desk, piece: &mut [u8], line: &mut [u8], room: &mut [u8], out: &mut
 fn finish(desk: Desk, line: &[u8], room: &mut [u8], out: &mut [u8]) {
     let have = desk.have;
     if have == 0 {
-        paper::flushed(desk.pen, out);
+        desk_buffers::flushed(desk.pen, out);
         return;
     }
     let d = ended(desk, line, room, out);
-    paper::flushed(d.pen, out);
+    desk_buffers::flushed(d.pen, out);
 }
 
 fn serve(lent: bool) {

@@ -1,19 +1,12 @@
 // A line of a script, and its answer.
-use crate::codec;
-use crate::logging;
-use crate::replaying;
-use crate::screen;
-use crate::watching;
-use crate::words;
-use notation::answer;
-use notation::script;
-use text::Pen;
-use watch::Table;
-
-pub struct Line {
-    pub table: Table,
-    pub pen: Pen,
-}
+use crate::word;
+use crate::word::Changing;
+use crate::word::Showing;
+use crate::word::Telling;
+use desk_table::Line;
+use notation_answers::answer;
+use text_pen::Pen;
+use watch_rules::Table;
 
 pub fn answered(
     lent: bool,
@@ -23,26 +16,19 @@ pub fn answered(
     out: &mut [u8],
     pen: Pen,
 ) -> Line {
-    if script::is_skipped(s) {
-        return Line { table, pen };
-    }
-    let e = text::word_end(s, 0);
+    let e = text_lines::word_end(s, 0);
     let at = e + 1;
     let word = &s[0..e];
-    if check::same(word, b"frame") {
-        return watching::frame(lent, table, s, at, room, out, pen);
+    match word::changing_word(word) {
+        Changing::No => {
+            let p = shown(table, word, s, at, room, out, pen);
+            Line { table, pen: p }
+        }
+        Changing::Frame => desk_table::frame(lent, table, s, at, room, out, pen),
+        Changing::Tick => desk_table::tick(lent, table, s, at, out, pen),
+        Changing::Setup => desk_table::setup(lent, table, s, at, out, pen),
+        Changing::Release => desk_table::release(lent, table, s, at, out, pen),
     }
-    if check::same(word, b"tick") {
-        return watching::tick(lent, table, s, at, out, pen);
-    }
-    if check::same(word, b"setup") {
-        return watching::setup(lent, table, s, at, out, pen);
-    }
-    if check::same(word, b"release") {
-        return watching::release(lent, table, s, at, out, pen);
-    }
-    let p = shown(table, word, s, at, room, out, pen);
-    Line { table, pen: p }
 }
 
 // The steps that leave the table as it was.
@@ -55,40 +41,24 @@ fn shown(
     out: &mut [u8],
     pen: Pen,
 ) -> Pen {
-    if check::same(word, b"record") {
-        return watching::record(table, s, at, out, pen);
+    match word::showing_word(word) {
+        Showing::No => told(word::telling_word(word), s, at, room, out, pen),
+        Showing::Record => desk_record::show(table, s, at, out, pen),
+        Showing::Read => desk_codec::read(s, at, room, out, pen),
+        Showing::Change => desk_codec::change(s, at, room, out, pen),
+        Showing::Write => desk_codec::write(s, at, room, out, pen),
     }
-    if check::same(word, b"read") {
-        return codec::read(s, at, room, out, pen);
-    }
-    if check::same(word, b"change") {
-        return codec::change(s, at, room, out, pen);
-    }
-    if check::same(word, b"write") {
-        return codec::write(s, at, room, out, pen);
-    }
-    told(word, s, at, room, out, pen)
 }
 
-// The steps that need no table: those of a log, of the service screen and of words.
-fn told(word: &[u8], s: &[u8], at: usize, room: &mut [u8], out: &mut [u8], pen: Pen) -> Pen {
-    if check::same(word, b"logw") {
-        return logging::write(s, at, room, out, pen);
+// The steps that need no table.
+fn told(t: Telling, s: &[u8], at: usize, room: &mut [u8], out: &mut [u8], pen: Pen) -> Pen {
+    match t {
+        Telling::No => answer::unknown(out, pen),
+        Telling::LogWrite => desk_log::write(s, at, room, out, pen),
+        Telling::LogRead => desk_log::read(s, at, room, out, pen),
+        Telling::Replay => desk_replay::replay(s, at, room, out, pen),
+        Telling::Probe => desk_screen::probe(s, at, out, pen),
+        Telling::Duty => desk_screen::duty(s, at, out, pen),
+        Telling::Explain => desk_words::explain(s, at, out, pen),
     }
-    if check::same(word, b"logr") {
-        return logging::read(s, at, room, out, pen);
-    }
-    if check::same(word, b"replay") {
-        return replaying::replay(s, at, room, out, pen);
-    }
-    if check::same(word, b"probe") {
-        return screen::probe(s, at, out, pen);
-    }
-    if check::same(word, b"duty") {
-        return screen::duty(s, at, out, pen);
-    }
-    if check::same(word, b"explain") {
-        return words::explain(s, at, out, pen);
-    }
-    answer::unknown(out, pen)
 }

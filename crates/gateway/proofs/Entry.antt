@@ -37,13 +37,13 @@ use denote.Triple.Entry.{onEntry}
 use denote.Triple.Spec.{Meets}
 use denote.Triple.Walked.{Stays, stay-ref, walkOf, AllGo, goes-ref, ends-at, walked, walk-meets}
 use denote.Exit.{yes}
-use Rattle.watch.specs.declared.Table.{Table}
-use Rattle.watch.proofs.Table as T
-use Rattle.watch.proofs.Table.Laws as T′
-use Rattle.gateway.specs.declared.Lent.{Lent}
-use Rattle.gateway.proofs.Answered.{answer-val}
-use Rattle.gateway.proofs.Called.{beside}
-use Rattle.gateway.proofs.Params.{Param, slots, rows, spells, telling, twice, stays, ends, fits, had, goes}
+use Rattle.watch_rules.specs.declared.Table.{Table}
+use Rattle.watch_rules.proofs.Table as T
+use Rattle.watch_rules.proofs.Table.Laws as T′
+use Rattle.lent_words.specs.declared.Lent.{Lent}
+use Rattle.lent_walks.proofs.Answered.{answer-val}
+use Rattle.lent_walks.proofs.Called.{beside}
+use Rattle.lent_walks.proofs.Params.{Param, slots, rows, spells, telling, twice, stays, ends, fits, had, goes}
 
 -- the machine value of a table
 abbrev pub table-val : Table → Val

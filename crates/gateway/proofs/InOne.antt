@@ -37,19 +37,19 @@ use denote.Steps.{opens, closes, owned, peeks, nothing}
 use denote.Struct.Steps.{spelt}
 use denote.Struct.Laws as LL
 use denote.Triple.Call.{calls-from}
-use Rattle.post.proofs.Post as P
-use Rattle.post.proofs.Post.Laws as P′
-use Rattle.watch.specs.Table.{postCount, putIn, noPost}
-use Rattle.watch.specs.declared.Table.{Table}
-use Rattle.watch.proofs.Table as T
-use Rattle.watch.proofs.Table.Laws as T′
-use Rattle.gateway.specs.declared.Stepped.{Stepped}
-use Rattle.gateway.proofs.Stepped as F
-use Rattle.gateway.proofs.Answered.{Known, Good, answer-val}
-use Rattle.gateway.proofs.Args.{locs, past, copies, past-is, alloc-args, pass-args, free-args, at-place, swapped, read-args}
-use Rattle.gateway.proofs.Elem.{elem, whole-raw, writes-at, reads-as}
+use Rattle.rules.proofs.Post as P
+use Rattle.rules.proofs.Post.Laws as P′
+use Rattle.watch_rules.specs.Table.{postCount, putIn, noPost}
+use Rattle.watch_rules.specs.declared.Table.{Table}
+use Rattle.watch_rules.proofs.Table as T
+use Rattle.watch_rules.proofs.Table.Laws as T′
+use Rattle.lent_step.specs.declared.Stepped.{Stepped}
+use Rattle.lent_step.proofs.Stepped as F
+use Rattle.lent_walks.proofs.Answered.{Known, Good, answer-val}
+use Rattle.lent_walks.proofs.Args.{locs, past, copies, past-is, alloc-args, pass-args, free-args, at-place, swapped, read-args}
+use Rattle.lent_walks.proofs.Elem.{elem, whole-raw, writes-at, reads-as}
 use Rattle.gateway.proofs.Entry.{table-val, Held}
-use Rattle.gateway.proofs.InPlace.{Of}
+use Rattle.lent_walks.proofs.InPlace.{Of}
 use Rattle.gateway.proofs.Posts.{one, post-val, post-at, us-of, us-set, us-at, us-long, us-within, post-is, table-set}
 
 abbrev τT : Ty

@@ -1,5 +1,5 @@
 -- The functions that lend a table of their own to an entry, and give it back by value.
---     by-lending       what a call of an entry gives, from its contract.        meets     the function's contract, from that: `Lender.antt`'s walk at the crate's `Table` and `Lent`
+--     by-lending       what a call of an entry gives, from its contract.        meets     the function's contract, from that: `Lender.antt`'s walk (`lent_walks`) at `Table` and `Lent`
 -- Assumes nothing.
 use mathlib.Core.Path.{_≡_, refl, ap, subst}
 use Prim.Native.Nat.{ℕ, suc}
@@ -35,18 +35,18 @@ use denote.Triple.Spec.{Meets, tripleOf}
 use denote.Triple.Statement.{Triple}
 use denote.Triple.Walked.{Stays, stay-none, walkOf, AllGo, goes-none, ends-at, walked, walk-meets}
 use denote.Exit.{yes}
-use Rattle.watch.specs.declared.Table.{Table}
-use Rattle.watch.proofs.Table as T
-use Rattle.watch.proofs.Table.Laws as T′
-use Rattle.gateway.specs.declared.Lent.{Lent}
-use Rattle.gateway.proofs.Lent as F
-use Rattle.gateway.proofs.Lent.Laws as F′
-use Rattle.gateway.proofs.Answered.{taking, answer-val}
-use Rattle.gateway.proofs.Called.{beside, called}
+use Rattle.watch_rules.specs.declared.Table.{Table}
+use Rattle.watch_rules.proofs.Table as T
+use Rattle.watch_rules.proofs.Table.Laws as T′
+use Rattle.lent_words.specs.declared.Lent.{Lent}
+use Rattle.lent_words.proofs.Lent as F
+use Rattle.lent_words.proofs.Lent.Laws as F′
+use Rattle.lent_walks.proofs.Answered.{taking, answer-val}
+use Rattle.lent_walks.proofs.Called.{beside, called}
 use Rattle.gateway.proofs.Entry.{table-val, Wanted, Done, values, in-a-row, ended, Own}
-use Rattle.gateway.proofs.InPlace.{Of}
-use Rattle.gateway.proofs.Lender as Lend
-use Rattle.gateway.proofs.Params.{Param, slots, rows, mir-types, mirs-are, spells, telling, lawful, twice, stays, ends, fits, had, goes}
+use Rattle.lent_walks.proofs.InPlace.{Of}
+use Rattle.lent_walks.proofs.Lender as Lend
+use Rattle.lent_walks.proofs.Params.{Param, slots, rows, mir-types, mirs-are, spells, telling, lawful, twice, stays, ends, fits, had, goes}
 use Rattle.gateway.proofs.Thin.{whole}
 
 -- the answer, and the table that is left

@@ -27,25 +27,25 @@ use denote.Steps.{only, owned, nothing}
 use denote.Struct.Laws as LL
 use denote.Triple.Clauses.{Clauses, closing}
 use denote.Triple.Spec.{Meets}
-use Rattle.post.specs.declared.Post.{Post}
-use Rattle.post.proofs.Post as P
-use Rattle.post.proofs.Post.Laws as P′
-use Rattle.watch.specs.Table.{postCount, putIn}
-use Rattle.watch.specs.declared.Table.{Table}
-use Rattle.watch.proofs.Table as T
-use Rattle.watch.proofs.Table.Laws as T′
-use Rattle.gateway.specs.One.{somePlace, lentAt}
-use Rattle.gateway.specs.declared.Lent.{Lent}
-use Rattle.gateway.specs.declared.Stepped.{Stepped}
-use Rattle.gateway.proofs.some_place as finder
-use Rattle.gateway.proofs.some_place.Symbol as finder-def
-use Rattle.gateway.proofs.some_place.Met as finder-thm
-use Rattle.gateway.proofs.Answered.{Gives, Good, answer-val}
-use Rattle.gateway.proofs.Called.{called}
+use Rattle.rules.specs.declared.Post.{Post}
+use Rattle.rules.proofs.Post as P
+use Rattle.rules.proofs.Post.Laws as P′
+use Rattle.watch_rules.specs.Table.{postCount, putIn}
+use Rattle.watch_rules.specs.declared.Table.{Table}
+use Rattle.watch_rules.proofs.Table as T
+use Rattle.watch_rules.proofs.Table.Laws as T′
+use Rattle.lent_step.specs.One.{somePlace, lentAt}
+use Rattle.lent_words.specs.declared.Lent.{Lent}
+use Rattle.lent_step.specs.declared.Stepped.{Stepped}
+use Rattle.lent_step.proofs.some_place as finder
+use Rattle.lent_step.proofs.some_place.Symbol as finder-def
+use Rattle.lent_step.proofs.some_place.Met as finder-thm
+use Rattle.lent_walks.proofs.Answered.{Gives, Good, answer-val}
+use Rattle.lent_walks.proofs.Called.{called}
 use Rattle.gateway.proofs.Entry.{table-val, Wanted, values, in-a-row, signature, ended, Tok, Own, Held, Walk, Shown}
 use Rattle.gateway.proofs.Entry as Entry
 use Rattle.gateway.proofs.InOne as In
-use Rattle.gateway.proofs.Params.{Param, word, rows, mir-types, mirs-are, lawful}
+use Rattle.lent_walks.proofs.Params.{Param, word, rows, mir-types, mirs-are, lawful}
 use Rattle.gateway.proofs.Posts.{one, post-val, post-at, posts-long}
 
 -- a post's step, with the entry's parameters

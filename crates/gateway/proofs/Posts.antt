@@ -1,5 +1,5 @@
 -- What a walk that reads or stores one post of a lent table needs: the machine values of the posts, that a table has `postCount` of them, and that a table with another post is a table.
---     one          the type of what steps a post, for `Answered.antt`
+--     one          the type of what steps a post, for `Answered.antt` of `lent_walks`
 -- Assumes nothing.
 use mathlib.Core.Path.{_≡_, refl, sym, _∙_, ap, subst}
 use Prim.Native.Nat.{ℕ, _<_}
@@ -10,18 +10,18 @@ use denote.RattleType.{RattleType}
 use denote.Array.{arrayVal, Array}
 use denote.Laws.{Is}
 use denote.Struct.Laws as LL
-use Rattle.post.specs.declared.Post.{Post}
-use Rattle.post.proofs.Post as P
-use Rattle.post.proofs.Post.Laws as P′
-use Rattle.watch.specs.Table.{postCount, putIn, noPost}
-use Rattle.watch.specs.declared.Table.{Table}
-use Rattle.watch.proofs.Table as T
-use Rattle.watch.proofs.Table.Laws as T′
-use Rattle.gateway.specs.declared.Stepped.{Stepped}
-use Rattle.gateway.proofs.Stepped as F
-use Rattle.gateway.proofs.Stepped.Laws as F′
-use Rattle.gateway.proofs.Answered.{Answered}
-use Rattle.gateway.proofs.Elem.{map-set, array-long, array-set, array-at}
+use Rattle.rules.specs.declared.Post.{Post}
+use Rattle.rules.proofs.Post as P
+use Rattle.rules.proofs.Post.Laws as P′
+use Rattle.watch_rules.specs.Table.{postCount, putIn, noPost}
+use Rattle.watch_rules.specs.declared.Table.{Table}
+use Rattle.watch_rules.proofs.Table as T
+use Rattle.watch_rules.proofs.Table.Laws as T′
+use Rattle.lent_step.specs.declared.Stepped.{Stepped}
+use Rattle.lent_step.proofs.Stepped as F
+use Rattle.lent_step.proofs.Stepped.Laws as F′
+use Rattle.lent_walks.proofs.Answered.{Answered}
+use Rattle.lent_walks.proofs.Elem.{map-set, array-long, array-set, array-at}
 use Rattle.gateway.proofs.Entry.{table-val}
 
 abbrev pub one : Answered

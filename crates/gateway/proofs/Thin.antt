@@ -1,5 +1,5 @@
 -- The entries over the whole table: it is handed to a function by value, and the table that this gives is stored back.
---     whole        the callee's type, for `Answered.antt`.        meets     the entry's contract, from what a call gives: `InPlace.antt`'s walk at the crate's `Table` and `Lent`
+--     whole        the callee's type, for `Answered.antt` of `lent_walks`.        meets     the entry's contract, from what a call gives: `InPlace.antt`'s walk (`lent_walks`) at `Table` and `Lent`
 -- Assumes nothing.
 use mathlib.Core.Path.{refl, ap, subst}
 use Prim.Native.Nat.{ℕ, suc}
@@ -23,17 +23,17 @@ use denote.Steps.{owned}
 use denote.Struct.Laws as LL
 use denote.Triple.Clauses.{Clauses, closing}
 use denote.Triple.Spec.{Meets}
-use Rattle.watch.specs.declared.Table.{Table}
-use Rattle.watch.proofs.Table as T
-use Rattle.watch.proofs.Table.Laws as T′
-use Rattle.gateway.specs.declared.Lent.{Lent}
-use Rattle.gateway.proofs.Lent as F
-use Rattle.gateway.proofs.Lent.Laws as F′
-use Rattle.gateway.proofs.Answered.{Answered, Gives, Good, answer-val}
+use Rattle.watch_rules.specs.declared.Table.{Table}
+use Rattle.watch_rules.proofs.Table as T
+use Rattle.watch_rules.proofs.Table.Laws as T′
+use Rattle.lent_words.specs.declared.Lent.{Lent}
+use Rattle.lent_words.proofs.Lent as F
+use Rattle.lent_words.proofs.Lent.Laws as F′
+use Rattle.lent_walks.proofs.Answered.{Answered, Gives, Good, answer-val}
 use Rattle.gateway.proofs.Entry.{table-val, Wanted, values, in-a-row, signature, ended, Tok, Own, Held, Walk, Shown}
 use Rattle.gateway.proofs.Entry as Entry
-use Rattle.gateway.proofs.InPlace as In
-use Rattle.gateway.proofs.Params.{Param, rows, mir-types, mirs-are, lawful}
+use Rattle.lent_walks.proofs.InPlace as In
+use Rattle.lent_walks.proofs.Params.{Param, rows, mir-types, mirs-are, lawful}
 
 abbrev pub whole : Answered
 whole = record {

@@ -1,27 +1,31 @@
--- What is said of each kind of message: the table has it, with as many signals as the kind has numbers, and its labels are those of its signals.
--- Assumes nothing.
-use mathlib.Core.Path.{_≡_, refl, sym, ap, ap₂, _∙_, fun-ext}
-use mathlib.Core.Bool.{Bool, true, false, _&&_, and-true}
+-- What is said of each kind of message: the table has it, with as many signals as the kind has numbers, its labels are those of its signals, and its numbers go
+-- there and back (`there`, `back`), by the ways of its kind. Together they make the messages a codec over the table (`codec`). Assumes nothing.
+use mathlib.Core.Path.{_≡_, refl, sym, ap, _∙_, subst}
+use mathlib.Core.Bool.{Bool, true, false, _&&_}
 use mathlib.Core.List.{List, [], _∷_}
-use Prim.Native.Nat.{ℕ, _≤_}
+use Prim.Native.Nat.{ℕ, _≤_, _<_}
+use native.Mathlib.Nat.{not-suc-le-zero}
 use native.Mathlib.Omega.{arith}
-use lib.Dec.{leb, lit≤}
+use lib.Dec.{leb, ltb, lit≤}
 use lib.ListN.{length}
 use lib.IntN.{ℤ}
-use Rattle.signal.specs.Raw.{fitsIn, bitsIn}
-use Rattle.pages.specs.declared.Row.{Row}
-use Rattle.pages.specs.Charger.{chargerRows}
-use Rattle.pages.specs.Safety.{safetyRows}
-use Rattle.pages.specs.Table.{rows, ofKind, rowsOf, identifierOf, extendedOf, takes}
-use Rattle.pages.specs.Raws.{signalCount, wholesOf, pad, allTake}
-use Rattle.pages.specs.Raws as pages
-use Rattle.pages.proofs.Rules.{both-true, few}
-use Rattle.pages.proofs.Trips.{wholes-length, pad-same}
-use Rattle.messages.specs.declared.Message.{Message}
-use Rattle.messages.specs.declared.Message.the-variants.{Status, Parameters, Controller, Session, Change, Control, Finished, Stop, Id, SafetyControl, SafetyState, Probes}
-use Rattle.messages.specs.Read.{at, builtOf, messageOf}
-use Rattle.messages.specs.Write.{rawsOf, kindOf}
-use Rattle.messages.proofs.Marks.{enable-label, state-label, protocol-label, plug-label, status-label, function-label, mode-label, contactors-label, lowering-label, end-label, origin-label, cp-label, pp-label}
+use borrow.Author.Tests.{ltb-true, eqb-true}
+use Rattle.page_rows.specs.declared.Row.{Row}
+use Rattle.page_rows.specs.Table.{rows, keep, ofKind, rowsOf, hasKind, identifierOf, extendedOf}
+use Rattle.page_read.specs.Judge.{unlabelled}
+use Rattle.page_write.specs.Raws.{wholesOf, allTake}
+use Rattle.page_rows.proofs.Rules.{both-true}
+use Rattle.message_fields.specs.Fields.{at}
+use Rattle.message_laws.proofs.Fitting.{allFit, labelsAt}
+use Rattle.message_laws.proofs.Codec as codecs
+use Rattle.message_laws.proofs.Upto.{From, done, _⨾_, upto}
+use Rattle.message_types.specs.declared.Message.{Message}
+use Rattle.message_types.specs.declared.Message.the-variants.{Status, Parameters, Controller, Session, Change, Control, Finished, Stop, Id, SafetyControl, SafetyState, Probes}
+use Rattle.message_types.specs.KindNumbers.{statusKind, parametersKind, controllerKind, sessionKind, changeKind, controlKind, finishedKind, stopKind, idKind, safetyControlKind, safetyStateKind, probesKind, kindCount, kindOf}
+use Rattle.message_build.specs.Built.{builtOf, messageOf}
+use Rattle.message_take.specs.Take.{rawsOf, hasRaws}
+use Rattle.message_charger.proofs.Ways.{status-ways, parameters-ways, controller-ways, session-ways, change-ways, control-ways, finished-ways, stop-ways, id-ways}
+use Rattle.message_safety.proofs.Ways.{safety-control-ways, safety-state-ways, probes-ways}
 
 -- ---- the table has each kind
 
@@ -34,7 +38,7 @@ abbrev InTable : Message → Type 0
 InTable m = (length (rawsOf m) ≡ length (rowsOf (kindOf m))) × (1 ≤ length (rowsOf (kindOf m))) × (extendedOf (kindOf m) ≡ longId (identifierOf (kindOf m)))
 
 in-table : (m : Message) → InTable m
-unfolding rows chargerRows safetyRows ofKind rawsOf identifierOf extendedOf
+unfolding rows ofKind rawsOf identifierOf extendedOf
 in-table (Status s) = (refl, lit≤ tt, refl)
 in-table (Parameters s) = (refl, lit≤ tt, refl)
 in-table (Controller s) = (refl, lit≤ tt, refl)
@@ -58,52 +62,106 @@ known-kind m = in-table m .1
 pub one-form : (x y : Message) → identifierOf (kindOf x) ≡ identifierOf (kindOf y) → extendedOf (kindOf x) ≡ extendedOf (kindOf y)
 one-form x y e = in-table x .2 ∙ ap longId e ∙ sym (in-table y .2)
 
--- ---- labels: a message's labels are those of its signals, so that a signal refuses only a number that does not fit
-
--- each number fits its signal
-abbrev pub allFit : List Row → List ℤ → Bool
-allFit [] zs = true
-allFit (r ∷ rs) [] = false
-allFit (r ∷ rs) (z ∷ zs) = fitsIn (r .signed) (r .width) z && allFit rs zs
-
-abbrev labelsAt : List Row → List ℤ → Bool
-labelsAt [] zs = true
-labelsAt (r ∷ rs) [] = true
-labelsAt (r ∷ rs) (z ∷ zs) = takes (r .labels) (bitsIn (r .signed) (r .width) z) && labelsAt rs zs
-
-take-fit : (rs : List Row) (zs : List ℤ) → labelsAt rs zs ≡ true → allTake rs zs ≡ allFit rs zs
-unfolding allTake
-take-fit [] zs e = refl
-take-fit (r ∷ rs) [] e = refl
-take-fit (r ∷ rs) (z ∷ zs) e =
-    let f = fitsIn (r .signed) (r .width) z in
-    let b = both-true (takes (r .labels) (bitsIn (r .signed) (r .width) z)) (labelsAt rs zs) e in
-    ap₂ (λ (x y : Bool). f && x && y) (b .0) (take-fit rs zs (b .1)) ∙ ap (λ (x : Bool). x && allFit rs zs) (and-true f)
+-- ---- a message's labels are those of its signals, and its numbers make it again
 
 labels-in : (m : Message) → labelsAt (rowsOf (kindOf m)) (rawsOf m) ≡ true
-unfolding rows chargerRows safetyRows ofKind rawsOf
-labels-in (Status s) = rw (enable-label .labelled (s .enable))
-labels-in (Parameters s) = refl
-labels-in (Controller s) = rw (state-label .labelled (s .state))
-labels-in (Session s) = rw (protocol-label .labelled (s .protocol), plug-label .labelled (s .plug))
-labels-in (Change s) = rw (status-label .labelled (s .status))
-labels-in (Control s) = rw (function-label .labelled (s .function), mode-label .labelled (s .mode), contactors-label .labelled (s .contactors), lowering-label .labelled (s .lowering))
-labels-in (Finished s) = rw (end-label .labelled (s .state))
-labels-in (Stop s) = rw (origin-label .labelled (s .origin))
-labels-in (Id s) = refl
-labels-in (SafetyControl s) = refl
-labels-in (SafetyState s) = rw (cp-label .labelled (s .cp), pp-label .labelled (s .pp))
-labels-in (Probes s) = refl
+unfolding rawsOf
+labels-in (Status s) = status-ways .labelled s
+labels-in (Parameters s) = parameters-ways .labelled s
+labels-in (Controller s) = controller-ways .labelled s
+labels-in (Session s) = session-ways .labelled s
+labels-in (Change s) = change-ways .labelled s
+labels-in (Control s) = control-ways .labelled s
+labels-in (Finished s) = finished-ways .labelled s
+labels-in (Stop s) = stop-ways .labelled s
+labels-in (Id s) = id-ways .labelled s
+labels-in (SafetyControl s) = safety-control-ways .labelled s
+labels-in (SafetyState s) = safety-state-ways .labelled s
+labels-in (Probes s) = probes-ways .labelled s
+
+pub there : (m : Message) → hasRaws m ≡ true → allTake (rowsOf (kindOf m)) (rawsOf m) ≡ true → builtOf (kindOf m) (at (rawsOf m)) ≡ m
+unfolding rawsOf builtOf
+there (Status s) h e = ap Status (status-ways .there s h e)
+there (Parameters s) h e = ap Parameters (parameters-ways .there s h e)
+there (Controller s) h e = ap Controller (controller-ways .there s h e)
+there (Session s) h e = ap Session (session-ways .there s h e)
+there (Change s) h e = ap Change (change-ways .there s h e)
+there (Control s) h e = ap Control (control-ways .there s h e)
+there (Finished s) h e = ap Finished (finished-ways .there s h e)
+there (Stop s) h e = ap Stop (stop-ways .there s h e)
+there (Id s) h e = ap Id (id-ways .there s h e)
+there (SafetyControl s) h e = ap SafetyControl (safety-control-ways .there s h e)
+there (SafetyState s) h e = ap SafetyState (safety-state-ways .there s h e)
+there (Probes s) h e = ap Probes (probes-ways .there s h e)
+
+-- ---- the kinds of the table are those of the messages
+
+abbrev kindsBelow : List Row → Bool
+kindsBelow [] = true
+kindsBelow (r ∷ rs) = ltb (r .kind) kindCount && kindsBelow rs
+
+kind-below : (k : ℕ) (rs : List Row) → kindsBelow rs ≡ true → 1 ≤ length (ofKind k rs) → k < kindCount
+unfolding ofKind
+kind-below k [] e h = absurd (not-suc-le-zero h)
+kind-below k (r ∷ rs) e h =
+    let b = both-true (ltb (r .kind) kindCount) (kindsBelow rs) e in
+    go (hasKind k r) refl (b .0) (kind-below k rs (b .1)) h
+  where
+    go : (b : Bool) → hasKind k r ≡ b → ltb (r .kind) kindCount ≡ true → (1 ≤ length (ofKind k rs) → k < kindCount)
+        → 1 ≤ length (keep b r (ofKind k rs)) → k < kindCount
+    go true q l f o = subst (λ (x : ℕ). x < kindCount) (eqb-true (r .kind) k q) (ltb-true (r .kind) kindCount l)
+    go false q l f o = f o
+
+pub kinds : (k : ℕ) → 1 ≤ length (rowsOf k) → k < kindCount
+unfolding rows ofKind
+kinds k h = kind-below k rows refl h
+
+-- ---- a payload's numbers are those of the message that they make
+
+-- what is asked of the message that a payload number makes
+abbrev pub Back : ℕ → List ℤ → Message → Type 0
+Back k zs m = (kindOf m ≡ k) × (rawsOf m ≡ zs) × (hasRaws m ≡ true)
+
+-- of kind k
+abbrev Return : ℕ → ℕ → Type 0
+Return n k = unlabelled n (rowsOf k) ≡ false → Back k (wholesOf n (rowsOf k)) (builtOf k (at (wholesOf n (rowsOf k))))
+
+is : (n k : ℕ) → Return n k → Return n k
+is n k r = r
+
+returns : (n : ℕ) → From (Return n) kindCount 0
+unfolding rawsOf builtOf
+returns n =
+    is n statusKind (λ e. (refl, status-ways .back n e, status-ways .backed n))
+    ⨾ is n parametersKind (λ e. (refl, parameters-ways .back n e, parameters-ways .backed n))
+    ⨾ is n controllerKind (λ e. (refl, controller-ways .back n e, controller-ways .backed n))
+    ⨾ is n sessionKind (λ e. (refl, session-ways .back n e, session-ways .backed n))
+    ⨾ is n changeKind (λ e. (refl, change-ways .back n e, change-ways .backed n))
+    ⨾ is n controlKind (λ e. (refl, control-ways .back n e, control-ways .backed n))
+    ⨾ is n finishedKind (λ e. (refl, finished-ways .back n e, finished-ways .backed n))
+    ⨾ is n stopKind (λ e. (refl, stop-ways .back n e, stop-ways .backed n))
+    ⨾ is n idKind (λ e. (refl, id-ways .back n e, id-ways .backed n))
+    ⨾ is n safetyControlKind (λ e. (refl, safety-control-ways .back n e, safety-control-ways .backed n))
+    ⨾ is n safetyStateKind (λ e. (refl, safety-state-ways .back n e, safety-state-ways .backed n))
+    ⨾ is n probesKind (λ e. (refl, probes-ways .back n e, probes-ways .backed n))
+    ⨾ done
+
+pub back : (k n : ℕ) → 1 ≤ length (rowsOf k) → unlabelled n (rowsOf k) ≡ false → Back k (wholesOf n (rowsOf k)) (builtOf k (at (wholesOf n (rowsOf k))))
+back k n h = upto (returns n) k (omega arith) (kinds k h)
+
+-- ---- together
+
+-- a kind that the table has
+abbrev pub Known : ℕ → Type 0
+Known k = 1 ≤ length (rowsOf k)
+
+pub codec : codecs.Codec kindOf rawsOf hasRaws builtOf Known
+codec = record { counted = counted; known = known-kind; labelled = labels-in; there = there; back = λ k n h. back k n h }
 
 pub labels-hold : (m : Message) → allTake (rowsOf (kindOf m)) (rawsOf m) ≡ allFit (rowsOf (kindOf m)) (rawsOf m)
-labels-hold m = take-fit (rowsOf (kindOf m)) (rawsOf m) (labels-in m)
-
--- ---- an array of the numbers, with 0 where they end
-
-pub at-pad : (zs : List ℤ) → length zs ≤ signalCount → at (pad signalCount zs) ≡ at zs
-at-pad zs h = fun-ext (λ j. pad-same signalCount zs j h)
+labels-hold = codecs.labels codec
 
 -- the message of a payload number, of the signals' numbers alone
 pub message-is : (k n : ℕ) → messageOf k n ≡ builtOf k (at (wholesOf n (rowsOf k)))
-unfolding messageOf pages.rawsOf
-message-is k n = ap (builtOf k) (at-pad (wholesOf n (rowsOf k)) (omega (arith, wholes-length n (rowsOf k), few k)))
+unfolding messageOf
+message-is k n = codecs.of-wholes builtOf k n

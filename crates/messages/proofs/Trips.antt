@@ -9,32 +9,33 @@ use native.Mathlib.Omega.{arith}
 use lib.Dec.{leb}
 use lib.ListN.{length, take, drop}
 use lib.IntN.{ℤ}
-use lib.Seq.{take-all, take-at, drop-at}
+use lib.Seq.{take-at, drop-at}
 use borrow.Author.Tests.{le-leb, leb-true, leb-false}
 use Rattle.payload.specs.Payload.{bytesOf, storedIn, Bytes}
 use Rattle.payload.proofs.Orders.{length-of, are-of}
 use Rattle.payload.proofs.Stored.{stored-in, stored-not}
-use Rattle.pages.specs.declared.Judged.{Judged}
-use Rattle.pages.specs.declared.Judged.the-variants as judged
-use Rattle.pages.specs.declared.Refusal.{Refusal}
-use Rattle.pages.specs.declared.Refusal.the-variants.{NoRawNumber, ShortBuffer}
-use Rattle.pages.specs.declared.Written.{Written}
-use Rattle.pages.specs.declared.Written.the-variants as written
-use Rattle.pages.specs.Table.{rowsOf, identifierOf, extendedOf, lengthOf, bigOf}
-use Rattle.pages.specs.Judge.{judgeOf}
-use Rattle.pages.specs.Raws.{signalCount, wholesOf, pad, allTake, packedOn, canWrite}
-use Rattle.pages.specs.Raws as pages
-use Rattle.pages.specs.Change.{changeOf, bytesAfter}
-use Rattle.pages.proofs.Rules.{both-true, few}
-use Rattle.pages.proofs.Trips.{accepted, raws-back, raws-there, wholes-length, all-pad, packed-pad}
-use Rattle.pages.proofs.Changes.{change-read}
-use Rattle.messages.specs.declared.Message.{Message}
+use Rattle.page_read.specs.declared.Judged.{Judged}
+use Rattle.page_read.specs.declared.Judged.the-variants as judged
+use Rattle.refusals.specs.declared.Refusal.{Refusal}
+use Rattle.refusals.specs.declared.Refusal.the-variants.{NoRawNumber, ShortBuffer}
+use Rattle.page_write.specs.declared.Written.{Written}
+use Rattle.page_write.specs.declared.Written.the-variants as written
+use Rattle.page_rows.specs.Table.{rowsOf, identifierOf, extendedOf, lengthOf, bigOf}
+use Rattle.page_read.specs.Judge.{judgeOf}
+use Rattle.page_write.specs.Raws.{packedOn}
+use Rattle.page_change.specs.Change.{changeOf, bytesAfter}
+use Rattle.page_write.proofs.Trips.{accepted}
+use Rattle.page_change.proofs.Changes.{change-read}
+use Rattle.message_types.specs.declared.Message.{Message}
 use Rattle.messages.specs.declared.Reading.the-variants.{Accepted}
-use Rattle.messages.specs.Read.{at, builtOf, messageOf, readingOf, readOf}
-use Rattle.messages.specs.Write.{rawsOf, hasRaws, kindOf, padded, writeOf, bufferAfter}
-use Rattle.messages.proofs.Each.{counted, known-kind, one-form, allFit, labels-hold, message-is}
-use Rattle.messages.proofs.There.{there}
-use Rattle.messages.proofs.Back.{Back, back}
+use Rattle.message_build.specs.Built.{messageOf}
+use Rattle.messages.specs.Read.{readingOf, readOf}
+use Rattle.message_take.specs.Take.{rawsOf, hasRaws}
+use Rattle.message_types.specs.KindNumbers.{kindOf}
+use Rattle.messages.specs.Write.{writeOf, bufferAfter}
+use Rattle.messages.proofs.Each.{one-form, codec}
+use Rattle.message_laws.proofs.Fitting.{allFit}
+use Rattle.message_laws.proofs.Codec as codecs
 
 -- ---- reading
 
@@ -70,18 +71,6 @@ bytesFor x = bytesOf (bigOf (kindOf x)) (lengthOf (kindOf x)) (payloadOf x)
 abbrev pub formOf : Message → Bool
 formOf x = extendedOf (kindOf x)
 
--- a number for each signal, and room for them
-enough : (x : Message) → length (rowsOf (kindOf x)) ≤ length (rawsOf x)
-enough x = omega (arith, counted x)
-
-can-is : (x : Message) → canWrite (kindOf x) (padded x) ≡ allFit (rowsOf (kindOf x)) (rawsOf x)
-can-is x =
-    let rs = rowsOf (kindOf x) in
-    ap₂ (λ (a b : Bool). a && b) (le-leb 1 (length rs) (known-kind x)) (all-pad signalCount rs (rawsOf x) (few (kindOf x)) (enough x)) ∙ labels-hold x
-
-payload-is : (x : Message) → packedOn 0 (rowsOf (kindOf x)) (padded x) ≡ payloadOf x
-payload-is x = packed-pad signalCount 0 (rowsOf (kindOf x)) (rawsOf x) (few (kindOf x)) (enough x)
-
 -- 01: 7, "a value to be written has no raw number, or a raw number does not fit its signal", then 8, "lent buffer shorter than the message"
 abbrev pub answerOf : Message → Bool → Bool → Written
 answerOf x fits room =
@@ -91,22 +80,12 @@ abbrev hasRoom : Message → List ℕ → Bool
 hasRoom x buf = leb (lengthOf (kindOf x)) (length buf)
 
 pub write-answer : (x : Message) (buf : List ℕ) → writeOf x buf ≡ answerOf x (writable x) (leb (lengthOf (kindOf x)) (length buf))
-unfolding writeOf pages.writeRawsOf
-write-answer x buf = go (hasRaws x)
-  where
-    go : (a : Bool) → cond a (answerOf x (canWrite (kindOf x) (padded x)) (hasRoom x buf)) (written.Refused NoRawNumber)
-        ≡ answerOf x (a && allFit (rowsOf (kindOf x)) (rawsOf x)) (hasRoom x buf)
-    go true = ap (λ (b : Bool). answerOf x b (hasRoom x buf)) (can-is x)
-    go false = refl
+unfolding writeOf
+write-answer x buf = codecs.answers codec x buf
 
 pub buffer-answer : (x : Message) (buf : List ℕ) → bufferAfter x buf ≡ cond (writable x) (storedIn (bigOf (kindOf x)) (lengthOf (kindOf x)) (payloadOf x) buf) buf
-unfolding bufferAfter pages.bufferAfter
-buffer-answer x buf = go (hasRaws x)
-  where
-    go : (a : Bool) → cond a (cond (canWrite (kindOf x) (padded x)) (storedIn (bigOf (kindOf x)) (lengthOf (kindOf x)) (packedOn 0 (rowsOf (kindOf x)) (padded x)) buf) buf) buf
-        ≡ cond (a && allFit (rowsOf (kindOf x)) (rawsOf x)) (storedIn (bigOf (kindOf x)) (lengthOf (kindOf x)) (payloadOf x) buf) buf
-    go true = ap₂ (λ (b : Bool) (n : ℕ). cond b (storedIn (bigOf (kindOf x)) (lengthOf (kindOf x)) n buf) buf) (can-is x) (payload-is x)
-    go false = refl
+unfolding bufferAfter
+buffer-answer x buf = codecs.buffers codec x buf
 
 -- a message that is written, into room enough
 module _ (x : Message) (buf : List ℕ) (w : writable x ≡ true) (room : lengthOf (kindOf x) ≤ length buf) where
@@ -142,36 +121,11 @@ write-refused x buf w e = buffer-answer x buf ∙ go (writable x) (hasRoom x buf
 
 -- ---- an accepted frame, as its message writes it
 
--- the message of a frame has its identifier, form, length and bytes
-record Same (m : ℕ) (extended : Bool) (bs : List ℕ) (x : Message) : Type 0 where
-  fits : writable x ≡ true
-  identifier : identifierOf (kindOf x) ≡ m
-  form : formOf x ≡ extended
-  sized : lengthOf (kindOf x) ≡ length bs
-  bytes : bytesFor x ≡ bs
-
-same : (m : ℕ) (extended : Bool) (bs : List ℕ) (x : Message) → readOf m extended bs ≡ Accepted x → Bytes bs → Same m extended bs x
-unfolding pages.rawsOf
-same m extended bs x e hb = let f = frame-read m extended bs x e in go (f .0) (f .1) (f .2) (f .3)
-  where
-    go : (k n : ℕ) → judgeOf m extended bs ≡ judged.Frame k n → messageOf k n ≡ x → Same m extended bs x
-    go k n j q =
-        let t = accepted m extended bs k n j in
-        let r = raws-back m extended bs k n j hb in
-        let rs = rowsOf k in
-        let zs = wholesOf n rs in
-        let b : Back k zs x = subst (Back k zs) (sym (message-is k n) ∙ q) (back k n (t .some) (t .labelled)) in
-        let l : length rs ≤ length zs = omega (arith, wholes-length n rs) in
-        let taken : allTake rs zs ≡ true = sym (all-pad signalCount rs zs (few k) l) ∙ both-true (leb 1 (length rs)) (allTake rs (pad signalCount zs)) (r .writes) .1 in
-        let number : payloadOf x ≡ n
-        = ap₂ (λ (i : ℕ) (ys : List ℤ). packedOn 0 (rowsOf i) ys) (b .0) (b .1) ∙ sym (packed-pad signalCount 0 rs zs (few k) l) ∙ r .number in
-        record {
-          fits = ap₂ (λ (c d : Bool). c && d) (b .2) (sym (labels-hold x) ∙ ap₂ (λ (i : ℕ) (ys : List ℤ). allTake (rowsOf i) ys) (b .0) (b .1) ∙ taken);
-          identifier = ap identifierOf (b .0) ∙ t .identifier;
-          form = ap extendedOf (b .0) ∙ t .form;
-          sized = ap lengthOf (b .0) ∙ sym (t .sized);
-          bytes = ap₂ (λ (i y : ℕ). bytesOf (bigOf i) (lengthOf i) y) (b .0) number ∙ r .bytes;
-        }
+same : (m : ℕ) (extended : Bool) (bs : List ℕ) (x : Message) → readOf m extended bs ≡ Accepted x → Bytes bs → codecs.Same codec m extended bs x
+unfolding messageOf
+same m extended bs x e hb =
+    let f = frame-read m extended bs x e in
+    subst (codecs.Same codec m extended bs) (f .3) (codecs.same codec m extended bs (f .0) (f .1) (f .2) (accepted m extended bs (f .0) (f .1) (f .2) .some) hb)
 
 -- x is written under the identifier m as the bytes bs, into any buffer with room for them, whose other bytes stay
 abbrev pub WrittenAs : ℕ → List ℕ → Message → Type 0
@@ -193,16 +147,10 @@ read-write m extended bs x e hb buf room =
 -- ---- a message, as its bytes are read
 
 reads : (x : Message) → writable x ≡ true → readOf (identifierOf (kindOf x)) (formOf x) (bytesFor x) ≡ Accepted x
+unfolding messageOf
 reads x w =
-    let k = kindOf x in
-    let rs = rowsOf k in
-    let n = payloadOf x in
-    let p = both-true (hasRaws x) (allFit rs (rawsOf x)) w in
-    let taken : allTake rs (rawsOf x) ≡ true = labels-hold x ∙ p .1 in
-    let r = raws-there k (rawsOf x) (ap₂ (λ (a b : Bool). a && b) (le-leb 1 (length rs) (known-kind x)) taken) in
-    let again : wholesOf n rs ≡ rawsOf x = r .raws ∙ take-all (length rs) (rawsOf x) (omega (arith, counted x)) in
-    read-frame (identifierOf k) (formOf x) (bytesFor x) k n (r .reads)
-    ∙ ap Accepted (message-is k n ∙ ap (λ (zs : List ℤ). builtOf k (at zs)) again ∙ there x (p .0) taken)
+    let r = codecs.reads codec x w in
+    read-frame (identifierOf (kindOf x)) (formOf x) (bytesFor x) (kindOf x) (payloadOf x) (r .0) ∙ ap Accepted (r .1)
 
 -- THEOREM: 01, "what is written reads back as itself", and the buffer changes nowhere else
 pub write-read : (x : Message) (buf : List ℕ) (m k : ℕ) → writeOf x buf ≡ written.Wrote m k

@@ -1,7 +1,3 @@
-pub mod KindNumbers
-pub mod Labels
-pub mod Fields
 pub mod Read
 pub mod Write
-pub mod Parts
 pub mod Readings

@@ -4,33 +4,33 @@ use mathlib.Core.Path.{_≡_, refl}
 use mathlib.Core.Bool.{Bool, true, false}
 use mathlib.Core.List.{List, [], _∷_}
 use lib.IntN.{ℤ, pos, negsuc}
-use Rattle.pages.specs.declared.Refusal.{Refusal}
-use Rattle.pages.specs.declared.Refusal.the-variants.{UnknownIdentifier, TooShort, TooLong, NoLabel, UncoveredBit, NoRawNumber}
-use Rattle.pages.specs.declared.Judged.the-variants as judged
-use Rattle.pages.specs.declared.Written.{Written}
-use Rattle.pages.specs.declared.Written.the-variants as written
-use Rattle.pages.specs.Charger.{chargerRows}
-use Rattle.pages.specs.Safety.{safetyRows}
-use Rattle.pages.specs.Table.{rows, ofKind, firstAt, covered, identifierOf, lengthOf, bigOf}
-use Rattle.pages.specs.Judge.{unlabelled, offender, strayBelow, judgedNumber, judgeOf}
-use Rattle.pages.specs.Raws as pages
-use Rattle.pages.specs.Change.{changeOf, bytesAfter}
+use Rattle.refusals.specs.declared.Refusal.{Refusal}
+use Rattle.refusals.specs.declared.Refusal.the-variants.{UnknownIdentifier, TooShort, TooLong, NoLabel, UncoveredBit, NoRawNumber}
+use Rattle.page_read.specs.declared.Judged.the-variants as judged
+use Rattle.page_write.specs.declared.Written.{Written}
+use Rattle.page_write.specs.declared.Written.the-variants as written
+use Rattle.page_rows.specs.Table.{rows, ofKind, firstAt, covered, identifierOf, lengthOf, bigOf}
+use Rattle.page_read.specs.Judge.{unlabelled, offender, strayBelow, judgedNumber, judgeOf}
+use Rattle.page_write.specs.Raws as pages
+use Rattle.page_change.specs.Change.{changeOf, bytesAfter}
 use Rattle.signal.specs.Signal.{getBits, putBits}
 use Rattle.payload.specs.Payload.{leNumber, leBytes, beNumber, beBytes, storedIn}
 use Rattle.signal.specs.Twos.{toSigned, ofSigned}
-use Rattle.messages.specs.declared.PowerModulesStatus.{PowerModulesStatus}
-use Rattle.messages.specs.declared.SystemEnable.the-variants.{Allowed}
-use Rattle.messages.specs.declared.ChargeControl1.{ChargeControl1}
-use Rattle.messages.specs.declared.ChargeState1.{ChargeState1}
-use Rattle.messages.specs.declared.Pt1000State.{Pt1000State}
-use Rattle.messages.specs.declared.CpState.the-variants as cp
-use Rattle.messages.specs.declared.PpState.the-variants as pp
-use Rattle.messages.specs.declared.Message.{Message}
-use Rattle.messages.specs.declared.Message.the-variants.{Status, SafetyControl, SafetyState, Probes}
+use Rattle.message_types.specs.declared.PowerModulesStatus.{PowerModulesStatus}
+use Rattle.message_types.specs.declared.SystemEnable.the-variants.{Allowed}
+use Rattle.message_types.specs.declared.ChargeControl1.{ChargeControl1}
+use Rattle.message_types.specs.declared.ChargeState1.{ChargeState1}
+use Rattle.message_types.specs.declared.Pt1000State.{Pt1000State}
+use Rattle.message_types.specs.declared.CpState.the-variants as cp
+use Rattle.message_types.specs.declared.PpState.the-variants as pp
+use Rattle.message_types.specs.declared.Message.{Message}
+use Rattle.message_types.specs.declared.Message.the-variants.{Status, SafetyControl, SafetyState, Probes}
 use Rattle.messages.specs.declared.Reading.{Reading}
 use Rattle.messages.specs.declared.Reading.the-variants.{Accepted, Refused}
-use Rattle.messages.specs.Read.{readOf, messageOf, builtOf}
-use Rattle.messages.specs.Write.{rawsOf, writeOf, bufferAfter}
+use Rattle.messages.specs.Read.{readOf}
+use Rattle.message_build.specs.Built.{messageOf, builtOf}
+use Rattle.message_take.specs.Take.{rawsOf}
+use Rattle.messages.specs.Write.{writeOf, bufferAfter}
 
 -- the form of an identifier
 abbrev standard : Bool
@@ -161,5 +161,5 @@ table =
     ∷ []
 
 pub readings : All table
-unfolding readOf messageOf builtOf rawsOf writeOf bufferAfter rows chargerRows safetyRows ofKind firstAt covered identifierOf lengthOf bigOf unlabelled offender strayBelow judgedNumber judgeOf changeOf getBits putBits leNumber leBytes beNumber beBytes storedIn toSigned ofSigned pages.rawsOf pages.wholesOf pages.pad pages.allTake pages.packedOn pages.writeRawsOf pages.bufferAfter
+unfolding readOf messageOf builtOf rawsOf writeOf bufferAfter rows ofKind firstAt covered identifierOf lengthOf bigOf unlabelled offender strayBelow judgedNumber judgeOf changeOf getBits putBits leNumber leBytes beNumber beBytes storedIn toSigned ofSigned pages.rawsOf pages.wholesOf pages.pad pages.allTake pages.packedOn pages.writeRawsOf pages.bufferAfter
 readings = (refl, (refl, (refl, (refl, (refl, (refl, (refl, (refl, ((refl, refl), ((refl, refl), ((refl, refl), ((refl, refl), (refl, (refl, (refl, ((refl, refl), (refl, (refl, (refl, ((refl, refl), ((refl, refl), ((refl, refl), (refl, (refl, (refl, ((refl, refl), (refl, (refl, (refl, (refl, (refl, (refl, (refl, tt)))))))))))))))))))))))))))))))))

@@ -8,7 +8,7 @@ use crate::night::fresh;
 use crate::night::stored;
 use crate::pieces;
 use crate::say;
-use notation::script;
+use notation_read::script;
 use std::num::wrapping_add_u64;
 
 // desk.md: "a line over 65,535 bytes"
@@ -24,7 +24,7 @@ fn taken(night: Night, s: &[u8], name: &[u8], room: &mut [u8], out: &mut [u8]) -
             night
         }
         Record::Refused(why) => {
-            say::refused(night.line, pages::refusal_number(why), out);
+            say::refused(night.line, refusals::refusal_number(why), out);
             night
         }
         Record::Bytes(size) => stored(night, size, name, out),

@@ -1,8 +1,8 @@
 // A line of the input and its record.
-use log::Logged;
-use notation::heard;
-use notation::heard::Heard;
-use pages::Refusal;
+use log_write::Logged;
+use notation_read::heard;
+use notation_read::heard::Heard;
+use refusals::Refusal;
 
 // A record's bytes are the first of the buffer that was lent for them; Bad where the line is no frame or tick.
 pub enum Record {
@@ -12,7 +12,7 @@ pub enum Record {
 }
 
 fn heard_in(s: &[u8], room: &mut [u8]) -> Heard {
-    let e = text::word_end(s, 0);
+    let e = text_lines::word_end(s, 0);
     if e >= s.len() {
         return Heard::Bad;
     }
@@ -47,9 +47,9 @@ fn record_in(h: Heard, room: &[u8], out: &mut [u8]) -> Record {
             if length > room.len() {
                 return Record::Bad;
             }
-            as_record(log::write_frame(time, channel, id, extended, &room[0..length], out))
+            as_record(log_write::write_frame(time, channel, id, extended, &room[0..length], out))
         }
-        Heard::Tick { channel, time } => as_record(log::write_tick(time, channel, out)),
+        Heard::Tick { channel, time } => as_record(log_write::write_tick(time, channel, out)),
     }
 }
 

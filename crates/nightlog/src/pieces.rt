@@ -2,10 +2,10 @@
 // 5 + 1 + 5 + 1 + 8 bytes, so every piece but the last holds some.
 use crate::say;
 use crate::show;
-use log::Found;
-use pages::Refusal;
+use log_records::Found;
+use refusals::Refusal;
 use std::num::wrapping_add_u64;
-use text::Pen;
+use text_pen::Pen;
 
 // How a log ends; Failed where the file could not be read to its end, which was said, or its lines could not be written.
 pub enum Ending {
@@ -81,7 +81,7 @@ fn within(n: usize, at: u64, size: u64) -> usize {
     if (n as u64) < left { n } else { left as usize }
 }
 
-fn shown_if(shown: bool, piece: &[u8], e: log::Entry, out: &mut [u8], pen: Pen) -> Pen {
+fn shown_if(shown: bool, piece: &[u8], e: log_records::Entry, out: &mut [u8], pen: Pen) -> Pen {
     if shown {
         return show::record(piece, e, out, pen);
     }
@@ -94,7 +94,7 @@ fn records_in(piece: &[u8], shown: bool, pen: Pen, out: &mut [u8]) -> Passed {
     let mut p = pen;
     let mut turns = piece.len();
     while turns > 0 {
-        let Found::Record(e) = log::record_at(piece, at) else {
+        let Found::Record(e) = log_read::record_at(piece, at) else {
             return Passed {
                 records,
                 at,
@@ -148,7 +148,7 @@ fn taken(w: Walk, piece: &[u8], shown: bool, name: &[u8], out: &mut [u8]) -> Wal
     if pen.full {
         return ended(next, Ending::Failed);
     }
-    judged(next, log::record_at(piece, at), at == 0, last, name)
+    judged(next, log_read::record_at(piece, at), at == 0, last, name)
 }
 
 // The file is read before its length is asked, so that a folder is an error, whatever its length.

@@ -2,8 +2,8 @@
 use crate::pieces;
 use crate::pieces::Ending;
 use crate::say;
-use log::Entry;
-use text::Pen;
+use log_records::Entry;
+use text_pen::Pen;
 
 // The lines so far are written. A pen that is full stops the walk.
 fn flushed(out: &[u8], pen: Pen) -> Pen {
@@ -27,23 +27,23 @@ fn with_room(out: &[u8], pen: Pen) -> Pen {
 
 // `WORD CHANNEL TIME`
 fn put_stamp(out: &mut [u8], pen: Pen, word: &[u8], channel: u32, time: u32) -> Pen {
-    let p = notation::answer::named(out, pen, word, channel);
-    notation::answer::named(out, p, b" ", time)
+    let p = notation_answers::answer::named(out, pen, word, channel);
+    notation_answers::answer::named(out, p, b" ", time)
 }
 
 fn put_form(out: &mut [u8], pen: Pen, extended: bool) -> Pen {
     if extended {
-        return text::put(out, pen, b" x");
+        return text_pen::put(out, pen, b" x");
     }
-    text::put(out, pen, b" s")
+    text_pen::put(out, pen, b" s")
 }
 
 // ` ID x|s HEX`
 fn put_frame(out: &mut [u8], pen: Pen, id: u32, extended: bool, bytes: &[u8]) -> Pen {
-    let p = text::put(out, pen, b" ");
-    let q = text::put_hexadecimal(out, p, id as u64);
+    let p = text_pen::put(out, pen, b" ");
+    let q = text_written::put_hexadecimal(out, p, id as u64);
     let r = put_form(out, q, extended);
-    notation::answer::bytes_end(out, r, bytes)
+    notation_answers::answer::bytes_end(out, r, bytes)
 }
 
 // A record of this log as its line.
@@ -51,18 +51,24 @@ pub fn record(s: &[u8], e: Entry, out: &mut [u8], pen: Pen) -> Pen {
     let p = with_room(out, pen);
     if e.tick {
         let q = put_stamp(out, p, b"tick ", e.channel, e.time);
-        return notation::answer::line_end(out, q);
+        return notation_answers::answer::line_end(out, q);
     }
     let q = put_stamp(out, p, b"frame ", e.channel, e.time);
-    put_frame(out, q, e.id, e.extended, log::payload(s, e.start, e.length))
+    put_frame(
+        out,
+        q,
+        e.id,
+        e.extended,
+        log_read::payload(s, e.start, e.length),
+    )
 }
 
 // `END`, `CUT@BYTE` or `BAD R<n>@BYTE`
 pub fn put_ending(out: &mut [u8], pen: Pen, ending: Ending, at: u64) -> Pen {
     match ending {
-        Ending::End => text::put(out, pen, b"END"),
-        Ending::Cut => notation::ending::cut(out, pen, at),
-        Ending::Bad(why) => notation::ending::bad(out, pen, why, at),
+        Ending::End => text_pen::put(out, pen, b"END"),
+        Ending::Cut => notation_endings::ending::cut(out, pen, at),
+        Ending::Bad(why) => notation_endings::ending::bad(out, pen, why, at),
         Ending::Failed => pen,
     }
 }
@@ -90,7 +96,7 @@ fn is_failed(ending: Ending) -> bool {
 pub fn say_ending(name: &[u8], ending: Ending, at: u64, words: &[u8], out: &mut [u8]) {
     let p = say::about(name, out);
     let q = put_ending(out, p, ending, at);
-    let r = text::put(out, q, words);
+    let r = text_pen::put(out, q, words);
     say::ended(r, out);
 }
 
@@ -109,10 +115,10 @@ pub fn lines(name: &[u8]) {
 
 // `N records, ENDING`
 fn put_count(out: &mut [u8], records: u64, ending: Ending, at: u64) -> Pen {
-    let p = text::put_decimal(out, Pen { at: 0, full: false }, records);
-    let q = text::put(out, p, b" records, ");
+    let p = text_written::put_decimal(out, Pen { at: 0, full: false }, records);
+    let q = text_pen::put(out, p, b" records, ");
     let r = put_ending(out, q, ending, at);
-    notation::answer::line_end(out, r)
+    notation_answers::answer::line_end(out, r)
 }
 
 pub fn count(name: &[u8]) {

@@ -1,15 +1,15 @@
 // A post after one event more.
 ghost use mathlib.Core.Path.{_≡_};
-ghost use Rattle.post.specs.Record.{unknown, slotAt, closedSession};
-ghost use Rattle.post.specs.Step.{statusPut, controlPut, openedBy, sessionAfter, agedTo, withFrame};
-use crate::KINDS;
-use crate::Post;
-use crate::Session;
-use crate::Slot;
-use messages::CONTROL;
-use messages::FINISHED;
-use messages::SESSION;
-use messages::STATUS;
+ghost use Rattle.rules.specs.Record.{unknown, slotAt, closedSession};
+ghost use Rattle.rules.specs.Step.{statusPut, controlPut, openedBy, sessionAfter, agedTo, withFrame};
+use message_types::CONTROL;
+use message_types::FINISHED;
+use message_types::SESSION;
+use message_types::STATUS;
+use rules::KINDS;
+use rules::Post;
+use rules::Session;
+use rules::Slot;
 
 fn no_slot() -> Slot
     ensures { λ r. ⌜ r ≡ unknown ⌝ }

@@ -3,8 +3,8 @@ mod posts; // posts.rt: the watch
 mod show; // show.rt: numbers, bytes and answers as text
 mod steps; // steps.rt: steps on a table, with their answers
 
-use messages::Plug;
-use messages::Protocol;
+use message_types::Plug;
+use message_types::Protocol;
 use show::change;
 use show::limited;
 use show::probe;

@@ -9,8 +9,8 @@ use crate::steps::release;
 use crate::steps::set_up;
 use crate::steps::standard;
 use crate::steps::tick;
-use post::Sensor;
-use watch::Table;
+use rule_limits::Sensor;
+use watch_rules::Table;
 
 const STATUS: u32 = 0x63000;
 
@@ -142,8 +142,8 @@ fn channels() {
 }
 
 // The lowest of each limit, and a voltage.
-fn lowest(voltage: u32) -> post::Limits {
-    post::Limits {
+fn lowest(voltage: u32) -> rule_limits::Limits {
+    rule_limits::Limits {
         voltage,
         charge: 1,
         discharge: 0,

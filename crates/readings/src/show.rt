@@ -1,19 +1,19 @@
 // Numbers, bytes and answers as text on standard output.
 use libc::STDOUT_FILENO;
-use messages::ChargeControl1;
-use messages::Message;
-use messages::NewChargeSession;
-use messages::Plug;
-use messages::PowerModulesStatus;
-use messages::Protocol;
-use messages::Pt1000State;
-use messages::SystemEnable;
-use pages::Judged;
-use pages::Refusal;
-use pages::Written;
+use message_types::ChargeControl1;
+use message_types::Message;
+use message_types::NewChargeSession;
+use message_types::Plug;
+use message_types::PowerModulesStatus;
+use message_types::Protocol;
+use message_types::Pt1000State;
+use message_types::SystemEnable;
+use page_read::Judged;
+use page_write::Written;
+use refusals::Refusal;
 use service::Probe;
 
-// The places that a message's raw numbers have, as in `pages::raws_of`.
+// The places that a message's raw numbers have, as in `page_write::raws_of`.
 const SIGNALS: usize = 16;
 
 pub fn text(s: &[u8]) {
@@ -47,12 +47,12 @@ pub fn bytes(s: &[u8]) {
 }
 
 pub fn refusal(w: Refusal) {
-    let n = pages::refusal_number(w);
+    let n = refusals::refusal_number(w);
     text(b"R");
     natural(n as u64);
     if n == 5 {
         text(b":");
-        natural(pages::refusal_start(w) as u64);
+        natural(refusals::refusal_start(w) as u64);
     }
 }
 
@@ -76,7 +76,7 @@ fn judged(j: Judged) {
             text(b"kind ");
             natural(kind as u64);
             text(b":");
-            raws(pages::raws_of(kind, n));
+            raws(page_write::raws_of(kind, n));
         }
         Judged::Refused(w) => refusal(w),
     }
@@ -88,7 +88,7 @@ pub fn read(id: u32, extended: bool, payload: &[u8]) {
     text(b" ");
     bytes(payload);
     text(b" -> ");
-    judged(pages::judge(id, extended, payload));
+    judged(page_read::judge(id, extended, payload));
     text(b"\n");
 }
 
@@ -99,7 +99,7 @@ pub fn change(id: u32, extended: bool, payload: &mut [u8], start: u32, raw: i64)
     natural(start as u64);
     text(b" to ");
     number(raw);
-    let j = pages::change(id, extended, payload, start, raw);
+    let j = page_change::change(id, extended, payload, start, raw);
     text(b" -> ");
     bytes(payload);
     text(b" ");

@@ -4,17 +4,17 @@ use crate::show::natural;
 use crate::show::refusal;
 use crate::show::text;
 use libc::STDOUT_FILENO;
-use messages::kind_of;
-use pages::Refusal;
-use post::Dated;
-use post::KINDS;
-use post::LastTime;
-use post::Limits;
-use post::Sensor;
-use post::SessionPart;
-use watch::Answer;
-use watch::Setting;
-use watch::Table;
+use message_types::kind_of;
+use refusals::Refusal;
+use rule_limits::Limits;
+use rule_limits::Sensor;
+use rules::Dated;
+use rules::KINDS;
+use rules::LastTime;
+use rules::SessionPart;
+use watch_rules::Answer;
+use watch_rules::Setting;
+use watch_rules::Table;
 
 fn refused(w: Refusal) {
     text(b" -> ");

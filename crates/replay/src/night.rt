@@ -6,9 +6,9 @@ use crate::piece::Behind;
 use crate::say;
 use crate::tally;
 use crate::tally::Tally;
-use playing::Replay;
+use playing_nights::Replay;
 use std::num::wrapping_add_u64;
-use text::Pen;
+use text_pen::Pen;
 
 // `at` is the byte of the file behind the records so far; `behind` is what stands there once no more is read.
 pub struct Night {

@@ -1,5 +1,5 @@
 // The output buffer: lines wait in it until they are many. A pen that is full stops the replay.
-use text::Pen;
+use text_pen::Pen;
 
 pub fn flushed(out: &[u8], pen: Pen) -> Pen {
     let at = pen.at;
@@ -17,7 +17,7 @@ pub fn flushed(out: &[u8], pen: Pen) -> Pen {
 pub fn put(out: &mut [u8], pen: Pen, line: &[u8]) -> Pen {
     if pen.at > 32768 {
         let p = flushed(out, pen);
-        return text::put(out, p, line);
+        return text_pen::put(out, p, line);
     }
-    text::put(out, pen, line)
+    text_pen::put(out, pen, line)
 }

@@ -2,10 +2,10 @@
 use crate::paper;
 use crate::tally;
 use crate::tally::Tally;
-use pages::Refusal;
-use playing::Played;
-use playing::Replay;
-use text::Pen;
+use playing_nights::Played;
+use playing_nights::Replay;
+use refusals::Refusal;
+use text_pen::Pen;
 
 // What stands behind the records of a piece: Going while a record may follow.
 pub enum Behind {
@@ -100,7 +100,7 @@ pub fn played(
     let mut c = start;
     let mut turns = piece.len();
     while turns > 0 {
-        let n = playing::next_line(r, piece, c.at, line);
+        let n = playing_calls::next_line(r, piece, c.at, line);
         r = n.replay;
         let answer = n.answer;
         c = answered(c, answer, line, out);

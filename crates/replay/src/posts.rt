@@ -1,12 +1,12 @@
 // The set-ups of a file: the desk's `setup` lines, blank lines and comments.
 use crate::say;
-use notation::script;
-use notation::setup;
-use notation::setup::Asked;
-use pages::Refusal;
-use playing::Preparing;
-use playing::Replay;
-use post::PlainLimits;
+use notation_read::script;
+use notation_setup::setup;
+use notation_setup::setup::Asked;
+use playing_nights::Preparing;
+use playing_nights::Replay;
+use refusals::Refusal;
+use rule_limits::PlainLimits;
 use std::num::wrapping_add_u64;
 
 // A replay with its set-ups; not ready where the file holds something else, or a set-up was refused, and that was said.
@@ -18,7 +18,7 @@ pub struct Posts {
 
 fn fresh() -> Posts {
     Posts {
-        replay: playing::start(),
+        replay: playing_setups::start(),
         line: 0,
         ready: true,
     }
@@ -31,7 +31,7 @@ fn stopped(p: Posts) -> Posts {
 }
 
 fn asked_in(s: &[u8]) -> Asked {
-    let e = text::word_end(s, 0);
+    let e = text_lines::word_end(s, 0);
     if e >= s.len() {
         return Asked::Bad;
     }
@@ -54,7 +54,7 @@ fn refused(p: Posts, name: &[u8], why: Refusal) -> Posts {
 // No set-up here is late: the records come after the file.
 fn prepared(p: Posts, name: &[u8], post: u32, channel: u32, limits: PlainLimits) -> Posts {
     let line = p.line;
-    let r = playing::set_up(p.replay, post, channel, limits);
+    let r = playing_setups::set_up(p.replay, post, channel, limits);
     let replay = r.replay;
     let answer = r.answer;
     let q = Posts {
@@ -107,7 +107,7 @@ fn lines_in(name: &[u8], file: &[u8]) -> Posts {
     let mut p = fresh();
     let mut at = 0;
     while at < file.len() {
-        let e = text::part_end(file, at, b'\n');
+        let e = text_lines::part_end(file, at, b'\n');
         p = taken(p, name, &file[at..e]);
         if !p.ready {
             return p;

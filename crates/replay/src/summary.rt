@@ -3,22 +3,22 @@ use crate::night::Night;
 use crate::piece::Behind;
 use crate::say;
 use crate::tally::Tally;
-use text::Pen;
+use text_pen::Pen;
 
 // desk.md: `END`, `CUT@BYTE` or `BAD R<n>@BYTE`
 fn put_ending(out: &mut [u8], pen: Pen, behind: Behind, at: u64) -> Pen {
     match behind {
         Behind::Going => pen,
-        Behind::End => text::put(out, pen, b"END"),
-        Behind::Cut => notation::ending::cut(out, pen, at),
-        Behind::Bad(why) => notation::ending::bad(out, pen, why, at),
+        Behind::End => text_pen::put(out, pen, b"END"),
+        Behind::Cut => notation_endings::ending::cut(out, pen, at),
+        Behind::Bad(why) => notation_endings::ending::bad(out, pen, why, at),
         Behind::Failed => pen,
     }
 }
 
 fn put_counted(out: &mut [u8], pen: Pen, n: u64, words: &[u8]) -> Pen {
-    let p = text::put_decimal(out, pen, n);
-    text::put(out, p, words)
+    let p = text_written::put_decimal(out, pen, n);
+    text_pen::put(out, p, words)
 }
 
 // `N records: N accepted, N refused`
@@ -33,8 +33,8 @@ fn put_number(out: &mut [u8], pen: Pen, name: &[u8], k: u32, n: u64) -> Pen {
     if n == 0 {
         return pen;
     }
-    let p = notation::answer::named(out, pen, name, k);
-    let q = text::put(out, p, b": ");
+    let p = notation_answers::answer::named(out, pen, name, k);
+    let q = text_pen::put(out, p, b": ");
     put_counted(out, q, n, b"\n")
 }
 
@@ -62,7 +62,7 @@ pub fn say(w: Night) {
     let records = w.replay.count;
     let mut out = io::large_buffer();
     let p = put_ending(&mut out, Pen { at: 0, full: false }, behind, at);
-    let q = notation::answer::line_end(&mut out, p);
+    let q = notation_answers::answer::line_end(&mut out, p);
     let r = put_tally(&mut out, q, records, w.tally);
     say::written(r.at, &out);
 }

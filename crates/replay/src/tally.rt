@@ -1,6 +1,6 @@
 // Answers counted by their numbers, as the lines tell them.
 use std::num::wrapping_add_u64;
-use text::Number;
+use text_numbers::Number;
 
 // Refusals and findings by their numbers, which 01 and 02 have up to 29 and 12.
 pub struct Tally {
@@ -21,11 +21,11 @@ pub fn none() -> Tally {
 
 // Where the answer's letter stands in a line: behind the count and the post.
 fn letter_at(line: &[u8]) -> usize {
-    let a = text::word_end(line, 0);
+    let a = text_lines::word_end(line, 0);
     if a >= line.len() {
         return line.len();
     }
-    let b = text::word_end(line, a + 1);
+    let b = text_lines::word_end(line, a + 1);
     if b >= line.len() {
         return line.len();
     }
@@ -37,8 +37,8 @@ fn number_at(line: &[u8], from: usize) -> u64 {
     if from > line.len() {
         return 0;
     }
-    let space = text::word_end(line, from);
-    let feed = text::part_end(line, from, b'\n');
+    let space = text_lines::word_end(line, from);
+    let feed = text_lines::part_end(line, from, b'\n');
     let end = if space < feed { space } else { feed };
     if end > line.len() {
         return 0;
@@ -46,7 +46,7 @@ fn number_at(line: &[u8], from: usize) -> u64 {
     if end < from {
         return 0;
     }
-    match text::decimal(&line[from..end], 0xffffffff) {
+    match text_numbers::decimal(&line[from..end], 0xffffffff) {
         Number::Bad => 0,
         Number::Is(n) => n,
     }

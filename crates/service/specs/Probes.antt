@@ -4,7 +4,7 @@ use mathlib.Core.Bool.{Bool, true, false, cond}
 use lib.Dec.{eqb}
 use lib.IntN.{ℤ, pos, negsuc}
 use lib.Ieee.{Float, binary32, round}
-use Rattle.messages.specs.declared.Pt1000State.{Pt1000State}
+use Rattle.message_types.specs.declared.Pt1000State.{Pt1000State}
 use Rattle.service.specs.declared.Probe.{Probe}
 use Rattle.service.specs.declared.Probe.the-variants.{NotUsed, Degrees}
 use Rattle.service.specs.declared.Screen.{Screen}

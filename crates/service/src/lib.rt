@@ -3,7 +3,7 @@ ghost use mathlib.Core.Path.{_≡_};
 ghost use lib.Ieee.{binary32, toBits};
 ghost use Rattle.service.specs.Probes.{degreesOf, probeOf, screenOf};
 ghost use Rattle.service.specs.Duty.{limitedDuty};
-use messages::Pt1000State;
+use message_types::Pt1000State;
 
 // One of 004's four PT1000 channels. 02: "a probe reading is either degrees as a float or not used"
 pub enum Probe {

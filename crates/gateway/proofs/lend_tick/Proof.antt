@@ -9,7 +9,7 @@ use denote.Triple.Table.{entered}
 use Rattle.gateway.proofs.Entries.{tick-takes, tick-leaves}
 use Rattle.gateway.proofs.Entry.{values}
 use Rattle.gateway.proofs.Lends.{by-lending, meets}
-use Rattle.gateway.proofs.Params.{word}
+use Rattle.lent_walks.proofs.Params.{word}
 use Rattle.gateway.proofs.rokemaipu_tick as callee
 use Rattle.gateway.proofs.rokemaipu_tick.Symbol as callee-def
 use Rattle.gateway.proofs.rokemaipu_tick.Met as callee-thm

@@ -4,14 +4,14 @@ use contract.Monad.{factI}
 use contract.Running.{tables}
 use denote.Triple.Spec.{tripleOf}
 use denote.Triple.Table.{entered}
-use Rattle.gateway.proofs.Answered.{by-value}
+use Rattle.lent_walks.proofs.Answered.{by-value}
 use Rattle.gateway.proofs.Entries.{start-takes, start-leaves}
 use Rattle.gateway.proofs.Entry.{values}
-use Rattle.gateway.proofs.Params.{slots}
+use Rattle.lent_walks.proofs.Params.{slots}
 use Rattle.gateway.proofs.Thin.{whole, meets}
-use Rattle.gateway.proofs.started as callee
-use Rattle.gateway.proofs.started.Symbol as callee-def
-use Rattle.gateway.proofs.started.Met as callee-thm
+use Rattle.lent_words.proofs.started as callee
+use Rattle.lent_words.proofs.started.Symbol as callee-def
+use Rattle.lent_words.proofs.started.Met as callee-thm
 use Rattle.gateway.proofs.rokemaipu_start.Key.{name as #here}
 use Rattle.gateway.proofs.rokemaipu_start as here
 use Rattle.gateway.proofs.rokemaipu_start.Statement as stated
@@ -23,6 +23,6 @@ rokemaipu-start-spec 𝓤 H 𝓜 𝓖 𝓡 =
     entered 𝓤 H (tripleOf 𝓤 H (𝓖 .A) here.signature (here.spec 𝓤 H (𝓖 .A) (𝓜 .mem) (𝓡 .run)))
     (tables 𝓤 H 𝓜 𝓡 code.env .C) (tables 𝓤 H 𝓜 𝓡 code.env .Λ) #here code.function (code.unfolded 𝓤 H 𝓜 𝓡)
     (meets 𝓤 H 𝓜 𝓖 𝓡 code.env (start-takes 1) (start-leaves 1) callee-def.name
-    (λ κs qs h a. by-value whole 𝓤 H 𝓜 𝓖 𝓡 code.env callee-def.name callee-def.routine code.calls-gateway·started 0 (slots (start-takes 0)) (callee.clauses 𝓤 H (𝓖 .A) (𝓜 .mem) (𝓡 .run)) (callee-thm.met 𝓤 H 𝓜 𝓖 𝓡)
+    (λ κs qs h a. by-value whole 𝓤 H 𝓜 𝓖 𝓡 code.env callee-def.name callee-def.routine code.calls-lent-words·started 0 (slots (start-takes 0)) (callee.clauses 𝓤 H (𝓖 .A) (𝓜 .mem) (𝓡 .run)) (callee-thm.met 𝓤 H 𝓜 𝓖 𝓡)
     (κs .1) (qs .1) h a (values (start-takes 1) κs a) tt (start-leaves 1 κs h a) (id⊢ 𝓤 _) (λ r ws. id⊢ 𝓤 _))
     (here.clauses 𝓤 H (𝓖 .A) (𝓜 .mem) (𝓡 .run)) (λ κs x a g r t d. factI 𝓤 _ (emp 𝓤) d))

@@ -1,21 +1,21 @@
--- `gateway::rokemaipu_tick` meets its contract: `OnePost.antt`'s walk, over what `tick_on` ensures, whose step stored back is the table's (`Same.antt`).
+-- `gateway::rokemaipu_tick` meets its contract: `OnePost.antt`'s walk, over what `tick_on` ensures, whose step stored back is the table's (`Same.antt` of `lent_step`).
 use mathlib.Core.List.{_∷_}
 use base.Logic.{emp, id⊢}
 use contract.Monad.{factI}
 use contract.Running.{tables}
 use denote.Triple.Spec.{tripleOf}
 use denote.Triple.Table.{entered}
-use Rattle.gateway.specs.One.{tickOn, feedOne}
-use Rattle.gateway.proofs.Answered.{by-value}
+use Rattle.lent_step.specs.One.{tickOn, feedOne}
+use Rattle.lent_walks.proofs.Answered.{by-value}
 use Rattle.gateway.proofs.Entries.{tick-takes, tick-leaves}
 use Rattle.gateway.proofs.Entry.{values}
 use Rattle.gateway.proofs.OnePost.{Step, meets}
-use Rattle.gateway.proofs.Params.{word, slots}
+use Rattle.lent_walks.proofs.Params.{word, slots}
 use Rattle.gateway.proofs.Posts.{one}
-use Rattle.gateway.proofs.Same.{tick-same}
-use Rattle.gateway.proofs.tick_on as callee
-use Rattle.gateway.proofs.tick_on.Symbol as callee-def
-use Rattle.gateway.proofs.tick_on.Met as callee-thm
+use Rattle.lent_step.proofs.Same.{tick-same}
+use Rattle.lent_step.proofs.tick_on as callee
+use Rattle.lent_step.proofs.tick_on.Symbol as callee-def
+use Rattle.lent_step.proofs.tick_on.Met as callee-thm
 use Rattle.gateway.proofs.rokemaipu_tick.Key.{name as #here}
 use Rattle.gateway.proofs.rokemaipu_tick as here
 use Rattle.gateway.proofs.rokemaipu_tick.Statement as stated
@@ -29,7 +29,7 @@ unfolding code.routine feedOne
 rokemaipu-tick-spec 𝓤 H 𝓜 𝓖 𝓡 =
     entered 𝓤 H (tripleOf 𝓤 H (𝓖 .A) here.signature (here.spec 𝓤 H (𝓖 .A) (𝓜 .mem) (𝓡 .run)))
     (tables 𝓤 H 𝓜 𝓡 code.env .C) (tables 𝓤 H 𝓜 𝓡 code.env .Λ) #here code.function (code.unfolded 𝓤 H 𝓜 𝓡)
-    (meets 𝓤 H 𝓜 𝓖 𝓡 code.env code.calls-gateway·some-place (tick-takes 1) (tick-leaves 1) callee-def.name step (λ κs h a. tick-same h (a .0) (a .1 .0))
-    (λ κs qs p a. by-value one 𝓤 H 𝓜 𝓖 𝓡 code.env callee-def.name callee-def.routine code.calls-gateway·tick-on 0 (slots (word ∷ tick-takes 0)) (callee.clauses 𝓤 H (𝓖 .A) (𝓜 .mem) (𝓡 .run)) (callee-thm.met 𝓤 H 𝓜 𝓖 𝓡)
+    (meets 𝓤 H 𝓜 𝓖 𝓡 code.env code.calls-lent-step·some-place (tick-takes 1) (tick-leaves 1) callee-def.name step (λ κs h a. tick-same h (a .0) (a .1 .0))
+    (λ κs qs p a. by-value one 𝓤 H 𝓜 𝓖 𝓡 code.env callee-def.name callee-def.routine code.calls-lent-step·tick-on 0 (slots (word ∷ tick-takes 0)) (callee.clauses 𝓤 H (𝓖 .A) (𝓜 .mem) (𝓡 .run)) (callee-thm.met 𝓤 H 𝓜 𝓖 𝓡)
     (κs .1) (qs .1) p a (values (word ∷ tick-takes 1) κs a) tt (step κs p a) (id⊢ 𝓤 _) (λ r ws. id⊢ 𝓤 _))
     (here.clauses 𝓤 H (𝓖 .A) (𝓜 .mem) (𝓡 .run)) (λ κs x a g r t d. factI 𝓤 _ (emp 𝓤) d))

@@ -3,25 +3,13 @@ use mathlib.Core.Path.{_≡_, sym, ap, _∙_}
 use mathlib.Core.Bool.{Bool}
 use mathlib.Core.List.{List}
 use Prim.Native.Nat.{ℕ}
-use Rattle.pages.specs.declared.Judged.{Judged}
-use Rattle.pages.specs.Judge.{judgeOf}
+use Rattle.page_read.specs.declared.Judged.{Judged}
+use Rattle.page_read.specs.Judge.{judgeOf}
 use Rattle.messages.specs.declared.Reading.the-variants.{Accepted}
 use Rattle.messages.specs.Read.{readingOf, readOf}
 use borrow.Author.Needs.{needs}
 use Rattle.messages.proofs.read.Statement.{statement}
 use Rattle.messages.proofs.read.Tie as tie
-
-judge-requires : tie.Need-judge-requires
-judge-requires c κs = search needs
-
-enum-known-kind : tie.Need-enum-known-kind
-enum-known-kind c = search needs
-
-message-of-requires : tie.Need-message-of-requires
-message-of-requires c κs = search needs
-
-enum-known-w : tie.Need-enum-known-w
-enum-known-w c = search needs
 
 -- the reader's answer by numbers, made the message's
 read-by : (m : ℕ) (x : Bool) (bs : List ℕ) (j : Judged) → j ≡ judgeOf m x bs → readingOf j ≡ readOf m x bs
@@ -45,4 +33,4 @@ returns-2 c =
 pub read-spec : {M : Type 1} → statement M
 read-spec =
     tie.close
-    (tie.spec judge-requires enum-known-kind message-of-requires enum-known-w returns returns-2)
+    (tie.spec (λ c κs. search needs) (λ c. search needs) (λ c κs. search needs) (λ c. search needs) returns returns-2)

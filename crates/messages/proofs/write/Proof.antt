@@ -5,18 +5,17 @@ use mathlib.Core.Bool.{Bool, true, false, cond}
 use mathlib.Core.List.{List}
 use Prim.Native.Nat.{ℕ}
 use lib.IntN.{ℤ}
-use Rattle.pages.specs.declared.Refusal.the-variants.{NoRawNumber}
-use Rattle.pages.specs.declared.Written.the-variants.{Refused}
-use Rattle.pages.specs.Raws.{writeRawsOf}
-use Rattle.pages.specs.Raws as pages
-use Rattle.messages.specs.declared.Message.{Message}
-use Rattle.messages.specs.Write.{hasRaws, kindOf, padded, writeOf, bufferAfter}
+use Rattle.refusals.specs.declared.Refusal.the-variants.{NoRawNumber}
+use Rattle.page_write.specs.declared.Written.the-variants.{Refused}
+use Rattle.page_write.specs.Raws.{writeRawsOf}
+use Rattle.page_write.specs.Raws as pages
+use Rattle.message_types.specs.declared.Message.{Message}
+use Rattle.message_take.specs.Take.{hasRaws, padded}
+use Rattle.message_types.specs.KindNumbers.{kindOf}
+use Rattle.messages.specs.Write.{writeOf, bufferAfter}
 use borrow.Author.Needs.{needs}
 use Rattle.messages.proofs.write.Statement.{statement}
 use Rattle.messages.proofs.write.Tie as tie
-
-has-raws-requires : tie.Need-has-raws-requires
-has-raws-requires c κs = search needs
 
 -- by whether each value has a raw number
 writes : (m : Message) (buf : List ℕ) (b : Bool) → hasRaws m ≡ b
@@ -34,18 +33,6 @@ returns c =
     let a = h .before .before .args in
     writes (a .m) (a .buf .now) false (sym (h .has-raws .ensures) ∙ not-true (h .has-raws .result) (c .if1 .taken))
 
-kind-of-requires : tie.Need-kind-of-requires
-kind-of-requires c κs = search needs
-
-raws-requires : tie.Need-raws-requires
-raws-requires c κs = search needs
-
-write-raws-requires : tie.Need-write-raws-requires
-write-raws-requires c κs = search needs
-
-same-length : tie.Need-same-length
-same-length c = search needs
-
 returns-2 : tie.Need-returns-2
 returns-2 c =
     let w = c .before .before in
@@ -62,10 +49,10 @@ pub write-spec : {M : Type 1} → statement M
 write-spec =
     tie.close
     (tie.spec
-    has-raws-requires
+    (λ c κs. search needs)
     returns
-    kind-of-requires
-    raws-requires
-    write-raws-requires
-    same-length
+    (λ c κs. search needs)
+    (λ c κs. search needs)
+    (λ c κs. search needs)
+    (λ c. search needs)
     returns-2)

@@ -1,4 +1,4 @@
--- `signal::be_number` meets its contract. The invariant: n is the number of the bytes before i, with that of those from i to the eighth below it.
+-- `payload::be_number` meets its contract. The invariant: n is the number of the bytes before i, with that of those from i to the eighth below it.
 -- The measure is what is left of them. Assumes nothing.
 use mathlib.Core.Path.{_≡_, sym, subst}
 use mathlib.Core.Logic.{⊎-elim}

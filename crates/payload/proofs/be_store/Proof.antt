@@ -1,4 +1,4 @@
--- `signal::be_store` meets its contract. The invariant: from i up to len stand the low bytes of n, the rest of buf is as it was, and rest is n without them.
+-- `payload::be_store` meets its contract. The invariant: from i up to len stand the low bytes of n, the rest of buf is as it was, and rest is n without them.
 -- The measure is i. Assumes nothing.
 use mathlib.Core.Path.{_≡_, refl, sym, ap, ap₂, _∙_}
 use mathlib.Core.List.{List, _++_}

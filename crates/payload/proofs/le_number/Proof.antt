@@ -1,4 +1,4 @@
--- `signal::le_number` meets its contract. The invariant: n is the number of the first 8 bytes from i on, and a number of as many bytes.
+-- `payload::le_number` meets its contract. The invariant: n is the number of the first 8 bytes from i on, and a number of as many bytes.
 -- The measure is i. Assumes nothing.
 use mathlib.Core.Path.{_≡_, sym, ap, _∙_, subst}
 use mathlib.Core.Logic.{⊎-elim}

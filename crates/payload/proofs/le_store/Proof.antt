@@ -1,4 +1,4 @@
--- `signal::le_store` meets its contract. The invariant: the first i bytes of n stand in buf, the rest of buf is as it was, and rest is n without them.
+-- `payload::le_store` meets its contract. The invariant: the first i bytes of n stand in buf, the rest of buf is as it was, and rest is n without them.
 -- The measure is what is left of len. Assumes nothing.
 use mathlib.Core.Path.{_≡_, refl, sym, ap, ap₂, _∙_}
 use mathlib.Core.List.{List, _++_}

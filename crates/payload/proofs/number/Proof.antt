@@ -1,4 +1,4 @@
--- `signal::number` meets its contract: each order's own number. Assumes nothing.
+-- `payload::number` meets its contract: each order's own number. Assumes nothing.
 use mathlib.Core.Path.{sym, ap, _∙_}
 use mathlib.Core.Bool.{Bool}
 use lib.ListN.{take}

@@ -1,4 +1,4 @@
--- `signal::store` meets its contract: each order's own store where the buffer is long enough. Assumes nothing.
+-- `payload::store` meets its contract: each order's own store where the buffer is long enough. Assumes nothing.
 use mathlib.Core.Path.{sym, ap, _∙_}
 use mathlib.Core.Bool.{Bool}
 use mathlib.Core.List.{_++_}

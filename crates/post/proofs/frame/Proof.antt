@@ -1,6 +1,6 @@
 -- `post::frame` meets its contract: the post is aged, judged there, and then given the frame.
 use borrow.Author.Needs.{needs}
-use Rattle.post.specs.Step.{frameStep}
+use Rattle.rules.specs.Step.{frameStep}
 use Rattle.post.proofs.frame.Statement.{statement}
 use Rattle.post.proofs.frame.Tie as tie
 

@@ -1,6 +1,6 @@
 -- `post::tick` meets its contract: the post is aged, and judged there.
 use borrow.Author.Needs.{needs}
-use Rattle.post.specs.Step.{tickStep}
+use Rattle.rules.specs.Step.{tickStep}
 use Rattle.post.proofs.tick.Statement.{statement}
 use Rattle.post.proofs.tick.Tie as tie
 

@@ -2,7 +2,7 @@
 use mathlib.Core.Path.{_∙_}
 use mir.Facts.{toZ-ofZ}
 use borrow.Author.Needs.{needs}
-use Rattle.text.proofs.Signs.{not-below, cast-fits}
+use Rattle.text_numbers.proofs.Signs.{not-below, cast-fits}
 use Rattle.nightlog.proofs.pieces.length.Statement.{statement}
 use Rattle.nightlog.proofs.pieces.length.Tie as tie
 

@@ -6,9 +6,9 @@ use lib.ListN.{length, set}
 use lib.Seq.{set-out}
 use native.Mathlib.Omega.{arith}
 use borrow.Author.Needs.{needs}
-use Rattle.post.specs.Record.{kindCount, slotAt}
-use Rattle.post.specs.Step.{withFrame}
-use Rattle.post.proofs.Unmapped.{unmapped}
+use Rattle.rules.specs.Record.{kindCount, slotAt}
+use Rattle.rules.specs.Step.{withFrame}
+use Rattle.rules.proofs.Unmapped.{unmapped}
 use Rattle.post.proofs.step.with_frame.Statement.{statement}
 use Rattle.post.proofs.step.with_frame.Tie as tie
 

@@ -1,0 +1,84 @@
+// The word that a line begins with, by the step that it names.
+
+// The steps that change the table.
+pub enum Changing {
+    No,
+    Frame,
+    Tick,
+    Setup,
+    Release,
+}
+
+pub fn changing_word(word: &[u8]) -> Changing {
+    if check::same(word, b"frame") {
+        return Changing::Frame;
+    }
+    if check::same(word, b"tick") {
+        return Changing::Tick;
+    }
+    if check::same(word, b"setup") {
+        return Changing::Setup;
+    }
+    if check::same(word, b"release") {
+        return Changing::Release;
+    }
+    Changing::No
+}
+
+// The steps on the table as it is, and on a frame by itself.
+pub enum Showing {
+    No,
+    Record,
+    Read,
+    Change,
+    Write,
+}
+
+pub fn showing_word(word: &[u8]) -> Showing {
+    if check::same(word, b"record") {
+        return Showing::Record;
+    }
+    if check::same(word, b"read") {
+        return Showing::Read;
+    }
+    if check::same(word, b"change") {
+        return Showing::Change;
+    }
+    if check::same(word, b"write") {
+        return Showing::Write;
+    }
+    Showing::No
+}
+
+// The steps of a log, of the service screen and of words.
+pub enum Telling {
+    No,
+    LogWrite,
+    LogRead,
+    Replay,
+    Probe,
+    Duty,
+    Explain,
+}
+
+pub fn telling_word(word: &[u8]) -> Telling {
+    if check::same(word, b"logw") {
+        return Telling::LogWrite;
+    }
+    if check::same(word, b"logr") {
+        return Telling::LogRead;
+    }
+    if check::same(word, b"replay") {
+        return Telling::Replay;
+    }
+    if check::same(word, b"probe") {
+        return Telling::Probe;
+    }
+    if check::same(word, b"duty") {
+        return Telling::Duty;
+    }
+    if check::same(word, b"explain") {
+        return Telling::Explain;
+    }
+    Telling::No
+}

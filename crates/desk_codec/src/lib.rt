@@ -1,0 +1,8 @@
+// The steps on a frame by itself, `read`, `change` and `write`, for the desk alone.
+mod reading; // reading.rt: the step read
+mod changing; // changing.rt: the step change
+mod writing; // writing.rt: the step write
+
+pub use changing::change;
+pub use reading::read;
+pub use writing::write;

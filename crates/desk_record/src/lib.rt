@@ -1,0 +1,188 @@
+// A post's record as one line: the step `record`, for the desk alone.
+use desk_values::message;
+use message_types::Plug;
+use message_types::Protocol;
+use message_types::labels::plug_number;
+use message_types::labels::protocol_number;
+use notation_answers::answer;
+use notation_answers::answer::named;
+use notation_read::fields;
+use notation_read::fields::Last;
+use rule_limits::Limits;
+use rule_limits::kept::sensor_number;
+use rules::Dated;
+use rules::KINDS;
+use rules::LastTime;
+use rules::OpenSession;
+use rules::Record;
+use rules::SessionPart;
+use text_pen::Pen;
+use watch_rules::LookedUp;
+use watch_rules::Setting;
+use watch_rules::Table;
+
+// `MSG@T`, or `-`
+fn put_dated(out: &mut [u8], pen: Pen, d: Dated) -> Pen {
+    match d {
+        Dated::Nothing => text_pen::put(out, pen, b"-"),
+        Dated::At(time, m) => {
+            let p = message::put(out, pen, m);
+            named(out, p, b"@", time)
+        }
+    }
+}
+
+fn put_defaults(out: &mut [u8], pen: Pen, l: Limits) -> Pen {
+    let p = named(out, pen, b" volt=", l.voltage);
+    let q = named(out, p, b" chg=", l.charge);
+    named(out, q, b" dis=", l.discharge)
+}
+
+fn put_limits(out: &mut [u8], pen: Pen, l: Limits) -> Pen {
+    let sensor = l.sensor;
+    let p = put_defaults(out, pen, l);
+    let q = named(out, p, b" w=", l.silence);
+    named(out, q, b" sensor=", sensor_number(sensor))
+}
+
+fn put_last(out: &mut [u8], pen: Pen, l: LastTime) -> Pen {
+    match l {
+        LastTime::Never => text_pen::put(out, pen, b" last=-"),
+        LastTime::At(time) => named(out, pen, b" last=", time),
+    }
+}
+
+fn put_opening(out: &mut [u8], pen: Pen, since: u32, protocol: Protocol, plug: Plug) -> Pen {
+    let p = named(out, pen, b" open=1 since=", since);
+    let q = named(out, p, b" first=", protocol_number(protocol) as u32);
+    named(out, q, b",", plug_number(plug) as u32)
+}
+
+fn put_part(out: &mut [u8], pen: Pen, name: &[u8], d: Dated) -> Pen {
+    let p = text_pen::put(out, pen, name);
+    put_dated(out, p, d)
+}
+
+fn put_open(out: &mut [u8], pen: Pen, s: OpenSession) -> Pen {
+    let protocol = s.protocol;
+    let plug = s.plug;
+    let status = s.status;
+    let control = s.control;
+    let p = put_opening(out, pen, s.since, protocol, plug);
+    let q = put_part(out, p, b" spms=", status);
+    put_part(out, q, b" sdpc=", control)
+}
+
+fn put_session(out: &mut [u8], pen: Pen, s: SessionPart) -> Pen {
+    match s {
+        SessionPart::Closed => text_pen::put(out, pen, b" open=0 since=- first=- spms=- sdpc=-"),
+        SessionPart::Opened(o) => put_open(out, pen, o),
+    }
+}
+
+fn is_known(d: Dated) -> bool {
+    match d {
+        Dated::Nothing => false,
+        Dated::At(_, _) => true,
+    }
+}
+
+// What is listed of the latest messages, and whether there is one.
+struct Listed {
+    pen: Pen,
+    some: bool,
+}
+
+// desk.md: "standard identifiers first, then extended, each ascending by identifier"; so the kinds of each form stand.
+fn put_latest(out: &mut [u8], pen: Pen, r: Record) -> Pen {
+    let none = Listed { pen, some: false };
+    let standard = put_form(out, none, r, false);
+    let all = put_form(out, standard, r, true);
+    put_none(out, all)
+}
+
+fn put_form(out: &mut [u8], listed: Listed, r: Record, extended: bool) -> Listed {
+    let mut l = listed;
+    let mut k = 0;
+    while k < KINDS {
+        let latest = r.latest[k];
+        let d = latest.message;
+        let is_in = page_rows::is_extended(k) == extended;
+        l = put_next(out, l, is_in, d);
+        k += 1;
+    }
+    l
+}
+
+// A known one of the form.
+fn put_next(out: &mut [u8], listed: Listed, is_in: bool, d: Dated) -> Listed {
+    if !is_in {
+        return listed;
+    }
+    if !is_known(d) {
+        return listed;
+    }
+    let pen = listed.pen;
+    Listed {
+        pen: put_listed(out, pen, listed.some, d),
+        some: true,
+    }
+}
+
+// With `;` before all but the first.
+fn put_listed(out: &mut [u8], pen: Pen, some: bool, d: Dated) -> Pen {
+    if some {
+        return put_part(out, pen, b";", d);
+    }
+    put_dated(out, pen, d)
+}
+
+fn put_none(out: &mut [u8], listed: Listed) -> Pen {
+    let pen = listed.pen;
+    if listed.some {
+        return pen;
+    }
+    text_pen::put(out, pen, b"-")
+}
+
+fn put_setting(out: &mut [u8], pen: Pen, r: Record) -> Pen {
+    let limits = r.limits;
+    let p = named(out, pen, b"K ch=", r.channel);
+    put_limits(out, p, limits)
+}
+
+fn put_session_part(out: &mut [u8], pen: Pen, r: Record) -> Pen {
+    let last = r.last;
+    let session = r.session;
+    let p = put_last(out, pen, last);
+    put_session(out, p, session)
+}
+
+fn put_messages(out: &mut [u8], pen: Pen, r: Record) -> Pen {
+    let p = text_pen::put(out, pen, b" latest=");
+    let q = put_latest(out, p, r);
+    text_pen::put(out, q, b"\n")
+}
+
+fn put(out: &mut [u8], pen: Pen, r: Record) -> Pen {
+    let p = put_setting(out, pen, r);
+    let q = put_session_part(out, p, r);
+    put_messages(out, q, r)
+}
+
+// `record POST`
+pub fn show(table: Table, s: &[u8], at: usize, out: &mut [u8], pen: Pen) -> Pen {
+    match fields::take_last(s, at) {
+        Last::Bad => answer::unknown(out, pen),
+        Last::Is(post) => put_looked_up(out, pen, watch::look_up(table, post)),
+    }
+}
+
+fn put_looked_up(out: &mut [u8], pen: Pen, r: LookedUp) -> Pen {
+    let shown = r.shown;
+    let a = r.answer;
+    match a {
+        Setting::Done => put(out, pen, shown),
+        Setting::Refused(w) => answer::refusal(out, pen, w),
+    }
+}

@@ -1,0 +1,40 @@
+-- From a case of a look-up what the latest frame of a kind answers and leaves.
+use Prim.Native.Nat.{ℕ, _<_}
+use mathlib.Core.Path.{_≡_, sym, ap, _∙_}
+use mathlib.Core.Bool.{true, _&&_}
+use mathlib.Core.List.{List}
+use lib.ListN.{length, getD}
+use borrow.Author.Tests.{lt-ltb}
+use Rattle.rules.specs.Record.{kindCount}
+use Rattle.watch_rules.specs.declared.Table.{Table}
+use Rattle.watch_rules.specs.declared.LookedUp.{LookedUp}
+use Rattle.watch_rules.specs.Table.{postCount, noPost, lookUpOf}
+use Rattle.lent_look.proofs.Asked.{set-up}
+use Rattle.lent_latest.specs.Latest.{keptOf, hasRoom, keptWord, hands, timeLeft, bytesLeft, latestAnswer, latestWord, timeAfter, frameAfter}
+
+module _ (t : Table) (i : ℕ) where
+  -- the answer, the lent time, and the lent bytes
+  abbrev pub Handed : ℕ → List ℕ → List ℕ → ℕ → List ℕ → List ℕ → Type 0
+  Handed k times buf r after left = (r ≡ latestWord t i k times buf) × (after ≡ timeAfter t i k times buf) × (left ≡ frameAfter t i k times buf)
+
+  pub handed-by : {x : LookedUp} (k : ℕ) (times buf : List ℕ) → lookUpOf t i ≡ x
+      → Handed k times buf
+      (latestAnswer (x .answer) k (keptOf t i k) (length times) (length buf))
+      (timeLeft (hands (x .answer) k (keptOf t i k) (length times) (length buf)) (keptOf t i k) times)
+      (bytesLeft (hands (x .answer) k (keptOf t i k) (length times) (length buf)) k (keptOf t i k) buf)
+  unfolding latestWord timeAfter frameAfter
+  handed-by k times buf e = (
+    ap (λ (y : LookedUp). latestAnswer (y .answer) k (keptOf t i k) (length times) (length buf)) (sym e),
+    ap (λ (y : LookedUp). timeLeft (hands (y .answer) k (keptOf t i k) (length times) (length buf)) (keptOf t i k) times) (sym e),
+    ap (λ (y : LookedUp). bytesLeft (hands (y .answer) k (keptOf t i k) (length times) (length buf)) k (keptOf t i k) buf) (sym e),
+  )
+
+  -- of a post that is set up and a number that is a kind: what is kept, and the room, decide
+  pub handed-kept : {r : ℕ} {after left : List ℕ} (k : ℕ) (times buf : List ℕ) → i < postCount → getD (t .posts) i noPost .used ≡ true → k < kindCount
+      → (r ≡ keptWord k (keptOf t i k) (length times) (length buf))
+      × (after ≡ timeLeft (keptOf t i k .known && hasRoom k (length times) (length buf)) (keptOf t i k) times)
+      × (left ≡ bytesLeft (keptOf t i k .known && hasRoom k (length times) (length buf)) k (keptOf t i k) buf)
+      → Handed k times buf r after left
+  handed-kept k times buf l u m out =
+      let e = rw (lt-ltb k kindCount m) at (handed-by k times buf (set-up t i l u)) in
+      (out .0 ∙ e .0, out .1 ∙ e .1, out .2 ∙ e .2)

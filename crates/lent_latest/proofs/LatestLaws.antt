@@ -1,0 +1,82 @@
+-- What the latest frame of a kind promises: its bytes are those that came, a refusal leaves the lent memory as it was, behind the places named nothing changes, and the frame handed out is
+-- the one whose message the record shows.
+use Prim.Native.Nat.{ℕ, _<_, _≤_}
+use native.Mathlib.Omega.{arith}
+use mathlib.Core.Path.{_≡_, refl, sym, ap, _∙_}
+use mathlib.Core.Bool.{Bool, true, false, cond, _&&_}
+use mathlib.Core.List.{List, _∷_, _++_, map}
+use lib.Dec.{ltb, leb}
+use lib.ListN.{length, getD, drop, replicate, getD-replicate}
+use lib.Seq.{drop-at}
+use borrow.Author.Tests.{leb-true}
+use Rattle.payload.specs.Payload.{Bytes, bytesOf}
+use Rattle.payload.proofs.Orders.{length-of}
+use Rattle.page_read.specs.declared.Judged.the-variants.{Frame}
+use Rattle.refusals.specs.declared.Refusal.the-variants.{UnknownIdentifier, ShortBuffer}
+use Rattle.page_read.specs.Judge.{judgeOf}
+use Rattle.page_rows.specs.Table.{rows, ofKind, lengthOf, bigOf}
+use Rattle.page_rows.proofs.Rules.{short-length}
+use Rattle.page_write.proofs.Trips.{accepted, raws-back}
+use Rattle.rules.specs.declared.Dated.the-variants as dated
+use Rattle.rules.specs.declared.Latest.{Latest}
+use Rattle.rules.specs.declared.Slot.{Slot}
+use Rattle.rules.specs.History.{countFrom}
+use Rattle.rules.specs.Record.{kindCount, slotAt}
+use Rattle.rules.specs.Step.{latestIn, datedIn, recordIn}
+use Rattle.rules.proofs.Counted.{count-at}
+use Rattle.watch_rules.specs.declared.Table.{Table}
+use Rattle.watch_rules.specs.declared.Setting.{Setting}
+use Rattle.watch_rules.specs.declared.Setting.the-variants as setting
+use Rattle.watch_rules.specs.Table.{postCount, noPost, lookUpOf}
+use Rattle.plain_words.specs.Words.{refusalWord}
+use Rattle.lent_latest.specs.Latest.{keptOf, hasRoom, latestAnswer, hands, handsOut, timeLeft, bytesLeft, latestWord, timeAfter, frameAfter}
+use Rattle.lent_look.proofs.Asked.{set-up}
+
+-- a frame that was read to what the post keeps is handed out byte for byte
+pub as-it-came : (t : Table) (i k : ℕ) (times buf : List ℕ) (id : ℕ) (extended : Bool) (bs : List ℕ) (time n : ℕ)
+    → judgeOf id extended bs ≡ Frame k n → Bytes bs → keptOf t i k ≡ slotAt time n → handsOut t i k times buf ≡ true
+    → (timeAfter t i k times buf ≡ time ∷ drop 1 times) × (frameAfter t i k times buf ≡ bs ++ drop (length bs) buf)
+unfolding timeAfter frameAfter
+as-it-came t i k times buf id extended bs time n e b s h = (rw (h, s), rw (h, s, raws-back id extended bs k n e b .bytes, ← accepted id extended bs k n e .sized))
+
+-- a refusal hands nothing out
+not-handed : (s : Setting) (k : ℕ) (l : Slot) (places room : ℕ) → 65536 ≤ latestAnswer s k l places room → hands s k l places room ≡ false
+not-handed setting.Done k l places room m = go (ltb k kindCount) (l .known) (hasRoom k places room) m
+  where
+    go : (a b c : Bool) → 65536 ≤ cond a (cond b (cond c (lengthOf k) (refusalWord ShortBuffer)) 0) (refusalWord UnknownIdentifier) → a && (b && c) ≡ false
+    go true true true x = absurd (let z : ⊥ = omega (arith, short-length k) in z)
+    go true true false x = refl
+    go true false c x = refl
+    go false b c x = refl
+not-handed (setting.Refused w) k l places room m = refl
+
+pub latest-refused : (t : Table) (i k : ℕ) (times buf : List ℕ) → 65536 ≤ latestWord t i k times buf → (timeAfter t i k times buf ≡ times) × (frameAfter t i k times buf ≡ buf)
+unfolding latestWord timeAfter frameAfter
+latest-refused t i k times buf l =
+    let e : handsOut t i k times buf ≡ false = not-handed (lookUpOf t i .answer) k (keptOf t i k) (length times) (length buf) l in
+    (rw e, rw e)
+
+handed-behind : (b : Bool) (k : ℕ) (l : Slot) (times buf : List ℕ) → (drop 1 (timeLeft b l times) ≡ drop 1 times) × (drop (lengthOf k) (bytesLeft b k l buf) ≡ drop (lengthOf k) buf)
+handed-behind true k l times buf = (refl, drop-at (bytesOf (bigOf k) (lengthOf k) (l .raw)) (drop (lengthOf k) buf) (lengthOf k) (length-of (bigOf k) (lengthOf k) (l .raw)))
+handed-behind false k l times buf = (refl, refl)
+
+pub latest-kept : (t : Table) (i k : ℕ) (times buf : List ℕ)
+    → (drop 1 (timeAfter t i k times buf) ≡ drop 1 times) × (drop (lengthOf k) (frameAfter t i k times buf) ≡ drop (lengthOf k) buf)
+unfolding timeAfter frameAfter
+latest-kept t i k times buf = handed-behind (handsOut t i k times buf) k (keptOf t i k) times buf
+
+-- a kind has bytes, so that 0 says that no frame was accepted
+lengths : map (λ k. leb 1 (lengthOf k)) (countFrom 0 kindCount) ≡ replicate kindCount true
+unfolding lengthOf ofKind rows
+lengths = refl
+
+pub some-bytes : (k : ℕ) → k < kindCount → 1 ≤ lengthOf k
+some-bytes k l = leb-true 1 (lengthOf k) (sym (count-at (λ j. leb 1 (lengthOf j)) true k 0 kindCount k (omega arith) l) ∙ ap (λ (bs : List Bool). getD bs k true) lengths ∙ getD-replicate kindCount k true true l)
+
+-- the record's message of the kind is that of the frame
+pub latest-shown : (t : Table) (i k : ℕ) → i < postCount → getD (t .posts) i noPost .used ≡ true → k < kindCount
+    → getD (lookUpOf t i .shown .latest) k (record { message = dated.Nothing }) .message ≡ datedIn k (keptOf t i k)
+unfolding recordIn
+latest-shown t i k l u m =
+    rw (set-up t i l u)
+    (ap (λ (x : Latest). x .message) (count-at (λ j. record { message = datedIn j (latestIn (getD (t .posts) i noPost) j) }) (record { message = dated.Nothing }) k 0 kindCount k (omega arith) m))

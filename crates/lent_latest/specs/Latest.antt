@@ -1,0 +1,57 @@
+-- The latest frame of a kind over the C interface: its time, and its bytes as they came, in the message's byte order. Refused as `watch::look_up` refuses, with 9 and 14.
+use Prim.Native.Nat.{ℕ}
+use mathlib.Core.Bool.{Bool, false, cond, _&&_}
+use mathlib.Core.List.{List, _∷_, _++_}
+use lib.Dec.{ltb, leb}
+use lib.ListN.{length, getD, drop}
+use Rattle.payload.specs.Payload.{bytesOf}
+use Rattle.refusals.specs.declared.Refusal.the-variants.{UnknownIdentifier, ShortBuffer}
+use Rattle.page_rows.specs.Table.{lengthOf, bigOf}
+use Rattle.rules.specs.declared.Slot.{Slot}
+use Rattle.rules.specs.Record.{kindCount}
+use Rattle.rules.specs.Step.{latestIn}
+use Rattle.watch_rules.specs.declared.Table.{Table}
+use Rattle.watch_rules.specs.declared.Setting.{Setting}
+use Rattle.watch_rules.specs.declared.Setting.the-variants as setting
+use Rattle.watch_rules.specs.Table.{noPost, lookUpOf}
+use Rattle.plain_words.specs.Words.{refusalWord}
+
+-- what the post i keeps of the kind k
+abbrev pub keptOf : Table → ℕ → ℕ → Slot
+keptOf t i k = latestIn (getD (t .posts) i noPost) k
+
+-- a place for the time, and places for the bytes
+abbrev pub hasRoom : ℕ → ℕ → ℕ → Bool
+hasRoom k places room = leb 1 places && leb (lengthOf k) room
+
+-- 0 where no frame was accepted, whatever is lent; else 8, or the number of bytes
+abbrev pub keptWord : ℕ → Slot → ℕ → ℕ → ℕ
+keptWord k l places room = cond (l .known) (cond (hasRoom k places room) (lengthOf k) (refusalWord ShortBuffer)) 0
+
+-- 3 before them, for a number that is no kind
+abbrev pub latestAnswer : Setting → ℕ → Slot → ℕ → ℕ → ℕ
+latestAnswer setting.Done k l places room = cond (ltb k kindCount) (keptWord k l places room) (refusalWord UnknownIdentifier)
+latestAnswer (setting.Refused w) k l places room = refusalWord w
+
+-- whether a frame is handed out
+abbrev pub hands : Setting → ℕ → Slot → ℕ → ℕ → Bool
+hands setting.Done k l places room = ltb k kindCount && (l .known && hasRoom k places room)
+hands (setting.Refused w) k l places room = false
+
+abbrev pub timeLeft : Bool → Slot → List ℕ → List ℕ
+timeLeft b l times = cond b (l .time ∷ drop 1 times) times
+
+abbrev pub bytesLeft : Bool → ℕ → Slot → List ℕ → List ℕ
+bytesLeft b k l buf = cond b (bytesOf (bigOf k) (lengthOf k) (l .raw) ++ drop (lengthOf k) buf) buf
+
+abbrev pub handsOut : Table → ℕ → ℕ → List ℕ → List ℕ → Bool
+handsOut t i k times buf = hands (lookUpOf t i .answer) k (keptOf t i k) (length times) (length buf)
+
+unfoldable pub latestWord : Table → ℕ → ℕ → List ℕ → List ℕ → ℕ
+latestWord t i k times buf = latestAnswer (lookUpOf t i .answer) k (keptOf t i k) (length times) (length buf)
+
+unfoldable pub timeAfter : Table → ℕ → ℕ → List ℕ → List ℕ → List ℕ
+timeAfter t i k times buf = timeLeft (handsOut t i k times buf) (keptOf t i k) times
+
+unfoldable pub frameAfter : Table → ℕ → ℕ → List ℕ → List ℕ → List ℕ
+frameAfter t i k times buf = bytesLeft (handsOut t i k times buf) k (keptOf t i k) buf

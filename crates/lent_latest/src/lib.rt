@@ -1,0 +1,68 @@
+// The latest frame of a kind over the C interface: its time, and its bytes as they came. The lent table is only read. For C callers; a
+// caller in Rattle asks `watch::look_up`.
+ghost use mathlib.Core.Path.{_≡_};
+ghost use mathlib.Core.Bool.{_&&_};
+ghost use lib.ListN.{length};
+ghost use Rattle.lent_latest.specs.Latest.{hasRoom, keptWord, timeLeft, bytesLeft, latestWord, timeAfter, frameAfter};
+use plain_words::refusal_word;
+use refusals::Refusal;
+use rules::KINDS;
+use rules::Slot;
+use watch_rules::Table;
+
+// Where no frame was accepted nothing is written, so nothing lent can be too short.
+fn hand_out(l: Slot, kind: usize, time: &mut [u32], buf: &mut [u8]) -> u32
+    ensures { λ r. ⌜ (r ≡ keptWord kind l (length (now (time .entry))) (length (now (buf .entry))))
+        × (now (time .exit) ≡ timeLeft (l .known && hasRoom kind (length (now (time .entry))) (length (now (buf .entry)))) l (now (time .entry)))
+        × (now (buf .exit) ≡ bytesLeft (l .known && hasRoom kind (length (now (time .entry))) (length (now (buf .entry)))) kind l (now (buf .entry))) ⌝ }
+{
+    if !l.known {
+        return 0;
+    }
+    if time.len() < 1 {
+        return refusal_word(Refusal::ShortBuffer);
+    }
+    let len = page_rows::length_of(kind);
+    if buf.len() < len {
+        return refusal_word(Refusal::ShortBuffer);
+    }
+    time[0] = l.time;
+    payload::store(page_rows::is_big(kind), buf, l.raw, len);
+    len as u32
+}
+
+pub fn latest_of(t: Table, post: u32, kind: u32, time: &mut [u32], buf: &mut [u8]) -> u32
+    ensures { λ r. ⌜ (r ≡ latestWord t post kind (now (time .entry)) (now (buf .entry)))
+        × (now (time .exit) ≡ timeAfter t post kind (now (time .entry)) (now (buf .entry)))
+        × (now (buf .exit) ≡ frameAfter t post kind (now (time .entry)) (now (buf .entry))) ⌝ }
+{
+    if 7 < post {
+        return refusal_word(Refusal::NoSuchPost);
+    }
+    let i = post as usize;
+    let p = t.posts[i];
+    if !p.used {
+        return refusal_word(Refusal::NotSetUp);
+    }
+    let k = kind as usize;
+    if KINDS <= k {
+        return refusal_word(Refusal::UnknownIdentifier);
+    }
+    let l = p.latest[k];
+    hand_out(l, k, time, buf)
+}
+
+#[no_mangle]
+pub extern "C" fn rokemaipu_latest(
+    t: &Table,
+    post: u32,
+    kind: u32,
+    time: &mut [u32],
+    buf: &mut [u8],
+) -> u32
+    ensures { λ r. ⌜ (r ≡ latestWord (now (t .entry)) post kind (now (time .entry)) (now (buf .entry)))
+        × (now (time .exit) ≡ timeAfter (now (t .entry)) post kind (now (time .entry)) (now (buf .entry)))
+        × (now (buf .exit) ≡ frameAfter (now (t .entry)) post kind (now (time .entry)) (now (buf .entry))) ⌝ }
+{
+    latest_of(*t, post, kind, time, buf)
+}

@@ -1,0 +1,65 @@
+-- `lent_numbers::looked` meets its contract: 9, 14, 8, or the post's numbers stored.
+use borrow.Author.Needs.{needs}
+use borrow.Author.Tests.{not-true, not-false, le-leb, lt-leb}
+use native.Mathlib.Omega.{arith}
+use mathlib.Core.Path.{ap, _∙_}
+use mathlib.Core.List.{List, _++_}
+use Prim.Native.Nat.{ℕ}
+use lib.ListN.{drop, getD}
+use Rattle.watch_rules.specs.Table.{noPost}
+use Rattle.lent_numbers.specs.LookUp.{numberCount}
+use Rattle.lent_look.proofs.Asked.{no-post, not-set-up, set-up}
+use Rattle.lent_numbers.proofs.ByCase.{looked-by}
+use Rattle.lent_numbers.proofs.looked.Statement.{statement}
+use Rattle.lent_numbers.proofs.looked.Tie as tie
+
+returns : tie.Need-returns
+returns c =
+    let a = c .before .before .before .args in
+    let e = looked-by (a .t1) (a .post) (a .numbers .now) (no-post (a .t1) (a .post) (omega arith)) in
+    (c .refusal-word .ensures ∙ e .0, e .1)
+
+returns-2 : tie.Need-returns-2
+returns-2 c =
+    let a = c .before .before .before .before .before .before .args in
+    let p = getD (a .t1 .posts) (a .post) noPost in
+    let e = looked-by (a .t1) (a .post) (a .numbers .now) (not-set-up (a .t1) (a .post) (omega arith) (not-true (p .used) (c .before .if2 .taken))) in
+    (c .refusal-word2 .ensures ∙ e .0, e .1)
+
+returns-3 : tie.Need-returns-3
+returns-3 c =
+    let s = c .before .before in
+    let a = s .before .before .before .before .before .args in
+    let p = getD (a .t1 .posts) (a .post) noPost in
+    let e = looked-by (a .t1) (a .post) (a .numbers .now) (set-up (a .t1) (a .post) (omega arith) (not-false (p .used) (s .if2 .left))) in
+    let f = rw (lt-leb _ _ (c .before .if3 .taken)) at e in
+    (c .refusal-word3 .ensures ∙ f .0, f .1)
+
+returns-4 : tie.Need-returns-4
+returns-4 c =
+    let w = c .before .before in
+    let n = w .before in
+    let room = n .before .before in
+    let s = room .before in
+    let a = s .before .before .before .before .before .args in
+    let p = getD (a .t1 .posts) (a .post) noPost in
+    let e = looked-by (a .t1) (a .post) (a .numbers .now) (set-up (a .t1) (a .post) (omega arith) (not-false (p .used) (s .if2 .left))) in
+    let f = rw (le-leb _ _ (room .if3 .left)) at e in
+    (f .0, w .store-numbers .ensures ∙ ap (λ (ns : List ℕ). ns ++ drop numberCount (a .numbers .now)) (n .numbers-of .ensures) ∙ f .1)
+
+pub looked-spec : {M : Type 1} → statement M
+looked-spec =
+    tie.close
+    (tie.spec
+    (λ c κs. search needs)
+    returns
+    (λ c. search needs)
+    (λ c. search needs)
+    (λ c κs. search needs)
+    returns-2
+    (λ c κs. search needs)
+    returns-3
+    (λ c κs. search needs)
+    (λ c κs. search needs)
+    (λ c. search needs)
+    returns-4)

@@ -1,0 +1,52 @@
+-- A post's numbers over the C interface: of the record that `watch::look_up` hands out, all but the messages. Refused as `watch::look_up` refuses, with 9 and 14.
+use Prim.Native.Nat.{ℕ}
+use mathlib.Core.Bool.{cond}
+use mathlib.Core.List.{List, [], _∷_, _++_}
+use lib.Dec.{leb}
+use lib.ListN.{length, drop}
+use Rattle.refusals.specs.declared.Refusal.the-variants.{ShortBuffer}
+use Rattle.message_types.specs.Labels.{protocolNumber, plugNumber}
+use Rattle.rules.specs.declared.LastTime.{LastTime}
+use Rattle.rules.specs.declared.LastTime.the-variants as last
+use Rattle.rules.specs.declared.SessionPart.{SessionPart}
+use Rattle.rules.specs.declared.SessionPart.the-variants as part
+use Rattle.rules.specs.declared.Record.{Record}
+use Rattle.rule_limits.specs.Sensor.{sensorNumber}
+use Rattle.watch_rules.specs.declared.Table.{Table}
+use Rattle.watch_rules.specs.declared.Setting.{Setting}
+use Rattle.watch_rules.specs.declared.Setting.the-variants as setting
+use Rattle.watch_rules.specs.Table.{lookUpOf}
+use Rattle.plain_words.specs.Words.{refusalWord}
+
+abbrev pub numberCount : ℕ
+numberCount = 12
+
+-- 1 and the time, or 0 and 0
+abbrev pub lastNumbers : LastTime → List ℕ
+lastNumbers last.Never = 0 ∷ 0 ∷ []
+lastNumbers (last.At t) = 1 ∷ t ∷ []
+
+-- 1, since when, first protocol and first plug, or four times 0
+abbrev pub sessionNumbers : SessionPart → List ℕ
+sessionNumbers part.Closed = 0 ∷ 0 ∷ 0 ∷ 0 ∷ []
+sessionNumbers (part.Opened s) = 1 ∷ s .since ∷ protocolNumber (s .protocol) ∷ plugNumber (s .plug) ∷ []
+
+unfoldable pub numbersOf : Record → List ℕ
+numbersOf r =
+    r .channel ∷ r .limits .voltage ∷ r .limits .charge ∷ r .limits .discharge ∷ r .limits .silence ∷ sensorNumber (r .limits .sensor)
+    ∷ (lastNumbers (r .last) ++ sessionNumbers (r .session))
+
+-- 8 where the lent places are too few
+abbrev pub lookedWord : Setting → ℕ → ℕ
+lookedWord setting.Done places = cond (leb numberCount places) 0 (refusalWord ShortBuffer)
+lookedWord (setting.Refused w) places = refusalWord w
+
+abbrev pub numbersLeft : Setting → Record → List ℕ → List ℕ
+numbersLeft setting.Done r ns = cond (leb numberCount (length ns)) (numbersOf r ++ drop numberCount ns) ns
+numbersLeft (setting.Refused w) r ns = ns
+
+unfoldable pub lookUpWord : Table → ℕ → List ℕ → ℕ
+lookUpWord t i ns = lookedWord (lookUpOf t i .answer) (length ns)
+
+unfoldable pub numbersAfter : Table → ℕ → List ℕ → List ℕ
+numbersAfter t i ns = numbersLeft (lookUpOf t i .answer) (lookUpOf t i .shown) ns

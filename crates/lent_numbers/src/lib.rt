@@ -1,0 +1,85 @@
+// A post's numbers over the C interface: of the record that `watch::look_up` hands out, all but the messages. The lent table is only read.
+// For C callers; a caller in Rattle asks `watch::look_up`.
+ghost use mathlib.Core.Path.{_≡_};
+ghost use mathlib.Core.Bool.{cond};
+ghost use mathlib.Core.List.{_++_};
+ghost use Prim.Native.Nat.{_≤_};
+ghost use lib.ListN.{length, drop};
+ghost use Rattle.rules.specs.Step.{recordIn};
+ghost use Rattle.lent_numbers.specs.LookUp.{numberCount, numbersOf, lookUpWord, numbersAfter};
+use message_types::labels::plug_number;
+use message_types::labels::protocol_number;
+use plain_words::flag;
+use plain_words::refusal_word;
+use refusals::Refusal;
+use rule_limits::kept::sensor_number;
+use rule_limits::kept::sensor_of;
+use rules::Post;
+use watch_rules::Table;
+
+fn where_set(b: bool, x: u32) -> u32
+    ensures { λ r. ⌜ r ≡ cond b x 0 ⌝ }
+{
+    if b { x } else { 0 }
+}
+
+fn numbers_of(p: Post) -> [u32; 12]
+    ensures { λ r. ⌜ r ≡ numbersOf (recordIn p) ⌝ }
+{
+    let l = p.limits;
+    let sensor = sensor_of(l.sensor);
+    let s = p.session;
+    let n = message_parts::session_in(s.first);
+    let protocol = n.protocol;
+    let plug = n.plug;
+    [
+        p.channel,
+        l.voltage,
+        l.charge,
+        l.discharge,
+        l.silence,
+        sensor_number(sensor),
+        flag(p.heard),
+        where_set(p.heard, p.time),
+        flag(s.opened),
+        where_set(s.opened, s.since),
+        where_set(s.opened, protocol_number(protocol) as u32),
+        where_set(s.opened, plug_number(plug) as u32),
+    ]
+}
+
+fn store_numbers(numbers: &mut [u32], ns: [u32; 12])
+    requires { ⌜ numberCount ≤ length (now numbers) ⌝ }
+    ensures { λ _. ⌜ now (numbers .exit) ≡ ns ++ drop numberCount (now (numbers .entry)) ⌝ }
+{
+    let mut j: usize = 0;
+    while j < 12 {
+        numbers[j] = ns[j];
+        j += 1;
+    }
+}
+
+pub fn looked(t: Table, post: u32, numbers: &mut [u32]) -> u32
+    ensures { λ r. ⌜ (r ≡ lookUpWord t post (now (numbers .entry))) × (now (numbers .exit) ≡ numbersAfter t post (now (numbers .entry))) ⌝ }
+{
+    if 7 < post {
+        return refusal_word(Refusal::NoSuchPost);
+    }
+    let i = post as usize;
+    let p = t.posts[i];
+    if !p.used {
+        return refusal_word(Refusal::NotSetUp);
+    }
+    if numbers.len() < 12 {
+        return refusal_word(Refusal::ShortBuffer);
+    }
+    store_numbers(numbers, numbers_of(p));
+    0
+}
+
+#[no_mangle]
+pub extern "C" fn rokemaipu_look_up(t: &Table, post: u32, numbers: &mut [u32]) -> u32
+    ensures { λ r. ⌜ (r ≡ lookUpWord (now (t .entry)) post (now (numbers .entry))) × (now (numbers .exit) ≡ numbersAfter (now (t .entry)) post (now (numbers .entry))) ⌝ }
+{
+    looked(*t, post, numbers)
+}

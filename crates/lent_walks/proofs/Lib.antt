@@ -1,0 +1,10 @@
+pub mod Answered
+pub mod Args
+pub mod Called
+pub mod Elem
+pub mod Handing
+pub mod InLook
+pub mod InPlace
+pub mod Lender
+pub mod Params
+pub mod Ways

@@ -1,0 +1,7 @@
+pub mod Wholes
+pub mod Records
+pub mod Logs
+pub mod Bads
+pub mod Pieces
+pub mod Cuts
+pub mod Nights

@@ -1,0 +1,5 @@
+pub mod Record
+pub mod Reading
+pub mod Pieces
+pub mod Malformed
+pub mod Readings

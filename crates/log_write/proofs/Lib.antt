@@ -1,0 +1,4 @@
+pub mod Groups
+pub mod Ends
+pub mod Stores
+pub mod Writings

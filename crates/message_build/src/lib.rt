@@ -1,0 +1,42 @@
+// A message of its kind's number: of its signals' raw numbers, and of a payload number. For the reader, and for what hands out messages that it keeps by number.
+ghost use mathlib.Core.Path.{_≡_};
+ghost use Rattle.message_fields.specs.Fields.{at};
+ghost use Rattle.message_build.specs.Built.{builtOf, messageOf};
+use message_fields::natural;
+use message_types::labels::*;
+use message_types::*;
+
+// The message of a kind; for a number that is no kind, the last one.
+pub fn built(kind: usize, f: [i64; 16]) -> Message
+    ensures { λ r. ⌜ r ≡ builtOf kind (at f) ⌝ }
+{
+    match kind {
+        STATUS => Message::Status(message_parts::status(f)),
+        PARAMETERS => Message::Parameters(message_parts::parameters(f)),
+        CONTROLLER => Message::Controller(ControllerStatus {
+            state: state_of(natural(f[0])),
+        }),
+        SESSION => Message::Session(message_parts::session(f)),
+        CHANGE => Message::Change(ChargeStatusChange {
+            status: status_of(natural(f[0])),
+        }),
+        CONTROL => Message::Control(message_parts::control(f)),
+        FINISHED => Message::Finished(ChargeSessionFinished {
+            state: end_of(natural(f[0])),
+        }),
+        STOP => Message::Stop(EmergencyStop {
+            origin: origin_of(natural(f[0])),
+        }),
+        ID => Message::Id(message_charger::build::ev_id(f)),
+        SAFETY_CONTROL => Message::SafetyControl(message_safety::build::safety_control(f)),
+        SAFETY_STATE => Message::SafetyState(message_safety::build::safety_state(f)),
+        _ => Message::Probes(message_safety::build::probes(f)),
+    }
+}
+
+// The message that a payload number of a kind reads as.
+pub fn message_of(kind: usize, number: u64) -> Message
+    ensures { λ r. ⌜ r ≡ messageOf kind number ⌝ }
+{
+    built(kind, page_write::raws_of(kind, number))
+}

@@ -1,0 +1,6 @@
+pub mod Labelled
+pub mod Signals
+pub mod Fitting
+pub mod Ways
+pub mod Codec
+pub mod Upto

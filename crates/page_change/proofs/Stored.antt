@@ -1,0 +1,74 @@
+-- What the bytes of an accepted change rest on: its signal lies in the lent bytes, and the changed number is theirs with the new bits put.
+-- Assumes nothing.
+use mathlib.Core.Path.{_≡_, sym, ap, ap₂, _∙_, subst}
+use mathlib.Core.Bool.{Bool}
+use mathlib.Core.List.{List}
+use Prim.Native.Nat.{ℕ, _^_, _≤_, _<_}
+use lib.Dec.{eqb}
+use lib.IntN.{ℤ}
+use lib.ListN.{length, getD}
+use mir.Val.{toZ, ofZ, SFits}
+use mir.Syntax.{w64}
+use borrow.Author.Tests.{eqb-true}
+use Rattle.signal.specs.Signal.{putBits}
+use Rattle.payload.specs.Payload.{numberOf}
+use Rattle.payload.specs.Order as order
+use Rattle.signal.specs.Raw.{bitsIn, bitsOf}
+use Rattle.signal.proofs.RawLaws.{bits-lt}
+use Rattle.page_rows.specs.declared.Row.{Row}
+use Rattle.page_rows.specs.declared.Found.the-variants.{At}
+use Rattle.page_read.specs.declared.Judged.the-variants.{Frame}
+use Rattle.page_rows.specs.Table.{rows, noRow, bigOf, firstAt, hasKind, isSignal}
+use Rattle.page_read.specs.Judge.{judgeOf}
+use Rattle.page_write.specs.Raws.{putRaw}
+use Rattle.page_change.specs.Change.{changeOf}
+use Rattle.page_rows.proofs.Rules.{both-true, row-fine, row-among, among-kept, row-message}
+use Rattle.page_rows.proofs.Firsts.{found-in}
+use Rattle.page_write.proofs.Trips.{accepts}
+use Rattle.page_write.proofs.AtRow.{bits-row}
+use Rattle.page_change.proofs.Changes.{Changed, changed}
+
+pub record Storing (r : Row) (bs : List ℕ) (k n v : ℕ) : Type 0 where
+  pub same : r .big ≡ bigOf k
+  pub some : 1 ≤ r .width
+  pub within : order.Inside (r .big) (length bs) (r .start) (r .width)
+  pub narrow : v < 2 ^ r .width
+  pub put : n ≡ putBits (numberOf (r .big) bs) (order.lowest (r .big) (length bs) (r .start) (r .width)) (r .width) v
+
+-- the row that is found is the one that the change was made by
+row-is : (m : ℕ) (x : Bool) (bs : List ℕ) (s : ℕ) (z : ℤ) (k n i k′ n′ : ℕ) → judgeOf m x bs ≡ Frame k n → firstAt (isSignal k s) 0 rows ≡ At i
+    → (c : Changed m x bs s z k′ n′) → c .place ≡ i
+row-is m x bs s z k n i k′ n′ j f c =
+    let a : judgeOf m x bs ≡ Frame k′ (numberOf (bigOf k′) bs) = accepts m x bs k′ (numberOf (bigOf k′) bs) (c .read) in
+    let same : k ≡ k′ = cc in
+    let g : firstAt (isSignal k s) 0 rows ≡ At (c .place) = subst (λ (y : ℕ). firstAt (isSignal y s) 0 rows ≡ At (c .place)) (sym same) (c .found) in
+    cc
+
+pub storing : (m : ℕ) (x : Bool) (bs : List ℕ) (s : ℕ) (z : ℤ) (k n i k′ n′ v : ℕ) (r : Row) → judgeOf m x bs ≡ Frame k n → firstAt (isSignal k s) 0 rows ≡ At i
+    → r ≡ getD rows i noRow → changeOf m x bs s z ≡ Frame k′ n′ → SFits w64 z → v ≡ bitsOf (r .signed) (r .width) (toZ w64 (ofZ w64 z)) → Storing r bs k′ n′ v
+storing m x bs s z k n i k′ n′ v r j f q e h w =
+    let c = changed m x bs s z k′ n′ e in
+    let t = getD rows (c .place) noRow in
+    let same : r ≡ getD rows (c .place) noRow = q ∙ ap (λ (y : ℕ). getD rows y noRow) (sym (row-is m x bs s z k n i k′ n′ j f c)) in
+    let p = found-in (isSignal k′ s) (c .place) (c .found) in
+    let kind = eqb-true (t .kind) k′ (both-true (hasKind k′ t) (eqb (t .start) s) (p .1) .0) in
+    let among = row-among k′ (c .place) (p .0) kind in
+    let fine = row-fine (c .place) (p .0) in
+    let kept = among-kept k′ t among in
+    let says = row-message k′ t among in
+    let size : t .bytes ≡ length bs = says .2 ∙ sym (c .read .sized) in
+    subst (λ (y : Row). v ≡ bitsOf (y .signed) (y .width) (toZ w64 (ofZ w64 z)) → Storing y bs k′ n′ v) (sym same)
+    (λ w.
+    let b : v ≡ bitsIn (t .signed) (t .width) z = w ∙ bits-row t fine z h (c .fits) in
+    record {
+      same = says .3;
+      some = fine .0;
+      within = subst (λ (y : ℕ). order.Inside (t .big) y (t .start) (t .width)) size (kept .within);
+      narrow = subst (λ (y : ℕ). y < 2 ^ t .width) (sym b) (bits-lt (t .signed) (t .width) (fine .0) z (c .fits));
+      put =
+          c .put
+          ∙ ap (λ (y : Bool). putRaw t (numberOf y bs) z) (sym (says .3))
+          ∙ ap₂ (λ (l y : ℕ). putBits (numberOf (t .big) bs) l (t .width) y)
+          (kept .lowestBit ∙ ap (λ (y : ℕ). order.lowest (t .big) y (t .start) (t .width)) size) (sym b);
+    })
+    w

@@ -1,0 +1,58 @@
+-- What reading a frame answers: 01, "Reading gives 3 to 6", the lowest that applies.
+use Prim.Native.Nat.{ℕ, zero, suc, _*_, min}
+use mathlib.Core.Bool.{Bool, false, cond, not, _&&_, _||_}
+use mathlib.Core.List.{List, [], _∷_}
+use lib.Dec.{eqb, ltb}
+use lib.ListN.{length, getD}
+use Rattle.signal.specs.Signal.{getBits}
+use Rattle.payload.specs.Payload.{numberOf}
+use Rattle.page_rows.specs.declared.Row.{Row}
+use Rattle.page_rows.specs.declared.Found.{Found}
+use Rattle.page_rows.specs.declared.Found.the-variants.{At, Nothing}
+use Rattle.page_read.specs.declared.Judged.{Judged}
+use Rattle.page_read.specs.declared.Judged.the-variants.{Frame, Refused}
+use Rattle.refusals.specs.declared.Refusal.{Refusal}
+use Rattle.refusals.specs.declared.Refusal.the-variants.{UnknownIdentifier, TooShort, TooLong, NoLabel, UncoveredBit}
+use Rattle.page_rows.specs.Table.{rows, noRow, rowsOf, firstAt, hasId, bitsAt, covered, takes}
+
+-- 5: "a label signal holds a number without a label"
+unfoldable pub unlabelled : ℕ → List Row → Bool
+unlabelled n [] = false
+unlabelled n (r ∷ rs) = not (takes (r .labels) (bitsAt n r)) || unlabelled n rs
+
+abbrev pub offends : ℕ → Row → Bool
+offends n r = not (takes (r .labels) (bitsAt n r))
+
+-- 02, Req 02: "the start bit of the first offending signal, lowest start first": the least start of all rows that offend, in whatever order
+-- they stand; 64, above every start, where none does
+unfoldable pub offender : ℕ → List Row → ℕ
+offender n [] = 64
+offender n (r ∷ rs) = cond (offends n r) (min (r .start) (offender n rs)) (offender n rs)
+
+-- 6: "a bit that no signal covers is 1", of the k lowest bits
+unfoldable pub strayBelow : ℕ → ℕ → List Row → Bool
+strayBelow zero n rs = false
+strayBelow (suc k) n rs = (not (covered rs k) && eqb (getBits n k 1) 1) || strayBelow k n rs
+
+-- 5 before 6
+unfoldable pub judgedNumber : ℕ → ℕ → ℕ → Judged
+judgedNumber k bits n =
+    cond (unlabelled n (rowsOf k)) (Refused (NoLabel (offender n (rowsOf k))))
+    (cond (strayBelow bits n (rowsOf k)) (Refused UncoveredBit)
+    (Frame k n))
+
+-- 02, Req 02: "4 when too short, 15 when too long"; "The order stays, with 15 in 4's place"
+abbrev pub wrongLength : Row → List ℕ → Refusal
+wrongLength r bs = cond (ltb (length bs) (r .bytes)) TooShort TooLong
+
+-- 4 or 15 before them, for a message of the table; its number is read in its byte order
+abbrev pub judgedRow : Row → List ℕ → Judged
+judgedRow r bs = cond (eqb (length bs) (r .bytes)) (judgedNumber (r .kind) (8 * length bs) (numberOf (r .big) bs)) (Refused (wrongLength r bs))
+
+abbrev pub judgedAt : List ℕ → Found → Judged
+judgedAt bs (At i) = judgedRow (getD rows i noRow) bs
+judgedAt bs Nothing = Refused UnknownIdentifier
+
+-- 3 first: "identifier not in the table", in this form; 02, Req 04: "Refusal 3 and E4 now read over the wider table"
+unfoldable pub judgeOf : ℕ → Bool → List ℕ → Judged
+judgeOf m extended bs = judgedAt bs (firstAt (hasId m extended) 0 rows)

@@ -1,0 +1,27 @@
+-- Inner steps: what the walk over a message's rows computes. The promise of Judge does not speak of them.
+use Prim.Native.Nat.{ℕ}
+use mathlib.Core.Bool.{cond}
+use mathlib.Core.List.{List, [], _∷_}
+use lib.Dec.{eqb}
+use Rattle.signal.specs.Signal.{putBits}
+use Rattle.page_rows.specs.declared.Row.{Row}
+use Rattle.page_read.specs.declared.Judged.{Judged}
+use Rattle.page_read.specs.declared.Judged.the-variants.{Frame, Refused}
+use Rattle.refusals.specs.declared.Refusal.the-variants.{NoLabel, UncoveredBit}
+use Rattle.page_read.specs.declared.Offence.{Offence}
+use Rattle.page_read.specs.declared.Offence.the-variants.{Start, Nothing}
+use Rattle.page_rows.specs.Table.{lowest, bitsAt, takes}
+
+-- the first signal that holds a number without a label
+unfoldable pub offenceOf : ℕ → List Row → Offence
+offenceOf n [] = Nothing
+offenceOf n (r ∷ rs) = cond (takes (r .labels) (bitsAt n r)) (offenceOf n rs) (Start (r .start))
+
+-- n with 0 in every signal
+unfoldable pub cleared : List Row → ℕ → ℕ
+cleared [] n = n
+cleared (r ∷ rs) n = cleared rs (putBits n (lowest r) (r .width) 0)
+
+abbrev pub judgedBy : ℕ → ℕ → Offence → ℕ → Judged
+judgedBy k n (Start s) rest = Refused (NoLabel s)
+judgedBy k n Nothing rest = cond (eqb rest 0) (Frame k n) (Refused UncoveredBit)

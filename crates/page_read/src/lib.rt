@@ -1,0 +1,47 @@
+// Reading a frame by the table: to its kind and payload number, or to its refusal, 3 to 6 and 15 (01, "Numbers given back"; 02, Req 02). For whoever has to
+// do with frames as they come. Its function takes any input.
+ghost use mathlib.Core.Path.{_≡_};
+ghost use Rattle.page_read.specs.Judge.{judgeOf};
+use page_rows::FoundMessage;
+use page_rows::message_with_id;
+use refusals::Refusal;
+
+mod labels; // labels.rt: 5 of a message that has no bit without a signal
+mod signals; // signals.rt: 5 and 6 by a walk over the message's rows
+
+// The start of the first signal that holds a number without a label.
+enum Offence {
+    Start(u8),
+    Nothing,
+}
+
+struct Sifted {
+    offence: Offence,
+    rest: u64,
+}
+
+// The reader's answer: kind and payload number of the frame, or its refusal.
+pub enum Judged {
+    Frame(usize, u64),
+    Refused(Refusal),
+}
+
+// 01: "Reading gives 3 to 6", in this order; 02: "with 15 in 4's place".
+pub fn judge(id: u32, extended: bool, bytes: &[u8]) -> Judged
+    ensures { λ r. ⌜ r ≡ judgeOf id extended (now (bytes .entry)) ⌝ }
+{
+    let FoundMessage::At(kind, at, len, big) = message_with_id(id, extended) else {
+        return Judged::Refused(Refusal::UnknownIdentifier);
+    };
+    if bytes.len() < len {
+        return Judged::Refused(Refusal::TooShort);
+    }
+    if len < bytes.len() {
+        return Judged::Refused(Refusal::TooLong);
+    }
+    let n = payload::number(big, bytes);
+    if kind < labels::KIND_COUNT {
+        return labels::judge_labels(kind, n);
+    }
+    signals::judge_number(at, kind, n)
+}

@@ -1,0 +1,6 @@
+pub mod Messages
+pub mod Layout
+pub mod Charger
+pub mod Safety
+pub mod Table
+pub mod Rules

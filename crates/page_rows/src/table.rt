@@ -1,0 +1,108 @@
+// The table: the rows of both documents, one behind the other, and the searches over them.
+ghost use mathlib.Core.Path.{_≡_};
+ghost use lib.ListN.{getD};
+ghost use Rattle.page_rows.specs.Table.{rows, noRow, firstAt, hasKind, isSignal};
+use crate::Found;
+use crate::NO_ROW;
+use crate::Row;
+use crate::charger;
+use crate::messages;
+use crate::row_of;
+use crate::safety;
+
+pub const ROW_COUNT: usize = 61;
+
+pub fn row_at(i: usize) -> Row
+    ensures { λ r. ⌜ r ≡ getD rows i noRow ⌝ }
+{
+    if ROW_COUNT <= i {
+        return NO_ROW;
+    }
+    if i < charger::END {
+        return row_of(charger::line_at(i));
+    }
+    row_of(safety::line_at(i))
+}
+
+// `row_at` again, for the loops that sift, unpack and seek and for the row that is changed: the compiler builds a function with a single call into its caller
+// whatever its size, and of one with many it makes a call for each row, by which reading a frame of 000 took 44 ns instead of 30, one of 004 54 instead of 41,
+// and changing a signal 30 instead of 23. Writing loses nothing by the call.
+pub fn row_to_sift(i: usize) -> Row
+    ensures { λ r. ⌜ r ≡ getD rows i noRow ⌝ }
+{
+    if ROW_COUNT <= i {
+        return NO_ROW;
+    }
+    if i < charger::END {
+        return row_of(charger::line_at(i));
+    }
+    row_of(safety::line_at(i))
+}
+
+pub fn row_to_unpack(i: usize) -> Row
+    ensures { λ r. ⌜ r ≡ getD rows i noRow ⌝ }
+{
+    if ROW_COUNT <= i {
+        return NO_ROW;
+    }
+    if i < charger::END {
+        return row_of(charger::line_at(i));
+    }
+    row_of(safety::line_at(i))
+}
+
+pub fn row_to_seek(i: usize) -> Row
+    ensures { λ r. ⌜ r ≡ getD rows i noRow ⌝ }
+{
+    if ROW_COUNT <= i {
+        return NO_ROW;
+    }
+    if i < charger::END {
+        return row_of(charger::line_at(i));
+    }
+    row_of(safety::line_at(i))
+}
+
+pub fn row_to_change(i: usize) -> Row
+    ensures { λ r. ⌜ r ≡ getD rows i noRow ⌝ }
+{
+    if ROW_COUNT <= i {
+        return NO_ROW;
+    }
+    if i < charger::END {
+        return row_of(charger::line_at(i));
+    }
+    row_of(safety::line_at(i))
+}
+
+pub fn first_of_kind(kind: usize) -> Found
+    ensures { λ r. ⌜ r ≡ firstAt (hasKind kind) 0 rows ⌝ }
+{
+    if messages::KIND_COUNT <= kind {
+        return Found::Nothing;
+    }
+    Found::At(messages::message_at(kind).4)
+}
+
+// The row of the signal of a kind that starts at a bit: only an exact start counts. The kind's rows stand together.
+pub fn signal_at(kind: usize, start: u32) -> Found
+    ensures { λ r. ⌜ r ≡ firstAt (isSignal kind start) 0 rows ⌝ }
+{
+    let Found::At(at) = first_of_kind(kind) else {
+        return Found::Nothing;
+    };
+    let mut i = at;
+    'rows: loop {
+        if ROW_COUNT <= i {
+            break 'rows Found::Nothing;
+        }
+        let r = row_to_seek(i);
+        if r.kind != kind {
+            break 'rows Found::Nothing;
+        }
+        if r.start == start {
+            break 'rows Found::At(i);
+        }
+        i += 1;
+    }
+}

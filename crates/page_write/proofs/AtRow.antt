@@ -1,0 +1,40 @@
+-- What the functions of `signal` answer at a fine row. An i64 that is handed to a function arrives as the number of its own bits.
+use mathlib.Core.Path.{_≡_, ap, _∙_}
+use mathlib.Core.Bool.{true}
+use Prim.Native.Nat.{ℕ, _^_, _<_}
+use native.Mathlib.Omega.{arith}
+use lib.IntN.{ℤ}
+use mir.Val.{toZ, ofZ, SFits}
+use mir.Syntax.{w64}
+use mir.Facts.{toZ-ofZ}
+use Rattle.signal.specs.Signal.{putBits, putOf}
+use Rattle.signal.specs.Raw.{fitsIn, bitsIn, fitsOf, bitsOf}
+use Rattle.signal.proofs.Totals.{put-in}
+use Rattle.signal.proofs.RawLaws.{fits-in, bits-in, bits-lt}
+use Rattle.page_rows.specs.declared.Row.{Row}
+use Rattle.page_rows.specs.Table.{Fine, lowest, takes}
+use Rattle.page_write.specs.Raws.{rowTakes, putRaw}
+use Rattle.page_rows.proofs.Rules.{both-true}
+
+-- what a row takes fits it
+pub takes-fits : (r : Row) (z : ℤ) → rowTakes r z ≡ true → fitsIn (r .signed) (r .width) z ≡ true
+takes-fits r z e = both-true (fitsIn (r .signed) (r .width) z) (takes (r .labels) (bitsIn (r .signed) (r .width) z)) e .0
+
+module _ (r : Row) (fine : Fine r) where
+  pub put-row : (n v : ℕ) → v < 2 ^ r .width → putOf n (lowest r) (r .width) v ≡ putBits n (lowest r) (r .width) v
+  put-row n v h = put-in n (lowest r) (r .width) v (fine .0) (fine .2) h
+
+  module _ (z : ℤ) (held : SFits w64 z) where
+    pub fits-row : fitsOf (r .signed) (r .width) (toZ w64 (ofZ w64 z)) ≡ fitsIn (r .signed) (r .width) z
+    fits-row = ap (fitsOf (r .signed) (r .width)) (toZ-ofZ held) ∙ fits-in (r .signed) (r .width) z (fine .0) (omega arith)
+
+    pub bits-row : fitsIn (r .signed) (r .width) z ≡ true
+        → bitsOf (r .signed) (r .width) (toZ w64 (ofZ w64 z)) ≡ bitsIn (r .signed) (r .width) z
+    bits-row t = ap (bitsOf (r .signed) (r .width)) (toZ-ofZ held) ∙ bits-in (r .signed) (r .width) z (fine .0) (omega arith) t
+
+    pub put-raw-row : (n v : ℕ) → v ≡ bitsOf (r .signed) (r .width) (toZ w64 (ofZ w64 z)) → rowTakes r z ≡ true
+        → putOf n (lowest r) (r .width) v ≡ putRaw r n z
+    put-raw-row n v q t =
+        let f = takes-fits r z t in
+        ap (putOf n (lowest r) (r .width)) (q ∙ bits-row f)
+        ∙ put-row n (bitsIn (r .signed) (r .width) z) (bits-lt (r .signed) (r .width) (fine .0) z f)

@@ -1,0 +1,3 @@
+pub mod AtRow
+pub mod Places
+pub mod Trips

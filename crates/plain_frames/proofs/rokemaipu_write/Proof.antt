@@ -1,0 +1,90 @@
+-- `plain_frames::rokemaipu_write` meets its contract: 7 where the lent numbers are too few, else the pages' writer's answer as a word, over the
+-- bytes that it leaves.
+use borrow.Author.Needs.{needs}
+use borrow.Author.Tests.{le-leb, lt-leb}
+use mathlib.Core.Path.{_≡_, sym, ap, _∙_}
+use mathlib.Core.Bool.{Bool, true, false, cond}
+use mathlib.Core.List.{List}
+use Prim.Native.Nat.{ℕ, _≤_}
+use lib.Dec.{leb}
+use lib.IntN.{ℤ}
+use lib.ListN.{length, take}
+use Rattle.refusals.specs.declared.Refusal.the-variants.{NoRawNumber}
+use Rattle.page_write.specs.declared.Written.{Written}
+use Rattle.page_rows.specs.Table.{signalCount}
+use Rattle.page_write.specs.Raws.{writeRawsOf, bufferAfter}
+use Rattle.plain_words.specs.Words.{refusalWord}
+use Rattle.plain_frames.specs.Plain.{writtenWord, writeWord, bufferLeft}
+use Rattle.plain_frames.proofs.rokemaipu_write.Statement.{statement}
+use Rattle.plain_frames.proofs.rokemaipu_write.Tie as tie
+
+-- the answer and the buffer
+abbrev Ends : ℕ → List ℤ → List ℕ → ℕ → List ℕ → Type 0
+Ends k raws buf r after = (r ≡ writeWord k raws buf) × (after ≡ bufferLeft k raws buf)
+
+-- by whether the lent numbers are enough
+enough : (k : ℕ) (raws : List ℤ) (buf : List ℕ) (b : Bool) → leb signalCount (length raws) ≡ b
+    → Ends k raws buf
+    (cond b (writtenWord (writeRawsOf k (take signalCount raws) buf)) (refusalWord NoRawNumber))
+    (cond b (bufferAfter k (take signalCount raws) buf) buf)
+unfolding writeWord bufferLeft
+enough k raws buf b e = (
+  sym (ap (λ (x : Bool). cond x (writtenWord (writeRawsOf k (take signalCount raws) buf)) (refusalWord NoRawNumber)) e),
+  sym (ap (λ (x : Bool). cond x (bufferAfter k (take signalCount raws) buf) buf) e),
+)
+
+written : {zs : List ℤ} {w v : Written} {after : List ℕ} (k : ℕ) (raws : List ℤ) (buf : List ℕ) → signalCount ≤ length raws → zs ≡ take signalCount raws
+    → (w ≡ writeRawsOf k zs buf) × (after ≡ bufferAfter k zs buf) → w ≡ v → Ends k raws buf (writtenWord v) after
+written k raws buf l f g h =
+    let e = enough k raws buf true (le-leb _ _ l) in (
+      ap writtenWord (sym h ∙ g .0 ∙ ap (λ (q : List ℤ). writeRawsOf k q buf) f) ∙ e .0,
+      g .1 ∙ ap (λ (q : List ℤ). bufferAfter k q buf) f ∙ e .1,
+    )
+
+start : (c : tie.After-write-raws) → tie.Start
+start c = c .before .before .before .before .before
+
+-- by the variant that the writer answered
+answered : {v : Written} (c : tie.After-write-raws) → c .write-raws .result ≡ v
+    → Ends (start c .args .kind) (start c .args .raws .now) (start c .args .buf .now) (writtenWord v) (c .write-raws .last .1 .1 .0)
+unfolding start
+answered c h =
+    let a = start c .args in
+    let r = c .before .before in
+    written (a .kind) (a .raws .now) (a .buf .now) (r .before .if1 .left) (r .load-raws .ensures) (c .write-raws .ensures) h
+
+returns : tie.Need-returns
+returns c =
+    let a = c .before .before .before .args in
+    let e = enough (a .kind) (a .raws .now) (a .buf .now) false (lt-leb _ _ (c .before .if1 .taken)) in
+    (c .refusal-word .ensures ∙ e .0, e .1)
+
+returns-2 : tie.Need-returns-2
+unfolding start
+returns-2 c =
+    let w = c .before in
+    answered (w .before .before .before .before) (w .w .given .1)
+
+returns-3 : tie.Need-returns-3
+unfolding start
+returns-3 c =
+    let w = c .before .before in
+    let e = answered (w .before .before .before .before) (w .w2 .given .1) in
+    (c .refusal-word2 .ensures ∙ e .0, e .1)
+
+pub rokemaipu-write-spec : {M : Type 1} → statement M
+rokemaipu-write-spec =
+    tie.close
+    (tie.spec
+    (λ c κs. search needs)
+    returns
+    (λ c κs. search needs)
+    (λ c κs. search needs)
+    (λ c. search needs)
+    (λ c. search needs)
+    (λ c. search needs)
+    (λ c κs. search needs)
+    (λ c. search needs)
+    returns-2
+    (λ c. search needs)
+    returns-3)

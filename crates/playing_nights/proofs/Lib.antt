@@ -1,0 +1,11 @@
+pub mod Entries
+pub mod Steps
+pub mod Nights
+pub mod Afresh
+pub mod Counts
+pub mod Calls
+pub mod Pieces
+pub mod Pieced
+pub mod Roomy
+pub mod Worked
+pub mod Shorts

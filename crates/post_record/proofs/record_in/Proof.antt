@@ -1,0 +1,27 @@
+-- `post_record::record_in` meets its contract, by what its parts ensure.
+use borrow.Author.Needs.{needs}
+use Rattle.rules.specs.Step.{recordIn}
+use Rattle.post_record.proofs.record_in.Statement.{statement}
+use Rattle.post_record.proofs.record_in.Tie as tie
+
+messages-of-requires : tie.Need-messages-of-requires
+messages-of-requires c κs = search needs
+
+limits-in-requires : tie.Need-limits-in-requires
+limits-in-requires c κs = search needs
+
+part-requires : tie.Need-part-requires
+part-requires c κs = search needs
+
+last-time-requires : tie.Need-last-time-requires
+last-time-requires c κs = search needs
+
+returns : tie.Need-returns
+unfolding recordIn
+returns c =
+    let l = c .before .before .before in
+    rw (c .last-time .ensures, c .before .part .ensures, l .limits-in .ensures, l .before .before .messages-of .ensures)
+
+pub record-in-spec : {M : Type 1} → statement M
+record-in-spec =
+    tie.close (tie.spec messages-of-requires limits-in-requires part-requires last-time-requires returns)

@@ -1,0 +1,16 @@
+-- `post_times::is_early` meets its contract, for a post that was heard and for one that was not.
+use borrow.Author.Needs.{needs}
+use Rattle.post_times.proofs.is_early.Statement.{statement}
+use Rattle.post_times.proofs.is_early.Tie as tie
+
+is-earlier-requires : tie.Need-is-earlier-requires
+is-earlier-requires c κs = search needs
+
+returns : tie.Need-returns
+returns c = rw (c .before .if1 .taken) (c .is-earlier .ensures)
+
+returns-2 : tie.Need-returns-2
+returns-2 c = rw (c .if1 .left)
+
+pub is-early-spec : {M : Type 1} → statement M
+is-early-spec = tie.close (tie.spec is-earlier-requires returns returns-2)

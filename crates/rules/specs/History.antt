@@ -1,0 +1,92 @@
+-- A post's history: its accepted frames and ticks since its latest accepted set-up, the newest first, and what is read by looking back over it.
+use Prim.Native.Nat.{ℕ, zero, suc, _-_}
+use mathlib.Core.List.{List, [], _∷_}
+use mathlib.Core.Bool.{Bool, false, cond}
+use mathlib.Core.Option.{Option, none, some}
+use lib.Dec.{ltb, eqb}
+use Rattle.message_parts.specs.Parts.{sessionKind, finishedKind}
+
+-- a frame by its time, its kind and its payload number (its message is `messageOf` of the two), or a tick
+pub data Event : Type 0 where
+  frame : ℕ → ℕ → ℕ → Event
+  tick : ℕ → Event
+
+abbrev pub History : Type 0
+History = List Event
+
+abbrev pub timeOf : Event → ℕ
+timeOf (frame t k raw) = t
+timeOf (tick t) = t
+
+-- ---- looking back
+
+-- the first answer of two
+abbrev pub first : {A : Type 0} → Option A → Option A → Option A
+first none b = b
+first (some a) b = some a
+
+-- what p says of the newest event that it says something of, and of the oldest
+abbrev pub newest : {E A : Type 0} → (E → Option A) → List E → Option A
+newest p [] = none
+newest p (e ∷ h) = first (p e) (newest p h)
+
+abbrev pub oldest : {E A : Type 0} → (E → Option A) → List E → Option A
+oldest p [] = none
+oldest p (e ∷ h) = first (oldest p h) (p e)
+
+abbrev pub unless : {E A : Type 0} → Option A → List E → List E
+unless none h = h
+unless (some a) h = []
+
+abbrev pub onlyIf : {E A : Type 0} → Option A → List E → List E
+onlyIf none h = []
+onlyIf (some a) h = h
+
+-- what came after the newest such event: everything, where there is none
+abbrev pub sinceNewest : {E A : Type 0} → (E → Option A) → List E → List E
+sinceNewest p [] = []
+sinceNewest p (e ∷ h) = unless (p e) (e ∷ sinceNewest p h)
+
+-- what came after the oldest such event: nothing, where there is none
+abbrev pub afterOldest : {E A : Type 0} → (E → Option A) → List E → List E
+afterOldest p [] = []
+afterOldest p (e ∷ h) = onlyIf (oldest p h) (e ∷ afterOldest p h)
+
+-- a frame of the kind k: its time, with its payload number
+abbrev pub ofKind : ℕ → Event → Option (ℕ × ℕ)
+ofKind k (frame t j raw) = cond (eqb j k) (some (t, raw)) none
+ofKind k (tick t) = none
+
+-- ---- the session
+
+-- 01: "A session opens at a New_Charge_Session accepted while none is open, and closes at Charge_Session_Finished. Repeats of New_Charge_Session .. do not open it anew."
+-- So it opened at the first New_Charge_Session since the latest Charge_Session_Finished, and the session's events are those after it.
+unfoldable pub sinceFinished : History → History
+sinceFinished h = sinceNewest (ofKind finishedKind) h
+
+unfoldable pub opening : History → Option (ℕ × ℕ)
+opening h = oldest (ofKind sessionKind) (sinceFinished h)
+
+unfoldable pub inSession : History → History
+inSession h = afterOldest (ofKind sessionKind) (sinceFinished h)
+
+-- ---- times
+
+-- the ms from one time to a later one
+abbrev pub elapsed : ℕ → ℕ → ℕ
+elapsed now from = now - from
+
+-- 2: "time earlier than that post's latest accepted frame or tick"
+abbrev pub earlier : ℕ → ℕ → Bool
+earlier t latest = ltb t latest
+
+unfoldable pub earlierIn : History → ℕ → Bool
+earlierIn [] t = false
+earlierIn (e ∷ h) t = earlier t (timeOf e)
+
+-- ---- numbers in a row
+
+-- k, k + 1 and on, n numbers
+abbrev pub countFrom : ℕ → ℕ → List ℕ
+countFrom k zero = []
+countFrom k (suc n) = k ∷ countFrom (suc k) n

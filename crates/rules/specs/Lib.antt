@@ -1,0 +1,4 @@
+pub mod History
+pub mod Rules
+pub mod Record
+pub mod Step

@@ -1,0 +1,9 @@
+pub mod Cases
+pub mod Shapes
+pub mod Digits
+pub mod Values
+pub mod Signs
+pub mod SignedText
+pub mod Numerals
+pub mod Spelling
+pub mod Laws

@@ -1,0 +1,3 @@
+pub mod Inks
+pub mod Written
+pub mod Laws

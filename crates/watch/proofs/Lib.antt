@@ -1,8 +1,0 @@
-pub mod Standings
-pub mod Tables
-pub mod Right
-pub mod Refusing
-pub mod Demand
-pub mod Search
-pub mod Promises
-pub mod Night

@@ -1,0 +1,39 @@
+// Looking a post's record up, with the two promises of `watch_feed`. For users of the library, through `watch`.
+ghost use mathlib.Core.Path.{_≡_};
+ghost use Rattle.watch_rules.specs.Steps.{Steps, Kept, lookUp01};
+ghost use Rattle.watch_rules.specs.Table.{lookUpOf, noRecord};
+use refusals::Refusal;
+use rules::Record;
+use watch_rules::LookedUp;
+use watch_rules::Setting;
+use watch_rules::Table;
+
+fn no_record() -> Record
+    ensures { λ r. ⌜ r ≡ noRecord ⌝ }
+{
+    post_record::record_in(post::free_post())
+}
+
+pub fn look_up(t: Table, post: u32) -> LookedUp
+    ensures by_record { λ r. ⌜ r ≡ lookUpOf t post ⌝ }
+    ensures by_history { λ r. ⌜ ((s : Steps) → Kept t s → r ≡ lookUp01 s post) ⌝ }
+{
+    if 7 < post {
+        return LookedUp {
+            answer: Setting::Refused(Refusal::NoSuchPost),
+            shown: no_record(),
+        };
+    }
+    let i = post as usize;
+    let p = t.posts[i];
+    if !p.used {
+        return LookedUp {
+            answer: Setting::Refused(Refusal::NotSetUp),
+            shown: no_record(),
+        };
+    }
+    LookedUp {
+        answer: Setting::Done,
+        shown: post_record::record_in(p),
+    }
+}

@@ -1,0 +1,7 @@
+pub mod Standings
+pub mod Tables
+pub mod Right
+pub mod Refusing
+pub mod Demand
+pub mod Promises
+pub mod Night

@@ -1,0 +1,106 @@
+-- A refused request leaves every table, and the accepted steps, as they were.
+use Prim.Native.Nat.{ℕ}
+use mathlib.Core.Path.{_≡_, refl, ap, sym}
+use mathlib.Core.List.{List}
+use mathlib.Core.Bool.{Bool, true, false, cond, true≢false}
+use lib.Dec.{leb}
+use lib.ListN.{getD}
+use lib.Seq.{set-getD}
+use Rattle.page_read.specs.Judge.{judgeOf}
+use Rattle.rule_limits.specs.declared.PlainLimits.{PlainLimits}
+use Rattle.rules.specs.declared.Post.{Post}
+use Rattle.rules.specs.Step.{isEarly}
+use Rattle.watch_rules.specs.declared.Table.{Table}
+use Rattle.watch_rules.specs.declared.Answer.{Answer}
+use Rattle.watch_rules.specs.declared.Answer.the-variants.{Findings, Refused}
+use Rattle.watch_rules.specs.declared.Fed.{Fed}
+use Rattle.watch_rules.specs.declared.Heard.{Heard}
+use Rattle.watch_rules.specs.declared.Setting.{Setting}
+use Rattle.watch_rules.specs.declared.Setting.the-variants as setting
+use Rattle.watch_rules.specs.declared.Settled.{Settled}
+use Rattle.watch_rules.specs.declared.Arrival.{Arrival}
+use Rattle.watch_rules.specs.declared.Arrival.the-variants.{Tick, Frame, Unread}
+use Rattle.watch_rules.specs.Table.{postCount, isChannel, placeOf, putIn, noPost, arrivalOf, judgedOf, heardOf, fedBy, feedAt, feedOf, isOther, isPost, setUpOf, releaseOf}
+use Rattle.rule_limits.specs.Limits.{limitsFit}
+use Rattle.watch_rules.specs.Steps.{Step, Steps, ifFound, ifDone, feed01, setUp01, release01, feedSteps, setUpSteps, releaseSteps}
+use Rattle.watch_rules.specs.Run.{Request, setUp, release, frame, tick, Reply, set, fed, reply, next, reply01, steps01, isRefusal}
+
+either : {A : Type 0} (P : A → Type 0) (b : Bool) {x y : A} → P x → P y → P (cond b x y)
+either P true p q = p
+either P false p q = q
+
+never : {A : Type 0} → false ≡ true → A
+never q = absurd (true≢false (sym q))
+
+module _ (t : Table) where
+  -- ---- frames and ticks
+
+  abbrev FedStays : Fed → Type 0
+  FedStays r = isRefusal (fed (r .answer)) ≡ true → r .table ≡ t
+
+  module _ (i : ℕ) where
+    abbrev there : Post
+    there = getD (t .posts) i noPost
+
+    put-same : putIn t i there ≡ t
+    put-same = ap (λ (l : List Post). record { posts = l }) (set-getD (t .posts) i noPost)
+
+    heard-stays : (time : ℕ) (a : Arrival) → FedStays (fedBy t i (judgedOf there time a))
+    heard-stays time Tick = never
+    heard-stays time (Frame k n) = never
+    heard-stays time (Unread w) = λ q. put-same
+
+    feedAt-stays : (time : ℕ) (a : Arrival) → FedStays (feedAt t i time a)
+    unfolding feedAt heardOf
+    feedAt-stays time a =
+        either FedStays (leb postCount i) (λ q. refl)
+        (either (λ (h : Heard). FedStays (fedBy t i h)) (isEarly there time) (λ q. put-same) (heard-stays time a))
+
+  feed-stays : (c time : ℕ) (a : Arrival) → FedStays (feedOf t c time a)
+  unfolding feedOf
+  feed-stays c time a = either FedStays (isChannel c) (feedAt-stays (placeOf (t .posts) c) time a) (λ q. refl)
+
+  -- ---- set-ups and releases
+
+  abbrev SettledStays : Settled → Type 0
+  SettledStays r = isRefusal (set (r .answer)) ≡ true → r .table ≡ t
+
+  setUp-stays : (i c : ℕ) (lim : PlainLimits) → SettledStays (setUpOf t i c lim)
+  unfolding setUpOf
+  setUp-stays i c lim =
+      either SettledStays (isPost i)
+      (either SettledStays (isChannel c)
+      (either SettledStays (isOther (placeOf (t .posts) c) i) (λ q. refl)
+      (either SettledStays (limitsFit lim) never
+      (λ q. refl)))
+      (λ q. refl))
+      (λ q. refl)
+
+  release-stays : (i : ℕ) → SettledStays (releaseOf t i)
+  unfolding releaseOf
+  release-stays i = either SettledStays (isPost i) (either SettledStays (getD (t .posts) i noPost .used) never (λ q. refl)) (λ q. refl)
+
+  -- 01: "A refusal carries its number only; table, record .. stay as they were."
+  pub refused-table : (a : Request) → isRefusal (reply t a) ≡ true → next t a ≡ t
+  refused-table (setUp i c lim) = setUp-stays i c lim
+  refused-table (release i) = release-stays i
+  refused-table (frame c time m x bs) = feed-stays c time (arrivalOf (judgeOf m x bs))
+  refused-table (tick c time) = feed-stays c time Tick
+
+-- ---- the steps
+
+found-stays : (r : Answer) (x : Step) (s : Steps) → isRefusal (fed r) ≡ true → ifFound r x s ≡ s
+found-stays (Findings n) x s = never
+found-stays (Refused w) x s = λ q. refl
+
+done-stays : (r : Setting) (x : Step) (s : Steps) → isRefusal (set r) ≡ true → ifDone r x s ≡ s
+done-stays setting.Done x s = never
+done-stays (setting.Refused w) x s = λ q. refl
+
+-- 01: "A refused frame is part of no history"
+pub refused-steps : (s : Steps) (a : Request) → isRefusal (reply01 s a) ≡ true → steps01 s a ≡ s
+unfolding setUpSteps releaseSteps feedSteps
+refused-steps s (setUp i c lim) = done-stays (setUp01 s i c lim) _ s
+refused-steps s (release i) = done-stays (release01 s i) _ s
+refused-steps s (frame c time m x bs) = found-stays (feed01 s c time (arrivalOf (judgeOf m x bs))) _ s
+refused-steps s (tick c time) = found-stays (feed01 s c time Tick) _ s

@@ -1,0 +1,128 @@
+-- Each operation on a table that stands for accepted steps answers what 01's rules give over them, and its table stands for the steps afterwards.
+use Prim.Native.Nat.{ℕ, _<_}
+use mathlib.Core.Path.{_≡_, refl, ap, sym, _∙_}
+use mathlib.Core.List.{[], _∷_}
+use mathlib.Core.Bool.{Bool, true, false, true≢false}
+use lib.Dec.{eqb}
+use borrow.Author.Tests.{eqb-true, ne-eqb}
+use Rattle.rule_limits.specs.declared.PlainLimits.{PlainLimits}
+use Rattle.rules.specs.History.{Event}
+use Rattle.watch_rules.specs.declared.Table.{Table}
+use Rattle.watch_rules.specs.declared.Answer.{Answer}
+use Rattle.watch_rules.specs.declared.Answer.the-variants.{Findings, Refused}
+use Rattle.watch_rules.specs.declared.Fed.{Fed}
+use Rattle.watch_rules.specs.declared.Setting.{Setting}
+use Rattle.watch_rules.specs.declared.Setting.the-variants as setting
+use Rattle.watch_rules.specs.declared.Settled.{Settled}
+use Rattle.watch_rules.specs.declared.Arrival.{Arrival}
+use Rattle.watch_rules.specs.Table.{postCount, isChannel, feedOf, emptyTable, isPost, setUpOf, releaseOf, lookUpOf}
+use Rattle.rule_limits.specs.Limits.{limitsFit}
+use Rattle.watch_rules.specs.Steps.{setUp, release, event, Steps, Standing, standing, holdsIn, otherHolds, feed01, setUp01, release01, lookUp01, eventIn, ifFound, feedSteps, ifDone, setUpSteps, releaseSteps, tableOf, Apart, InRange, Kept, FeedRight, SetUpRight, ReleaseRight}
+use Rattle.watch_rules.proofs.Standings.{standing-none, over-setUp, over-release, over-event, others-none}
+use Rattle.watch_rules.proofs.Tables.{feed-look, setUp-look, release-look, lookUp-look, empty-look}
+
+-- ---- what a table may rest on, of steps alone
+
+abbrev Sound : Steps → Type 0
+Sound s = Apart s × ((i : ℕ) → i < postCount → InRange (standing i s))
+
+sound-none : Sound []
+unfolding Apart
+sound-none = (λ i j c hi hj p q. absurd (true≢false (sym p ∙ ap (λ (x : Standing). holdsIn x c) (standing-none i))), λ i h. rw (standing-none i) tt)
+
+-- a step by which no post gets a channel
+apart-less : (s z : Steps) → Apart s → ((i c : ℕ) → holdsIn (standing i z) c ≡ true → holdsIn (standing i s) c ≡ true) → Apart z
+unfolding Apart
+apart-less s z apart was i j c hi hj p q = apart i j c hi hj (was i c p) (was j c q)
+
+module _ (s : Steps) (sound : Sound s) where
+  sound-event : (c : ℕ) (e : Event) → Sound (event c e ∷ s)
+  sound-event c e = (
+    apart-less s (event c e ∷ s) (sound .0)
+        (λ i d. over-event s (λ x. holdsIn x d ≡ true → holdsIn (standing i s) d ≡ true) i c e (λ lim h had. had) (λ q. q)),
+    λ i h. over-event s InRange i c e (λ lim h′ r. r) (sound .1 i h),
+  )
+
+  sound-release : (k : ℕ) → Sound (release k ∷ s)
+  sound-release k = (
+    apart-less s (release k ∷ s) (sound .0)
+        (λ i d. over-release s (λ x. holdsIn x d ≡ true → holdsIn (standing i s) d ≡ true) i k (λ q. absurd (true≢false (sym q))) (λ q. q)),
+    λ i h. over-release s InRange i k tt (sound .1 i h),
+  )
+
+  sound-setUp : (k c : ℕ) (lim : PlainLimits) → isChannel c ≡ true → otherHolds s k c 0 postCount ≡ false → limitsFit lim ≡ true → Sound (setUp k c lim ∷ s)
+  unfolding Apart
+  sound-setUp k c lim channel others fit = (apart-now, λ i h. over-setUp s InRange i k c lim (λ e. (channel, fit)) (λ ne. sound .1 i h))
+    where
+      alone : (j d : ℕ) → j < postCount → eqb c d ≡ true → holdsIn (standing j (setUp k c lim ∷ s)) d ≡ true → k ≡ j
+      alone j d h cd =
+          over-setUp s (λ x. holdsIn x d ≡ true → k ≡ j) j k c lim (λ e q. e)
+          (λ ne q. absurd (true≢false (sym q ∙ ap (holdsIn (standing j s)) (sym (eqb-true c d cd)) ∙ others-none s k c others j h (ne-eqb j k (λ e. ne (sym e))))))
+
+      apart-now : (i j d : ℕ) → i < postCount → j < postCount → holdsIn (standing i (setUp k c lim ∷ s)) d ≡ true → holdsIn (standing j (setUp k c lim ∷ s)) d ≡ true → i ≡ j
+      apart-now i j d hi hj p q =
+          over-setUp s (λ x. holdsIn x d ≡ true → i ≡ j) i k c lim
+          (λ ki cd. sym ki ∙ alone j d hj cd q)
+          (λ ni was. over-setUp s (λ x. holdsIn x d ≡ true → i ≡ j) j k c lim (λ kj cd. sym (alone i d hi cd p) ∙ kj) (λ nj was′. sound .0 i j d hi hj was was′) q) p
+
+  -- ---- after a request
+
+  sound-fed : (c : ℕ) (e : Event) (r : Answer) → Sound (ifFound r (event c e) s)
+  sound-fed c e (Findings n) = sound-event c e
+  sound-fed c e (Refused w) = sound
+
+  sound-released : (i : ℕ) (r : Setting) → Sound (ifDone r (release i) s)
+  sound-released i setting.Done = sound-release i
+  sound-released i (setting.Refused w) = sound
+
+  sound-set : (i c : ℕ) (lim : PlainLimits) → Sound (setUpSteps s i c lim)
+  unfolding setUpSteps setUp01
+  sound-set i c lim = go (isPost i) (isChannel c) (otherHolds s i c 0 postCount) (limitsFit lim) refl refl refl refl
+    where
+      go : (p q o f : Bool) → isPost i ≡ p → isChannel c ≡ q → otherHolds s i c 0 postCount ≡ o → limitsFit lim ≡ f → Sound (setUpSteps s i c lim)
+      go false q o f a b d e = rw a sound
+      go true false o f a b d e = rw (a, b) sound
+      go true true true f a b d e = rw (a, b, d) sound
+      go true true false false a b d e = rw (a, b, d, e) sound
+      go true true false true a b d e = rw (a, b, d, e) (sound-setUp i c lim b d e)
+
+-- ---- the operations' second promise
+
+kept-sound : (t : Table) (s : Steps) → Sound s → t ≡ tableOf s → Kept t s
+kept-sound t s sound same = record { apart = sound .0; ranges = sound .1; table = same }
+
+module _ (t : Table) (s : Steps) where
+  sound-kept : Kept t s → Sound s
+  sound-kept kept = (kept .apart, kept .ranges)
+
+  pub feed-right : (c time : ℕ) (a : Arrival) → Kept t s → FeedRight s c time a (feedOf t c time a)
+  unfolding feedSteps
+  feed-right c time a kept =
+      let same = ap (λ (u : Table). feedOf u c time a) (kept .table) ∙ feed-look s (kept .apart) c time a in
+      record {
+        answer = ap (λ (r : Fed). r .answer) same;
+        kept = kept-sound _ _ (sound-fed s (sound-kept kept) c (eventIn time a) (feed01 s c time a)) (ap (λ (r : Fed). r .table) same);
+      }
+
+  pub setUp-right : (i c : ℕ) (lim : PlainLimits) → Kept t s → SetUpRight s i c lim (setUpOf t i c lim)
+  setUp-right i c lim kept =
+      let same = ap (λ (u : Table). setUpOf u i c lim) (kept .table) ∙ setUp-look s (kept .apart) i c lim in
+      record {
+        answer = ap (λ (r : Settled). r .answer) same;
+        kept = kept-sound _ _ (sound-set s (sound-kept kept) i c lim) (ap (λ (r : Settled). r .table) same);
+      }
+
+  pub release-right : (i : ℕ) → Kept t s → ReleaseRight s i (releaseOf t i)
+  unfolding releaseSteps
+  release-right i kept =
+      let same = ap (λ (u : Table). releaseOf u i) (kept .table) ∙ release-look s i in
+      record {
+        answer = ap (λ (r : Settled). r .answer) same;
+        kept = kept-sound _ _ (sound-released s (sound-kept kept) i (release01 s i)) (ap (λ (r : Settled). r .table) same);
+      }
+
+  pub lookUp-right : (i : ℕ) → Kept t s → lookUpOf t i ≡ lookUp01 s i
+  lookUp-right i kept = ap (λ (u : Table). lookUpOf u i) (kept .table) ∙ lookUp-look s i
+
+pub empty-kept : Kept emptyTable []
+empty-kept = kept-sound emptyTable [] sound-none empty-look

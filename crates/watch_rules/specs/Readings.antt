@@ -1,0 +1,199 @@
+-- 01, "Readings from both sides of each edge": E1* to E13*, and 02, Req 02 to 04: one table under one statement, closed by computing the definitions. What the watch answers is read by looking back.
+use Prim.Native.Nat.{ℕ}
+use mathlib.Core.Path.{_≡_, refl}
+use mathlib.Core.Bool.{Bool, true, false}
+use mathlib.Core.List.{List, [], _∷_}
+use lib.IntN.{pos, negsuc}
+use lib.ListN.{getD}
+use Rattle.refusals.specs.declared.Refusal.the-variants.{UnknownIdentifier, TooShort, TooLong, NoLabel, UncoveredBit, ChannelTaken, LimitOutside}
+use Rattle.page_rows.specs.Table.{rows, ofKind, firstAt, covered}
+use Rattle.page_read.specs.Judge.{unlabelled, offender, strayBelow, judgedNumber, judgeOf}
+use Rattle.page_write.specs.Raws.{wholesOf, pad, rawsOf}
+use Rattle.signal.specs.Signal.{getBits}
+use Rattle.payload.specs.Payload.{leNumber, beNumber}
+use Rattle.signal.specs.Twos.{toSigned}
+use Rattle.message_types.specs.declared.CpState.the-variants as cp
+use Rattle.message_types.specs.declared.PpState.the-variants as pp
+use Rattle.message_types.specs.declared.Message.the-variants.{SafetyState, Probes}
+use Rattle.message_types.specs.KindNumbers.{safetyStateKind, probesKind}
+use Rattle.message_parts.specs.Parts.{statusIn, parametersIn, sessionIn, controlIn}
+use Rattle.message_build.specs.Built.{messageOf, builtOf}
+use Rattle.messages.specs.Readings as messages
+use Rattle.rule_limits.specs.declared.PlainLimits.{PlainLimits}
+use Rattle.rule_limits.specs.declared.Sensor.{Sensor}
+use Rattle.rule_limits.specs.declared.Sensor.the-variants.{Measuring, YesNo}
+use Rattle.rules.specs.declared.Dated.{Dated}
+use Rattle.rules.specs.declared.Dated.the-variants as dated
+use Rattle.rules.specs.History.{sinceFinished, opening, inSession, earlierIn}
+use Rattle.rule_asks.specs.Judgements.{lowersBadly, outside, leaking, badInsulation, differs}
+use Rattle.rules.specs.Rules.{sessionStatus, sessionControl, limitOf, f1, f2, f3, f4, f5, f6, f7, f8, f9, f10, f11, findings01}
+use Rattle.rules.specs.Record.{recordOf}
+use Rattle.watch_rules.specs.declared.Answer.the-variants.{Findings, Refused}
+use Rattle.watch_rules.specs.declared.Setting.the-variants as setting
+use Rattle.watch_rules.specs.declared.LookedUp.{LookedUp}
+use Rattle.rule_limits.specs.Limits.{limitsFit}
+use Rattle.watch_rules.specs.Steps.{standing, findFrom, holder, otherHolds, feed01, setUp01, release01, lookUp01, feedSteps, setUpSteps, releaseSteps}
+use Rattle.watch_rules.specs.Run.{Request, setUp, release, frame, tick, Reply, set, fed, acceptedFrom, replies01From}
+
+-- a reading of frames and messages (E1 to E7); requests to the empty table in order of arrival, with their replies; such requests, and a post's record after them, or the sensor kind in it, or its latest message of a kind
+pub data Case : Type 0 where
+  codec : messages.Case → Case
+  answers : List Request → List Reply → Case
+  shows : List Request → ℕ → LookedUp → Case
+  senses : List Request → ℕ → Sensor → Case
+  keeps : List Request → ℕ → ℕ → Dated → Case
+
+abbrev pub Holds : Case → Type 0
+Holds (codec c) = messages.Holds c
+Holds (answers asked replies) = replies01From [] asked ≡ replies
+Holds (shows asked post shown) = lookUp01 (acceptedFrom [] asked) post ≡ shown
+Holds (senses asked post sensor) = lookUp01 (acceptedFrom [] asked) post .shown .limits .sensor ≡ sensor
+Holds (keeps asked post kind latest) = getD (lookUp01 (acceptedFrom [] asked) post .shown .latest) kind (record { message = dated.Nothing }) .message ≡ latest
+
+abbrev pub All : List Case → Type 0
+All [] = Unit {0}
+All (c ∷ cs) = Holds c × All cs
+
+-- default voltage 500.0 V, charge 100.0 A, discharge 50.0 A, W 500 ms, and a sensor kind by its number
+abbrev limitsWith : ℕ → PlainLimits
+limitsWith n = record { voltage = 5000; charge = 1000; discharge = 500; silence = 500; sensor = n }
+
+abbrev limits : PlainLimits
+limits = limitsWith 0
+
+abbrev done : Reply
+done = set setting.Done
+
+abbrev found : ℕ → Reply
+found n = fed (Findings n)
+
+-- frames on channel 4: Power_Modules_Status (Allowed, 0 A) by the voltage's two bytes and the insulation, DC_Power_Parameters by Maximum_Voltage, Advantics_Controller_Status Charging,
+-- New_Charge_Session 02 01, DC_Power_Control by Target_Voltage and byte 6
+abbrev status : ℕ → ℕ → ℕ → ℕ → Request
+status t low high raw = frame 4 t 0x63000 true (low ∷ high ∷ 0 ∷ 0 ∷ 65 ∷ 65 ∷ 1 ∷ raw ∷ [])
+
+abbrev parameters : ℕ → ℕ → ℕ → Request
+parameters t low high = frame 4 t 0x63001 true (low ∷ high ∷ 0 ∷ 0 ∷ 0 ∷ 0 ∷ 0 ∷ 0 ∷ [])
+
+abbrev controller : ℕ → Request
+controller t = frame 4 t 0x6b000 true (7 ∷ [])
+
+abbrev session : ℕ → Request
+session t = frame 4 t 0x6b001 true (2 ∷ 1 ∷ [])
+
+abbrev control : ℕ → ℕ → ℕ → ℕ → Request
+control t low high last = frame 4 t 0x6b003 true (low ∷ high ∷ 0 ∷ 0 ∷ 0 ∷ 0 ∷ last ∷ [])
+
+-- frames of the safety controller on channel 4, each with 53.3 % and PWM active or -10.0 °C: ChargeControl1 and ChargeState1 with both contactors closed, PT1000State
+abbrev safetyControl : ℕ → Request
+safetyControl t = frame 4 t 6 false (0x82 ∷ 0x15 ∷ 3 ∷ 0 ∷ 0 ∷ 0 ∷ 0 ∷ 0 ∷ [])
+
+abbrev safetyState : ℕ → Request
+safetyState t = frame 4 t 7 false (0x82 ∷ 0x15 ∷ 3 ∷ 3 ∷ 3 ∷ 0 ∷ 0 ∷ 0 ∷ [])
+
+abbrev probes : ℕ → Request
+probes t = frame 4 t 8 false (0xFE ∷ 0x70 ∷ 0x7F ∷ 0xFC ∷ 0 ∷ 0 ∷ 0 ∷ 0 ∷ [])
+
+abbrev set-up : Request
+set-up = setUp 0 4 limits
+
+-- post 0 with a sensor kind by its number
+abbrev sensing : ℕ → Request
+sensing n = setUp 0 4 (limitsWith n)
+
+abbrev e1to7 : List messages.Case → List Case → List Case
+e1to7 [] rest = rest
+e1to7 (c ∷ cs) rest = codec c ∷ e1to7 cs rest
+
+abbrev e8to13 : List Case
+e8to13 =
+    -- E8: under precharge, voltage raw 5000: insulation raw 25 no F9, raw 24 F9
+    answers (set-up ∷ session 0 ∷ status 10 0 0 255 ∷ control 20 0x88 0x13 0x04 ∷ status 30 0x88 0x13 25 ∷ status 40 0x88 0x13 24 ∷ [])
+    (done ∷ found 0 ∷ found 0 ∷ found 0 ∷ found 0 ∷ found 256 ∷ [])
+    -- E9: controller status at 1000: tick at 1200 answers 0, at 1201 answers 2
+    ∷ answers (set-up ∷ controller 1000 ∷ tick 4 1200 ∷ tick 4 1201 ∷ []) (done ∷ found 0 ∷ found 0 ∷ found 2 ∷ [])
+    -- E10: W 500, session opened at 0, no controller status: tick at 500 answers 0; Power_Modules_Status at 501, all else in order, 1; tick at 1001 0; tick at 1002 1
+    ∷ answers (set-up ∷ session 0 ∷ tick 4 500 ∷ status 501 0 0 255 ∷ tick 4 1001 ∷ tick 4 1002 ∷ []) (done ∷ found 0 ∷ found 0 ∷ found 1 ∷ found 0 ∷ found 1 ∷ [])
+    -- E11: closed contactors and power transfer before any session, target within limit, no lowering: 12
+    ∷ answers (set-up ∷ control 0 0x88 0x13 0x48 ∷ []) (done ∷ found 12 ∷ [])
+    -- E12: post 0 on channel 4: post 1 on 4 gets 11; post 0 on 4 again is accepted with an empty record
+    ∷ answers (set-up ∷ tick 4 100 ∷ setUp 1 4 limits ∷ set-up ∷ []) (done ∷ found 0 ∷ set (setting.Refused ChannelTaken) ∷ done ∷ [])
+    ∷ shows (set-up ∷ tick 4 100 ∷ setUp 1 4 limits ∷ set-up ∷ []) 0 (record { answer = setting.Done; shown = recordOf 4 limits [] })
+    -- E13: default 5000: Maximum_Voltage 0 or 6000 gives 5000, 4000 gives 4000; target 4001 then has F7 (standby, so that nothing else is found)
+    ∷ answers (set-up ∷ parameters 0 0 0 ∷ control 1 0x88 0x13 1 ∷ control 2 0x89 0x13 1 ∷ []) (done ∷ found 0 ∷ found 0 ∷ found 64 ∷ [])
+    ∷ answers (set-up ∷ parameters 0 0x70 0x17 ∷ control 1 0x88 0x13 1 ∷ control 2 0x89 0x13 1 ∷ []) (done ∷ found 0 ∷ found 0 ∷ found 64 ∷ [])
+    ∷ answers (set-up ∷ parameters 0 0xA0 0x0F ∷ control 1 0xA0 0x0F 1 ∷ control 2 0xA1 0x0F 1 ∷ []) (done ∷ found 0 ∷ found 0 ∷ found 64 ∷ [])
+    -- 02, Req 02: the watch hands the start bit on, "lowest start first"; a byte too few is 4, one too many 15
+    ∷ answers (set-up ∷ frame 4 0 0x6b001 true (8 ∷ 5 ∷ []) ∷ frame 4 0 0x6b001 true (2 ∷ 5 ∷ []) ∷ frame 4 0 0x6b001 true (8 ∷ []) ∷ frame 4 0 0x6b001 true (8 ∷ 5 ∷ 0 ∷ []) ∷ [])
+    (done ∷ fed (Refused (NoLabel 0)) ∷ fed (Refused (NoLabel 8)) ∷ fed (Refused TooShort) ∷ fed (Refused TooLong) ∷ [])
+    -- 02, Req 03: under precharge at 0 V raw 0 and raw 1 have no F9 on a measuring post, which has it at raw 24 of voltage raw 5000
+    ∷ answers (sensing 0 ∷ session 0 ∷ control 10 0x88 0x13 0x01 ∷ status 20 0 0 0 ∷ control 30 0x88 0x13 0x04 ∷ status 40 0 0 0 ∷ status 50 0 0 1 ∷ status 60 0x88 0x13 24 ∷ [])
+    (done ∷ found 0 ∷ found 0 ∷ found 0 ∷ found 0 ∷ found 0 ∷ found 0 ∷ found 256 ∷ [])
+    -- on a yes/no post raw 0 has F9 at 0 V and at raw 5000, raw 1 at neither; under standby raw 0 has none
+    ∷ answers (sensing 1 ∷ session 0 ∷ control 10 0x88 0x13 0x01 ∷ status 20 0 0 0 ∷ control 30 0x88 0x13 0x04 ∷ status 40 0 0 0 ∷ status 50 0 0 1 ∷ status 60 0x88 0x13 0 ∷ status 70 0x88 0x13 1 ∷ [])
+    (done ∷ found 0 ∷ found 0 ∷ found 0 ∷ found 0 ∷ found 256 ∷ found 0 ∷ found 256 ∷ found 0 ∷ [])
+    -- a number that is no sensor kind gets 12, and the post stays as it was
+    ∷ answers (sensing 1 ∷ session 0 ∷ status 10 0 0 255 ∷ control 20 0x88 0x13 0x04 ∷ sensing 2 ∷ status 30 0 0 0 ∷ [])
+    (done ∷ found 0 ∷ found 0 ∷ found 0 ∷ set (setting.Refused LimitOutside) ∷ found 256 ∷ [])
+    ∷ senses (sensing 1 ∷ sensing 2 ∷ []) 0 YesNo
+    -- the record shows the kind of the latest set-up
+    ∷ senses (sensing 0 ∷ sensing 1 ∷ []) 0 YesNo
+    ∷ senses (sensing 1 ∷ sensing 0 ∷ []) 0 Measuring
+    -- 02, Req 04: the safety controller's frames "raise only F1 and F2": nothing with no session open, though contactors are closed; F2 with a late controller; F1 in a silent session
+    ∷ answers (set-up ∷ safetyControl 0 ∷ safetyState 10 ∷ probes 20 ∷ []) (done ∷ found 0 ∷ found 0 ∷ found 0 ∷ [])
+    ∷ answers (set-up ∷ controller 1000 ∷ safetyState 1200 ∷ safetyControl 1201 ∷ safetyState 1201 ∷ probes 1201 ∷ []) (done ∷ found 0 ∷ found 0 ∷ found 2 ∷ found 2 ∷ found 2 ∷ [])
+    ∷ answers (set-up ∷ session 0 ∷ safetyState 500 ∷ safetyControl 501 ∷ safetyState 501 ∷ probes 501 ∷ []) (done ∷ found 0 ∷ found 0 ∷ found 1 ∷ found 1 ∷ found 1 ∷ [])
+    -- a standard 9 and an extended 7 get 3, a bit that no signal covers 6
+    ∷ answers (set-up ∷ frame 4 0 9 false (0x82 ∷ 0x15 ∷ 0 ∷ 0 ∷ 0 ∷ 0 ∷ 0 ∷ 0 ∷ []) ∷ frame 4 0 7 true (0x82 ∷ 0x15 ∷ 3 ∷ 3 ∷ 3 ∷ 0 ∷ 0 ∷ 0 ∷ []) ∷ frame 4 0 7 false (0x82 ∷ 0x15 ∷ 3 ∷ 3 ∷ 3 ∷ 0 ∷ 0 ∷ 1 ∷ []) ∷ [])
+    (done ∷ fed (Refused UnknownIdentifier) ∷ fed (Refused UnknownIdentifier) ∷ fed (Refused UncoveredBit) ∷ [])
+    -- the record shows each under its kind
+    ∷ keeps (set-up ∷ safetyState 10 ∷ probes 20 ∷ []) 0 safetyStateKind
+    (dated.At 10
+    (SafetyState
+    (record {
+      duty = 533;
+      pwm = true;
+      cp = cp.C;
+      short = false;
+      diode = false;
+      pp = pp.Amps32;
+      contactor1 = true;
+      contactor2 = true;
+      error1 = false;
+      error2 = false;
+      estop1 = false;
+      estop2 = false;
+      estop3 = false;
+      imdabort = false;
+      imdfailure = false;
+    })))
+    ∷ keeps (set-up ∷ safetyState 10 ∷ probes 20 ∷ []) 0 probesKind
+    (dated.At 20
+    (Probes
+    (record {
+      temperature1 = negsuc 99;
+      stopped1 = false;
+      failed1 = false;
+      temperature2 = pos 0x1FFF;
+      stopped2 = false;
+      failed2 = false;
+      temperature3 = pos 0;
+      stopped3 = false;
+      failed3 = false;
+      temperature4 = pos 0;
+      stopped4 = false;
+      failed4 = false;
+    })))
+    ∷ []
+
+abbrev pub table : List Case
+table = e1to7 messages.table e8to13
+
+-- the table with E1 to E7 in front
+joined : (cs : List messages.Case) (rest : List Case) → messages.All cs → All rest → All (e1to7 cs rest)
+joined [] rest a b = b
+joined (c ∷ cs) rest a b = (a .0, joined cs rest (a .1) b)
+
+pub readings : All table
+unfolding standing findFrom holder otherHolds feed01 setUp01 release01 lookUp01 feedSteps setUpSteps releaseSteps limitsFit sinceFinished opening inSession earlierIn lowersBadly outside leaking badInsulation differs sessionStatus sessionControl limitOf f1 f2 f3 f4 f5 f6 f7 f8 f9 f10 f11 findings01 recordOf messageOf builtOf statusIn parametersIn sessionIn controlIn rows ofKind firstAt covered unlabelled offender strayBelow judgedNumber judgeOf wholesOf pad rawsOf getBits leNumber beNumber toSigned
+readings = joined messages.table e8to13 messages.readings (refl, (refl, (refl, (refl, (refl, (refl, (refl, (refl, (refl, (refl, (refl, (refl, (refl, (refl, (refl, (refl, (refl, (refl, (refl, (refl, (refl, (refl, tt))))))))))))))))))))))

@@ -1,0 +1,56 @@
+// 01's session watch, the table of posts: definitions and laws, and no function. Read with 01 beside it, in this order:
+//   specs/Steps.antt      the accepted steps of all posts, newest first, and 01's answers read afresh over them; which steps a table stands for
+//   specs/Table.antt      each operation's answer and table, for every table
+//   specs/Run.antt        any requests from the empty table
+//   specs/Readings.antt   01's readings from both sides of each edge
+// proofs/Right.antt makes the two one, proofs/Demand.antt has demand 3, proofs/Night.antt its theorems on a night. For every crate that holds a table.
+use refusals::Refusal;
+use rules::Post;
+use rules::Record;
+
+pub const POSTS: usize = 8;
+
+#[repr(C)]
+pub struct Table {
+    pub posts: [Post; 8],
+}
+
+// The findings of an accepted frame or tick, finding k in bit k - 1, or the refusal.
+pub enum Answer {
+    Findings(u32),
+    Refused(Refusal),
+}
+
+pub struct Fed {
+    pub table: Table,
+    pub answer: Answer,
+}
+
+pub enum Setting {
+    Done,
+    Refused(Refusal),
+}
+
+pub struct Settled {
+    pub table: Table,
+    pub answer: Setting,
+}
+
+// The record of a refused look-up is an empty one.
+pub struct LookedUp {
+    pub answer: Setting,
+    pub shown: Record,
+}
+
+// What comes to a post at a time: a tick, a frame by its kind and payload number, or a frame that its reader refused.
+pub enum Arrival {
+    Tick,
+    Frame(usize, u64),
+    Unread(Refusal),
+}
+
+// A post after an arrival, and the answer.
+pub struct Heard {
+    pub post: Post,
+    pub answer: Answer,
+}

@@ -1,0 +1,107 @@
+// The empty table, set-up and release, by value: the table goes in and comes back, with the two promises of `watch_feed`. For users of the library, through `watch`.
+ghost use mathlib.Core.List.{[]};
+ghost use mathlib.Core.Path.{_≡_};
+ghost use Rattle.rule_limits.specs.Sensor.{plainOf};
+ghost use Rattle.watch_rules.specs.Steps.{Steps, Kept, SetUpRight, ReleaseRight};
+ghost use Rattle.watch_rules.specs.Table.{emptyTable, isOther, setUpOf, releaseOf};
+use refusals::Refusal;
+use rule_limits::Limits;
+use rule_limits::PlainLimits;
+use rule_limits::limits_fit;
+use watch_places::place;
+use watch_places::put;
+use watch_rules::POSTS;
+use watch_rules::Setting;
+use watch_rules::Settled;
+use watch_rules::Table;
+
+// The table with no post set up.
+pub fn empty() -> Table
+    ensures by_record { λ r. ⌜ r ≡ emptyTable ⌝ }
+    ensures by_history { λ r. ⌜ Kept r [] ⌝ }
+{
+    let p = post::free_post();
+    Table { posts: [p; 8] }
+}
+
+// Whether a place is a post's, and another's than the post i.
+fn other(at: usize, i: u32) -> bool
+    ensures { λ r. ⌜ r ≡ isOther at i ⌝ }
+{
+    if at < POSTS {
+        at != (i as usize)
+    } else {
+        false
+    }
+}
+
+// "Set-up gives 9 to 12." The sensor kind comes as a number, and one that is no kind is a limit outside its range.
+pub fn set_up_plain(t: Table, post: u32, channel: u32, limits: PlainLimits) -> Settled
+    ensures by_record { λ r. ⌜ r ≡ setUpOf t post channel limits ⌝ }
+    ensures by_history { λ r. ⌜ ((s : Steps) → Kept t s → SetUpRight s post channel limits r) ⌝ }
+{
+    if 7 < post {
+        return Settled {
+            table: t,
+            answer: Setting::Refused(Refusal::NoSuchPost),
+        };
+    }
+    if 31 < channel {
+        return Settled {
+            table: t,
+            answer: Setting::Refused(Refusal::NoSuchChannel),
+        };
+    }
+    if other(place(t, channel), post) {
+        return Settled {
+            table: t,
+            answer: Setting::Refused(Refusal::ChannelTaken),
+        };
+    }
+    if !limits_fit(limits) {
+        return Settled {
+            table: t,
+            answer: Setting::Refused(Refusal::LimitOutside),
+        };
+    }
+    let u = put(t, post as usize, post::fresh_post(channel, limits));
+    Settled {
+        table: u,
+        answer: Setting::Done,
+    }
+}
+
+// The same with the sensor kind by its name.
+pub fn set_up(t: Table, post: u32, channel: u32, limits: Limits) -> Settled
+    ensures by_record { λ r. ⌜ r ≡ setUpOf t post channel (plainOf limits) ⌝ }
+    ensures by_history { λ r. ⌜ ((s : Steps) → Kept t s → SetUpRight s post channel (plainOf limits) r) ⌝ }
+{
+    let kept = rule_limits::kept::plain(limits);
+    set_up_plain(t, post, channel, kept)
+}
+
+// "Release and looking up a record give 9 or 14."
+pub fn release(t: Table, post: u32) -> Settled
+    ensures by_record { λ r. ⌜ r ≡ releaseOf t post ⌝ }
+    ensures by_history { λ r. ⌜ ((s : Steps) → Kept t s → ReleaseRight s post r) ⌝ }
+{
+    if 7 < post {
+        return Settled {
+            table: t,
+            answer: Setting::Refused(Refusal::NoSuchPost),
+        };
+    }
+    let i = post as usize;
+    let p = t.posts[i];
+    if !p.used {
+        return Settled {
+            table: t,
+            answer: Setting::Refused(Refusal::NotSetUp),
+        };
+    }
+    let u = put(t, i, post::free_post());
+    Settled {
+        table: u,
+        answer: Setting::Done,
+    }
+}
