@@ -129,17 +129,17 @@ for k, (message, _, page, *_) in enumerate(s for signals in papers for s in sign
     if pages.setdefault(message, (page, k))[0] != page:
         fault(f'{message}: its signals disagree on the message')
 wanted = [(*pages[m][0], pages[m][1]) for m in KINDS]
-code = (ROWS / 'src/messages.rt').read_text()
+code = (ROWS / 'src/contents.rt').read_text()
 specs = (ROWS / 'specs/Messages.antt').read_text()
 listed = constants(code, 'Message')[:-1]
-held('src/messages.rt', [page for _, page in listed], wanted)
+held('src/contents.rt', [page for _, page in listed], wanted)
 array = re.findall(r'\w+', re.search(r'const MESSAGES: \[Message; \d+\] = \[(.*?)\];', code, re.S).group(1))
 names = [name for name, _ in listed]
 if names != array or arms(code, 'message_at') != [(str(k), name) for k, name in enumerate(names)] + [('_', 'NO_MESSAGE')]:
-    fault('src/messages.rt: the constants, MESSAGES and message_at do not list the same names in the same order')
+    fault('src/contents.rt: the constants, MESSAGES and message_at do not list the same names in the same order')
 said = re.findall(r'^\s*(?:∷ )?\(([^)]*)\)  -- (\w+)$', specs, re.M)
 held('specs/Messages.antt', [numbers(page) for page, _ in said], wanted)
-for place, have in (('src/messages.rt', names), ('specs/Messages.antt', [name for _, name in said])):
+for place, have in (('src/contents.rt', names), ('specs/Messages.antt', [name for _, name in said])):
     for name, message in zip(have, KINDS):
         if not alike(name, message):
             fault(f'{place}: {name} stands where the document has {message}')

@@ -4,7 +4,7 @@ ghost use mathlib.Core.Path.{_≡_};
 ghost use Rattle.page_rows.specs.Layout.{rowOf};
 ghost use Rattle.page_rows.specs.Table.{identifierOf, lengthOf, extendedOf, bigOf, takes};
 
-mod messages; // messages.rt: the messages, and the search by identifier
+mod contents; // contents.rt: the messages, where the rows of each begin, and the search by identifier
 mod charger; // charger.rt: the rows of document 000
 mod safety; // safety.rt: the rows of document 004
 mod table; // table.rt: all of them, and the searches by kind and start
@@ -20,7 +20,7 @@ pub use charger::SETPOINTS_MODE;
 pub use charger::STOP_ORIGIN;
 pub use charger::SYSTEM_ENABLE;
 pub use charger::VEHICLE_READY_FOR_CHARGING;
-pub use messages::message_with_id;
+pub use contents::message_with_id;
 pub use table::ROW_COUNT;
 pub use table::first_of_kind;
 pub use table::row_at;
@@ -83,7 +83,7 @@ pub enum FoundMessage {
 pub fn row_of(l: Line) -> Row
     ensures { λ r. ⌜ r ≡ rowOf l ⌝ }
 {
-    let m = messages::message_at(l.0);
+    let m = contents::message_at(l.0);
     Row {
         kind: l.0,
         id: m.0,
@@ -102,25 +102,25 @@ pub fn row_of(l: Line) -> Row
 pub fn identifier_of(kind: usize) -> u32
     ensures { λ r. ⌜ r ≡ identifierOf kind ⌝ }
 {
-    messages::message_at(kind).0
+    contents::message_at(kind).0
 }
 
 pub fn is_extended(kind: usize) -> bool
     ensures { λ r. ⌜ r ≡ extendedOf kind ⌝ }
 {
-    messages::message_at(kind).1
+    contents::message_at(kind).1
 }
 
 pub fn length_of(kind: usize) -> usize
     ensures { λ r. ⌜ r ≡ lengthOf kind ⌝ }
 {
-    messages::message_at(kind).2
+    contents::message_at(kind).2
 }
 
 pub fn is_big(kind: usize) -> bool
     ensures { λ r. ⌜ r ≡ bigOf kind ⌝ }
 {
-    messages::message_at(kind).3
+    contents::message_at(kind).3
 }
 
 // Whether a signal with these labels, or with none, may hold the number.

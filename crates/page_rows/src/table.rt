@@ -6,7 +6,7 @@ use crate::Found;
 use crate::NO_ROW;
 use crate::Row;
 use crate::charger;
-use crate::messages;
+use crate::contents;
 use crate::row_of;
 use crate::safety;
 
@@ -78,10 +78,10 @@ pub fn row_to_change(i: usize) -> Row
 pub fn first_of_kind(kind: usize) -> Found
     ensures { λ r. ⌜ r ≡ firstAt (hasKind kind) 0 rows ⌝ }
 {
-    if messages::KIND_COUNT <= kind {
+    if contents::KIND_COUNT <= kind {
         return Found::Nothing;
     }
-    Found::At(messages::message_at(kind).4)
+    Found::At(contents::message_at(kind).4)
 }
 
 // The row of the signal of a kind that starts at a bit: only an exact start counts. The kind's rows stand together.

@@ -1,8 +1,8 @@
--- `page_rows::messages::key` meets its contract: twice the identifier, and one more for the extended form.
+-- `page_rows::contents::key` meets its contract: twice the identifier, and one more for the extended form.
 use native.Mathlib.Omega.{arith}
 use borrow.Author.Needs.{needs}
-use Rattle.page_rows.proofs.messages.key.Statement.{statement}
-use Rattle.page_rows.proofs.messages.key.Tie as tie
+use Rattle.page_rows.proofs.contents.key.Statement.{statement}
+use Rattle.page_rows.proofs.contents.key.Tie as tie
 
 mul-result : tie.Need-mul-result
 mul-result c = search needs

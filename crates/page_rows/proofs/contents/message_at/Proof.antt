@@ -1,10 +1,10 @@
--- `page_rows::messages::message_at` meets its contract: arm k hands out message k, and the last arm what a number that is no kind says.
+-- `page_rows::contents::message_at` meets its contract: arm k hands out message k, and the last arm what a number that is no kind says.
 use mathlib.Core.Path.{sym}
 use lib.ListN.{List·getD-eq-default}
 use Rattle.page_rows.specs.Messages.{kindCount, messages, noMessage, messageOf}
 use Rattle.page_rows.proofs.Keys.{at-key, past-keys}
-use Rattle.page_rows.proofs.messages.message_at.Statement.{statement}
-use Rattle.page_rows.proofs.messages.message_at.Tie as tie
+use Rattle.page_rows.proofs.contents.message_at.Statement.{statement}
+use Rattle.page_rows.proofs.contents.message_at.Tie as tie
 
 pub message-at-spec : {M : Type 1} → statement M
 message-at-spec =

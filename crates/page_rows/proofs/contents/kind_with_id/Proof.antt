@@ -1,4 +1,4 @@
--- `page_rows::messages::kind_with_id` meets its contract. The loop's invariant: no message before `k` has the identifier. The measure is what is left of
+-- `page_rows::contents::kind_with_id` meets its contract. The loop's invariant: no message before `k` has the identifier. The measure is what is left of
 -- the messages.
 use mathlib.Core.Path.{_≡_, sym, _∙_, subst}
 use mathlib.Core.Logic.{_⊎_, inl, inr}
@@ -8,8 +8,8 @@ use borrow.Author.Needs.{needs}
 use Rattle.signal.proofs.Complement.{half-of}
 use Rattle.page_rows.specs.Messages.{kindCount, messageOf, keyOf}
 use Rattle.page_rows.proofs.Heads.{id-found, id-none}
-use Rattle.page_rows.proofs.messages.kind_with_id.Statement.{statement}
-use Rattle.page_rows.proofs.messages.kind_with_id.Tie as tie
+use Rattle.page_rows.proofs.contents.kind_with_id.Statement.{statement}
+use Rattle.page_rows.proofs.contents.kind_with_id.Tie as tie
 
 abbrev Inv-messages : tie.InvT-messages
 Inv-messages id extended wanted all k₀ k = (j : ℕ) → j < k → keyOf (messageOf j .0) (messageOf j .1) ≡ keyOf id extended → ⊥

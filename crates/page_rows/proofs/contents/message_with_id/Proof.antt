@@ -1,4 +1,4 @@
--- `page_rows::messages::message_with_id` meets its contract: what the kind that was found says of its message.
+-- `page_rows::contents::message_with_id` meets its contract: what the kind that was found says of its message.
 use mathlib.Core.Path.{sym, ap, _∙_}
 use borrow.Author.Needs.{needs}
 use Rattle.page_rows.specs.declared.Message.{Message}
@@ -7,8 +7,8 @@ use Rattle.page_rows.specs.declared.FoundMessage.the-variants as message
 use Rattle.page_rows.specs.Table.{rows, firstAt, hasId}
 use Rattle.page_rows.proofs.Firsts.{id-kind}
 use Rattle.page_rows.proofs.Heads.{kind-message, kind-nothing}
-use Rattle.page_rows.proofs.messages.message_with_id.Statement.{statement}
-use Rattle.page_rows.proofs.messages.message_with_id.Tie as tie
+use Rattle.page_rows.proofs.contents.message_with_id.Statement.{statement}
+use Rattle.page_rows.proofs.contents.message_with_id.Tie as tie
 
 kind-with-id-requires : tie.Need-kind-with-id-requires
 kind-with-id-requires c κs = search needs
