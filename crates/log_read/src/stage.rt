@@ -68,9 +68,7 @@ fn identifier_part(s: &[u8], time: u32, channel: u32, p: u32, at: usize) -> Take
         if 536870912 <= p / 2 {
             return Taken::Bad(Refusal::LogExtended);
         }
-        return length_at(s, time, channel, p, at);
-    }
-    if 2048 <= p / 2 {
+    } else if 2048 <= p / 2 {
         return Taken::Bad(Refusal::LogStandard);
     }
     length_at(s, time, channel, p, at)
