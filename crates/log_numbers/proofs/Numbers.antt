@@ -80,15 +80,6 @@ unfolding top
 top-some zero = omega arith
 top-some (suc k) = omega (arith, top-some k)
 
-pub under : (k : ℕ) (s : List ℕ) → Under (top k) (suc k) (readGroups k s)
-unfolding readGroups top
-under zero [] = tt
-under (suc k) [] = tt
-under zero (b ∷ bs) = under-cond (ltb b 16) 16 1 (Value b 1) Ill (λ e. (ltb-true b 16 e, omega arith)) (λ e. tt)
-under (suc k) (b ∷ bs) =
-    under-cond (ltb b 128) (top k * 128) (suc (suc k)) (Value b 1) (moreOf b (readGroups k bs))
-    (λ e. (omega (arith, ltb-true b 128 e, top-some k), omega arith)) (λ e. under-more b (top k) (suc k) (readGroups k bs) (under k bs))
-
 -- ---- two numbers never write the same bytes, whatever follows
 pub prefix-free : (a b : ℕ) (x y : List ℕ) → a < 4294967296 → b < 4294967296 → numberBytes a ++ x ≡ numberBytes b ++ y → (a ≡ b) × (x ≡ y)
 unfolding top

@@ -36,7 +36,7 @@ fn last_group(n: u32, weight: u32, i: usize, b: u8) -> Num
     }
 }
 
-// A number of several groups, from the low one up: the first i hold n, and the next weighs 128 to the i.
+// A number of several groups, from the low one up: the first i hold n, and the next weighs 128 to the i. (By recursion each group would be a call.)
 fn groups_at(s: &[u8], at: usize) -> Num
     requires { ⌜ (at < length (now s)) × (128 ≤ getD (now s) at 0) ⌝ }
     ensures { λ r. ⌜ r ≡ readNumber (drop at (now (s .entry))) ⌝ }
@@ -61,7 +61,7 @@ fn groups_at(s: &[u8], at: usize) -> Num
     }
 }
 
-// The number at a place. Most have one group, which is seen before any call.
+// The number at a place. Most have one group.
 pub fn number_at(s: &[u8], at: usize) -> Num
     ensures { λ r. ⌜ r ≡ readNumber (drop at (now (s .entry))) ⌝ }
 {

@@ -71,6 +71,7 @@ fn identifier_part(s: &[u8], time: u32, channel: u32, p: u32, at: usize) -> Take
     } else if 2048 <= p / 2 {
         return Taken::Bad(Refusal::LogStandard);
     }
+    // one call for both forms: of two the compiler builds neither in
     length_at(s, time, channel, p, at)
 }
 
