@@ -1,18 +1,18 @@
 -- Numbers: what is written reads back, a piece of it reads as cut, and no number has two forms.
-use mathlib.Core.Path.{_≡_, refl, sym, ap, ap₂, _∙_, subst}
+use mathlib.Core.Path.{_≡_, refl, sym, ap, _∙_, subst}
 use mathlib.Core.Bool.{Bool, true, false, cond}
 use mathlib.Core.List.{List, [], _∷_, _++_}
-use Prim.Native.Nat.{ℕ, zero, suc, _+_, _-_, _*_, _/_, _%_, _≤_, _<_}
+use Prim.Native.Nat.{ℕ, zero, suc, _+_, _*_, _/_, _%_, _≤_, _<_}
 use native.Mathlib.Nat.{div-add-mod', mod-lt, zero-lt-suc}
 use native.Mathlib.Omega.{arith}
 use native.Mathlib.Numerals.{add-one}
-use lib.ListN.{length, take, drop, getD, drop-of-length-le, length-drop}
-use lib.Seq.{drop-append-seam, drop-cons}
+use lib.ListN.{length, take, drop, getD, length-drop}
+use lib.Seq.{drop-append-seam}
 use lib.Dec.{ltb, eqb}
-use borrow.Author.Tests.{ltb-true, ltb-false, lt-ltb, le-ltb, ne-eqb, eqb-true, eqb-false}
+use borrow.Author.Tests.{ltb-true, ltb-false, lt-ltb, le-ltb, ne-eqb, eqb-false}
 use Rattle.log_numbers.specs.declared.Num.{Num}
 use Rattle.log_numbers.specs.declared.Num.the-variants.{Value, Cut, Ill}
-use Rattle.log_numbers.specs.Number.{groups, numberBytes, sizeOf, moreOf, readGroups, readNumber, top, Small}
+use Rattle.log_numbers.specs.Number.{groups, numberBytes, sizeOf, moreOf, readGroups, readNumber, top}
 
 -- the low seven bits of a group whose high bit is set
 low-of : (x : ℕ) → x < 128 → (x + 128) % 128 ≡ x
@@ -75,36 +75,10 @@ under-more b m l (Value x y) h =
 under-more b m l Cut h = tt
 under-more b m l Ill h = tt
 
-top-pos : (k : ℕ) → 0 < top k
+pub top-some : (k : ℕ) → 16 ≤ top k
 unfolding top
-top-pos zero = omega arith
-top-pos (suc k) = omega (arith, top-pos k)
-
-pub under : (k : ℕ) (s : List ℕ) → Under (top k) (suc k) (readGroups k s)
-unfolding readGroups top
-under zero [] = tt
-under (suc k) [] = tt
-under zero (b ∷ bs) = under-cond (ltb b 16) 16 1 (Value b 1) Ill (λ e. (ltb-true b 16 e, omega arith)) (λ e. tt)
-under (suc k) (b ∷ bs) =
-    under-cond (ltb b 128) (top k * 128) (suc (suc k)) (Value b 1) (moreOf b (readGroups k bs))
-    (λ e. (omega (arith, ltb-true b 128 e, top-pos k), omega arith)) (λ e. under-more b (top k) (suc k) (readGroups k bs) (under k bs))
-
--- what at most four groups hold
-small-of : (r : Num) (m l : ℕ) → m ≤ 33554432 → l ≤ 4 → Under m l r → Small r
-small-of (Value n j) m l p q h = (omega (arith, h .0), omega (arith, h .1))
-small-of Cut m l p q h = tt
-small-of Ill m l p q h = tt
-
-top-le : (k : ℕ) → k ≤ 3 → top k ≤ 33554432
-unfolding top
-top-le zero h = omega arith
-top-le (suc zero) h = omega arith
-top-le (suc (suc zero)) h = omega arith
-top-le (suc (suc (suc zero))) h = omega arith
-top-le (suc (suc (suc (suc k)))) h = absurd (omega arith)
-
-pub small : (k : ℕ) (s : List ℕ) → k ≤ 3 → Small (readGroups k s)
-small k s h = small-of (readGroups k s) (top k) (suc k) (top-le k h) (omega arith) (under k s)
+top-some zero = omega arith
+top-some (suc k) = omega (arith, top-some k)
 
 -- ---- two numbers never write the same bytes, whatever follows
 pub prefix-free : (a b : ℕ) (x y : List ℕ) → a < 4294967296 → b < 4294967296 → numberBytes a ++ x ≡ numberBytes b ++ y → (a ≡ b) × (x ≡ y)
@@ -115,33 +89,6 @@ prefix-free a b x y ha hb e =
     let ab : a ≡ b = (cc (ap (readGroups 4) e)) in
     let lab : length (groups 4 a) ≡ length (groups 4 b) = (cc (ap (readGroups 4) e)) in
     (ab, sym (drop-append-seam (groups 4 a) x) ∙ ap (drop (length (groups 4 a))) e ∙ ap (λ (n : ℕ). drop n (groups 4 b ++ y)) lab ∙ drop-append-seam (groups 4 b) y)
-
--- ---- the turns of `groups_at`
-pub at-end : (s : List ℕ) (at k : ℕ) → length s ≤ at → Cut ≡ readGroups k (drop at s)
-unfolding readGroups
-at-end s at k h = rw (drop-of-length-le s h)
-
-pub at-last : (s : List ℕ) (at k : ℕ) → at < length s → k ≡ 0 → getD s at 0 < 16 → Value (getD s at 0) 1 ≡ readGroups k (drop at s)
-unfolding readGroups
-at-last s at k h e b = rw (e, drop-cons s at 0 h, lt-ltb (getD s at 0) 16 b)
-
-pub at-last-ill : (s : List ℕ) (at k : ℕ) → at < length s → k ≡ 0 → 16 ≤ getD s at 0 → Ill ≡ readGroups k (drop at s)
-unfolding readGroups
-at-last-ill s at k h e b = rw (e, drop-cons s at 0 h, le-ltb (getD s at 0) 16 b)
-
-pub at-one : (s : List ℕ) (at k : ℕ) → at < length s → ¬ (k ≡ 0) → getD s at 0 < 128 → Value (getD s at 0) 1 ≡ readGroups k (drop at s)
-unfolding readGroups
-at-one s at zero h e b = absurd (e refl)
-at-one s at (suc k) h e b = rw (drop-cons s at 0 h, lt-ltb (getD s at 0) 128 b)
-
-pub at-more : (s : List ℕ) (at k : ℕ) (r x : Num) → at < length s → ¬ (k ≡ 0) → 128 ≤ getD s at 0
-    → x ≡ readGroups (k - 1) (drop (at + 1) s) → r ≡ moreOf (getD s at 0) x → r ≡ readGroups k (drop at s)
-unfolding readGroups
-at-more s at zero r x h e b p q = absurd (e refl)
-at-more s at (suc k) r x h e b p q =
-    let less : suc k - 1 ≡ k = omega arith in
-    q ∙ ap (moreOf (getD s at 0)) (p ∙ ap₂ (λ (j i : ℕ). readGroups j (drop i s)) less (add-one at))
-    ∙ rw (drop-cons s at 0 h, le-ltb (getD s at 0) 128 b)
 
 -- ---- whatever reads as a number is what is written for it: no two forms of one number
 abbrev pub Sound : ℕ → List ℕ → Num → Type 0
@@ -236,7 +183,7 @@ within (suc k) [] = tt
 within zero (b ∷ bs) = under-cond (ltb b 16) 16 (length (b ∷ bs)) (Value b 1) Ill (λ e. (ltb-true b 16 e, omega arith)) (λ e. tt)
 within (suc k) (b ∷ bs) =
     under-cond (ltb b 128) (top k * 128) (length (b ∷ bs)) (Value b 1) (moreOf b (readGroups k bs))
-    (λ e. (omega (arith, ltb-true b 128 e, top-pos k), omega arith)) (λ e. under-more b (top k) (length bs) (readGroups k bs) (within k bs))
+    (λ e. (omega (arith, ltb-true b 128 e, top-some k), omega arith)) (λ e. under-more b (top k) (length bs) (readGroups k bs) (within k bs))
 
 pub within-at : (s : List ℕ) (i n j : ℕ) (r : Num) → r ≡ readNumber (drop i s) → r ≡ Value n j → i ≤ length s → i + j ≤ length s
 within-at s i n j r p e h =

@@ -1,6 +1,6 @@
 -- 02, Req 01: "numbers in groups of seven bits, low group first, high bit set on all but the last, shortest form only, at most five groups and
 -- 32 bits".
-use Prim.Native.Nat.{ℕ, zero, suc, _+_, _*_, _/_, _%_, _<_, _≤_}
+use Prim.Native.Nat.{ℕ, zero, suc, _+_, _*_, _/_, _%_, _<_}
 use mathlib.Core.Bool.{cond}
 use mathlib.Core.List.{List, [], _∷_}
 use lib.ListN.{length}
@@ -46,9 +46,3 @@ readNumber s = readGroups 4 s
 unfoldable pub top : ℕ → ℕ
 top zero = 16
 top (suc k) = top k * 128
-
--- what four groups hold, so that a fifth in front of them fits in 32 bits
-abbrev pub Small : Num → Type 0
-Small (Value n j) = (n < 33554432) × (j ≤ 4)
-Small Cut = Unit {0}
-Small Ill = Unit {0}

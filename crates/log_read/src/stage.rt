@@ -68,11 +68,10 @@ fn identifier_part(s: &[u8], time: u32, channel: u32, p: u32, at: usize) -> Take
         if 536870912 <= p / 2 {
             return Taken::Bad(Refusal::LogExtended);
         }
-        return length_at(s, time, channel, p, at);
-    }
-    if 2048 <= p / 2 {
+    } else if 2048 <= p / 2 {
         return Taken::Bad(Refusal::LogStandard);
     }
+    // one call for both forms: of two the compiler builds neither in
     length_at(s, time, channel, p, at)
 }
 
