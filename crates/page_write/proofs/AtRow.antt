@@ -1,8 +1,9 @@
 -- What the functions of `signal` answer at a fine row. An i64 that is handed to a function arrives as the number of its own bits.
-use mathlib.Core.Path.{_≡_, refl, sym, ap, _∙_, subst}
+use mathlib.Core.Path.{_≡_, refl, sym, ap, ap₂, _∙_, subst}
 use mathlib.Core.Bool.{Bool, true}
-use Prim.Native.Nat.{ℕ, _%_, _^_, _<_}
+use Prim.Native.Nat.{ℕ, _-_, _^_, _<_}
 use native.Mathlib.Omega.{arith}
+use lib.Bits.{bitAnd, and-mask}
 use lib.Dec.{ltb}
 use lib.IntN.{ℤ}
 use lib.ListN.{getD}
@@ -59,9 +60,9 @@ module _ (r : Row) (fine : Fine r) where
         ∙ put-row n (bitsIn (r .signed) (r .width) z) (bits-lt (r .signed) (r .width) (fine .0) z f)
 
     -- the lowest of its 64 bits
-    pub low-row : (v : ℕ) → v ≡ ofSigned 64 (toZ w64 (ofZ w64 z)) % 2 ^ r .width → fitsIn (r .signed) (r .width) z ≡ true
-        → v ≡ bitsIn (r .signed) (r .width) z
-    low-row v q t =
-        q
-        ∙ ap (λ (x : ℤ). ofSigned 64 x % 2 ^ r .width) (toZ-ofZ held)
+    pub low-row : (x m : ℕ) → x ≡ ofSigned 64 (toZ w64 (ofZ w64 z)) → m ≡ 2 ^ r .width - 1 → fitsIn (r .signed) (r .width) z ≡ true
+        → bitAnd x m ≡ bitsIn (r .signed) (r .width) z
+    low-row x m p q t =
+        ap₂ bitAnd (p ∙ ap (ofSigned 64) (toZ-ofZ held)) q
+        ∙ and-mask (ofSigned 64 z) (r .width)
         ∙ low-word (r .signed) (r .width) (fine .0) (fine .1) z t

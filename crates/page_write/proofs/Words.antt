@@ -3,7 +3,7 @@ use mathlib.Core.Path.{_≡_, refl, sym, ap, _∙_}
 use mathlib.Core.Bool.{Bool, true, false, cond, _&&_}
 use mathlib.Core.Logic.{_⊎_, inl, inr}
 use Prim.Native.Nat.{ℕ, suc, _+_, _*_, _-_, _/_, _%_, _^_, _≤_, _<_, min}
-use native.Mathlib.Nat.{add-zero, one-mul, zero-mul, div-one, mod-eq-of-lt, mul-add-mod-self-right, lt-of-lt-of-le, div-eq-of-lt}
+use native.Mathlib.Nat.{add-zero, one-mul, zero-mul, mod-eq-of-lt, mul-add-mod-self-right, lt-of-lt-of-le, div-eq-of-lt}
 use native.Mathlib.Omega.{arith}
 use lib.Dec.{eqb, leb, ltb}
 use lib.IntN.{ℤ, pos, negsuc}
@@ -11,19 +11,13 @@ use lib.Pow.{pow-mono, pow-pos, ones-split}
 use lib.Signed.{mag}
 use mir.Val.{boolByte}
 use borrow.Author.Tests.{ltb-true, lt-ltb, le-ltb, le-leb, lt-leb, eq-eqb, ne-eqb}
-use Rattle.signal.specs.Signal.{getBits, getOf}
 use Rattle.signal.specs.Twos.{ofSigned}
 use Rattle.signal.specs.Raw.{fitsIn, bitsIn}
 use Rattle.signal.proofs.Complement.{halves, half-of}
 use Rattle.signal.proofs.Masks.{ones-shr}
-use Rattle.signal.proofs.Totals.{get-in}
 use Rattle.page_rows.specs.Table.{takes}
 
 -- ---- the lowest bits
-
-pub get-low : (n w : ℕ) → 1 ≤ w → w ≤ 64 → getOf n 0 w ≡ n % 2 ^ w
-unfolding getBits
-get-low n w o h = get-in n 0 w o (omega arith) ∙ ap (λ (x : ℕ). x % 2 ^ w) (div-one n)
 
 -- the w lowest of 64 bits that are m below all ones
 pub low-below : (w m : ℕ) → w ≤ 64 → m < 2 ^ w → (2 ^ 64 - suc m) % 2 ^ w ≡ 2 ^ w - suc m

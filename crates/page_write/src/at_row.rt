@@ -2,9 +2,8 @@
 // yes or no that is branched on a jump for each row, by which writing took half as long again.
 ghost use mathlib.Core.Path.{_≡_};
 ghost use mathlib.Core.Bool.{true, cond};
-ghost use Prim.Native.Nat.{_-_, _%_, _^_, _<_, min};
+ghost use Prim.Native.Nat.{_-_, _^_, _≤_, _<_, min};
 ghost use lib.Dec.{eqb};
-ghost use Rattle.signal.specs.Raw.{fitsIn};
 ghost use Rattle.signal.specs.Twos.{ofSigned};
 ghost use Rattle.page_rows.specs.Table.{Fine, takes};
 ghost use Rattle.page_write.specs.Raws.{rowTakes, putRaw};
@@ -18,34 +17,12 @@ fn word(z: i64) -> u64
     signal::bits(z, true, 64)
 }
 
-fn low_bits(r: Row, z: i64) -> u64
-    requires { ⌜ Fine r ⌝ }
-    ensures { λ v. ⌜ v ≡ ofSigned 64 z % 2 ^ r .width ⌝ }
+// width ones, from bit 0 on.
+fn ones(width: u32) -> u64
+    requires { ⌜ (1 ≤ width) × (width ≤ 63) ⌝ }
+    ensures { λ v. ⌜ v ≡ 2 ^ width - 1 ⌝ }
 {
-    signal::get(word(z), 0, r.width)
-}
-
-fn ones(r: Row) -> u64
-    requires { ⌜ Fine r ⌝ }
-    ensures { λ v. ⌜ v ≡ 2 ^ r .width - 1 ⌝ }
-{
-    signal::get(u64::MAX, 0, r.width)
-}
-
-// How far a signal's numbers go below 0.
-fn below_zero(r: Row) -> u64
-    requires { ⌜ Fine r ⌝ }
-    ensures { λ v. ⌜ v ≡ cond (r .signed) (2 ^ (r .width - 1)) 0 ⌝ }
-{
-    (r.signed as u64) * (ones(r) / 2 + 1)
-}
-
-// Counted from the signal's lowest number on, z is no further than its bits count.
-fn row_fits(r: Row, z: i64) -> bool
-    requires { ⌜ Fine r ⌝ }
-    ensures { λ b. ⌜ b ≡ fitsIn (r .signed) (r .width) z ⌝ }
-{
-    wrapping_add_u64(word(z), below_zero(r)) <= ones(r)
+    u64::MAX >> (64 - width)
 }
 
 // The labels, or all where the signal has none.
@@ -69,20 +46,24 @@ fn has_label(labels: u64, v: u64) -> bool
     (labels_or_all(labels) >> at_most_63(v)) % 2 == 1
 }
 
-// Whether a signal takes the raw number: it fits, and has a label where the signal has labels.
+// Whether a signal takes the raw number: it fits (counted from the signal's lowest number on, it goes no further than the signal's bits), and has a label where the
+// signal has labels.
 pub fn row_takes(r: Row, z: i64) -> bool
     requires { ⌜ Fine r × (r .labels < 2 ^ 63) ⌝ }
     ensures { λ b. ⌜ b ≡ rowTakes r z ⌝ }
 {
-    if !row_fits(r, z) {
+    let most = ones(r.width);
+    let w = word(z);
+    if most < wrapping_add_u64(w, (r.signed as u64) * (most / 2 + 1)) {
         return false;
     }
-    has_label(r.labels, low_bits(r, z))
+    has_label(r.labels, w & most)
 }
 
 pub fn put_raw(r: Row, n: u64, z: i64) -> u64
     requires { ⌜ Fine r × (rowTakes r z ≡ true) ⌝ }
     ensures { λ m. ⌜ m ≡ putRaw r n z ⌝ }
 {
-    (n & !(ones(r) << r.low)) | (low_bits(r, z) << r.low)
+    let most = ones(r.width);
+    (n & !(most << r.low)) | ((word(z) & most) << r.low)
 }

@@ -1,21 +1,21 @@
 -- `page_write::at_row::ones` meets its contract.
-use mathlib.Core.Path.{_∙_}
-use Prim.Native.Nat.{_-_, _^_}
 use native.Mathlib.Omega.{arith}
-use lib.Pow.{pow-pos}
-use Rattle.page_write.proofs.Words.{get-low, low-below}
+use Rattle.signal.proofs.Masks.{ones-shr}
 use borrow.Author.Needs.{needs}
 use Rattle.page_write.proofs.at_row.ones.Statement.{statement}
 use Rattle.page_write.proofs.at_row.ones.Tie as tie
 
-get-requires : tie.Need-get-requires
-get-requires c κs = search needs
+sub-result : tie.Need-sub-result
+sub-result c = search needs
+
+cast-result : tie.Need-cast-result
+cast-result c = search needs
+
+shr-result : tie.Need-shr-result
+shr-result c = search needs
 
 returns : tie.Need-returns
-returns c =
-    let s = c .before in
-    let w = s .args .r .width in
-    c .get .ensures ∙ get-low (2 ^ 64 - 1) w (s .pre .0) (omega arith) ∙ low-below w 0 (omega arith) (pow-pos w)
+returns c = ones-shr (c .args .width) (omega arith)
 
 pub ones-spec : {M : Type 1} → statement M
-ones-spec = tie.close (tie.spec get-requires returns)
+ones-spec = tie.close (tie.spec sub-result cast-result shr-result returns)

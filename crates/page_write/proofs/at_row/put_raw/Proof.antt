@@ -19,8 +19,8 @@ cast-result c = search needs
 shl-result : tie.Need-shl-result
 shl-result c = search needs
 
-low-bits-requires : tie.Need-low-bits-requires
-low-bits-requires c κs = search needs
+word-requires : tie.Need-word-requires
+word-requires c κs = search needs
 
 cast-result-2 : tie.Need-cast-result-2
 cast-result-2 c = search needs
@@ -36,11 +36,11 @@ returns c =
     let r = s .args .r in
     let n = s .args .n in
     let z = s .args .z in
-    let v = bitsIn (r .signed) (r .width) z in
     let f = takes-fits r z (s .pre .1) in
     ap₂ (λ (m x : ℕ). bitOr (bitAnd n ((2 ^ 64 - 1) - m * 2 ^ r .low % 2 ^ 64)) (x * 2 ^ r .low % 2 ^ 64)) (o .ones .ensures)
-    (low-row r (s .pre .0) z (s .fits .z) (b .low-bits .result) (b .low-bits .ensures) f)
-    ∙ put-masked n (r .low) (r .width) v (s .fits .n .fits) (s .pre .0 .2) (bits-lt (r .signed) (r .width) (s .pre .0 .0) z f)
+    (low-row r (s .pre .0) z (s .fits .z) (b .word .result) (o .ones .result) (b .word .ensures) (o .ones .ensures) f)
+    ∙ put-masked n (r .low) (r .width) (bitsIn (r .signed) (r .width) z) (s .fits .n .fits) (s .pre .0 .2)
+    (bits-lt (r .signed) (r .width) (s .pre .0 .0) z f)
 
 pub put-raw-spec : {M : Type 1} → statement M
 put-raw-spec =
@@ -49,7 +49,7 @@ put-raw-spec =
     ones-requires
     cast-result
     shl-result
-    low-bits-requires
+    word-requires
     cast-result-2
     shl-result-2
     returns)
