@@ -1,4 +1,4 @@
--- What the functions of `signal` answer at a fine row. An i64 that is handed to a function arrives as the number of its own bits.
+-- What the functions of `signal`, and a number's 64 bits, answer at a fine row. An i64 that is handed to a function arrives as the number of its own bits.
 use mathlib.Core.Path.{_≡_, refl, sym, ap, ap₂, _∙_, subst}
 use mathlib.Core.Bool.{Bool, true}
 use Prim.Native.Nat.{ℕ, _-_, _^_, _<_}

@@ -65,10 +65,13 @@ fits-sum true w o h (pos n) b = go (half-of (2 ^ (w - 1)) n)
   where
     two : 2 ^ w ≡ 2 ^ (w - 1) + 2 ^ (w - 1)
     two = halves w o
+
     most : 2 ^ w ≤ 2 ^ 63
     most = pow-mono {j = 63} h
+
     sum : (n + 2 ^ (w - 1)) % 2 ^ 64 ≡ n + 2 ^ (w - 1)
     sum = mod-eq-of-lt (omega (arith, two, most))
+
     go : (n < 2 ^ (w - 1)) ⊎ (2 ^ (w - 1) ≤ n) → leb ((n + 2 ^ (w - 1)) % 2 ^ 64) (2 ^ w - 1) ≡ ltb n (2 ^ (w - 1))
     go (inl l) = sum-in w (n + 2 ^ (w - 1)) (n + 2 ^ (w - 1)) sum (omega (arith, two, most)) ∙ sym (lt-ltb n (2 ^ (w - 1)) l)
     go (inr l) = sum-out w (n + 2 ^ (w - 1)) (n + 2 ^ (w - 1)) sum (omega (arith, two, most)) ∙ sym (le-ltb n (2 ^ (w - 1)) l)
@@ -76,8 +79,10 @@ fits-sum true w o h (negsuc n) b = go (half-of (2 ^ (w - 1)) n)
   where
     two : 2 ^ w ≡ 2 ^ (w - 1) + 2 ^ (w - 1)
     two = halves w o
+
     most : 2 ^ w ≤ 2 ^ 63
     most = pow-mono {j = 63} h
+
     go : (n < 2 ^ (w - 1)) ⊎ (2 ^ (w - 1) ≤ n) → leb ((2 ^ 64 - suc n + 2 ^ (w - 1)) % 2 ^ 64) (2 ^ w - 1) ≡ ltb n (2 ^ (w - 1))
     go (inl l) =
         let d = 2 ^ (w - 1) - suc n in
@@ -91,6 +96,7 @@ fits-sum false w o h (pos n) b = go (half-of (2 ^ w) n)
   where
     sum : (n + 0) % 2 ^ 64 ≡ n
     sum = mod-eq-of-lt (omega arith) ∙ add-zero n
+
     go : (n < 2 ^ w) ⊎ (2 ^ w ≤ n) → leb ((n + 0) % 2 ^ 64) (2 ^ w - 1) ≡ ltb n (2 ^ w)
     go (inl l) = sum-in w (n + 0) n sum l ∙ sym (lt-ltb n (2 ^ w) l)
     go (inr l) = sum-out w (n + 0) n sum l ∙ sym (le-ltb n (2 ^ w) l)
@@ -120,6 +126,7 @@ label-test labels v h = go (eqb labels 0) refl
     same (inr l) =
         let e : min v 63 ≡ 63 = omega arith in
         ap (λ (x : ℕ). labels / 2 ^ x) e ∙ div-eq-of-lt h ∙ sym (div-eq-of-lt (lt-of-lt-of-le h (pow-mono l)))
+
     go : (b : Bool) → eqb labels 0 ≡ b → eqb (cond (eqb labels 0) (2 ^ 64 - 1) labels / 2 ^ min v 63 % 2) 1 ≡ takes labels v
     go true e = rw e (eq-eqb ((2 ^ 64 - 1) / 2 ^ min v 63 % 2) 1 (ones-odd (min v 63) (omega arith)))
     go false e = rw (e, same (half-of 63 v))
