@@ -1,6 +1,6 @@
 -- A raw number as 64 bits: the lowest of them carry it in a signal, and a sum tells whether it fits. Assumes nothing.
 use mathlib.Core.Path.{_≡_, refl, sym, ap, _∙_}
-use mathlib.Core.Bool.{Bool, true, false, cond, _&&_}
+use mathlib.Core.Bool.{Bool, true, false, cond}
 use mathlib.Core.Logic.{_⊎_, inl, inr}
 use Prim.Native.Nat.{ℕ, suc, _+_, _*_, _-_, _/_, _%_, _^_, _≤_, _<_, min}
 use native.Mathlib.Nat.{add-zero, one-mul, zero-mul, mod-eq-of-lt, mul-add-mod-self-right, lt-of-lt-of-le, div-eq-of-lt}
@@ -10,7 +10,7 @@ use lib.IntN.{ℤ, pos, negsuc}
 use lib.Pow.{pow-mono, pow-pos, ones-split}
 use lib.Signed.{mag}
 use mir.Val.{boolByte}
-use borrow.Author.Tests.{ltb-true, lt-ltb, le-ltb, le-leb, lt-leb, eq-eqb, ne-eqb}
+use borrow.Author.Tests.{ltb-true, lt-ltb, le-ltb, le-leb, lt-leb, eq-eqb}
 use Rattle.signal.specs.Twos.{ofSigned}
 use Rattle.signal.specs.Raw.{fitsIn, bitsIn}
 use Rattle.signal.proofs.Complement.{halves, half-of}
