@@ -5,6 +5,7 @@ ghost use Rattle.page_rows.specs.Table.{Fine};
 ghost use Rattle.page_change.specs.Change.{changedRow, changeOf, bytesAfter};
 use page_read::Judged;
 use page_read::judge;
+use page_read::start_bit;
 use page_rows::Found;
 use page_rows::Row;
 use page_rows::label_holds;
@@ -14,14 +15,6 @@ use refusals::Refusal;
 use whole::store_changed;
 
 mod whole; // whole.rt: the bytes of a changed frame
-
-// The start as refusal 5 carries it: no signal of 8 bytes starts above bit 63.
-fn start_bit(r: Row) -> u8
-    requires { ⌜ Fine r ⌝ }
-    ensures { λ b. ⌜ b ≡ r .start ⌝ }
-{
-    r.start as u8
-}
 
 // 7, then 5 for the new label.
 fn change_row(r: Row, kind: usize, n: u64, z: i64) -> Judged

@@ -1,3 +1,4 @@
+pub mod Covered
 pub mod Gaps
 pub mod Offenders
-pub mod Covered
+pub mod Starts

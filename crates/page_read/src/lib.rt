@@ -1,5 +1,5 @@
 // Reading a frame by the table: to its kind and payload number, or to its refusal, 3 to 6 and 15 (01, "Numbers given back"; 02, Req 02). For whoever has to
-// do with frames as they come. Its function takes any input.
+// do with frames as they come. Its functions take any input.
 ghost use mathlib.Core.Path.{_≡_};
 ghost use Rattle.page_read.specs.Judge.{judgeOf};
 use page_rows::FoundMessage;
@@ -8,6 +8,8 @@ use refusals::Refusal;
 
 mod labels; // labels.rt: 5 of a message that has no bit without a signal
 mod signals; // signals.rt: 5 and 6 by a walk over the message's rows
+
+pub use signals::start_bit;
 
 // The start of the first signal that holds a number without a label.
 enum Offence {

@@ -1,6 +1,7 @@
 // The walk over the rows of one message, which stand together from its first row on, and what it does at a row.
 ghost use mathlib.Core.Path.{_≡_};
 ghost use mathlib.Core.Bool.{cond};
+ghost use Prim.Native.Nat.{_%_};
 ghost use lib.ListN.{drop};
 ghost use Rattle.page_rows.specs.Layout.{rowOf};
 ghost use Rattle.page_rows.specs.Table.{rows, Fine, block, bitsAt, takes};
@@ -17,11 +18,10 @@ use page_rows::row_to_sift;
 use refusals::Refusal;
 
 // The start as refusal 5 carries it: no signal of 8 bytes starts above bit 63.
-fn start_bit(r: Row) -> u8
-    requires { ⌜ Fine r ⌝ }
-    ensures { λ b. ⌜ b ≡ r .start ⌝ }
+pub fn start_bit(r: Row) -> u8
+    ensures { λ b. ⌜ b ≡ r .start % 256 ⌝ }
 {
-    r.start as u8
+    (r.start % 256) as u8
 }
 
 fn signal_bits(r: Row, n: u64) -> u64

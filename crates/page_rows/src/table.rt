@@ -26,7 +26,7 @@ pub fn row_at(i: usize) -> Row
 
 // `row_at` again, for the loops that sift, unpack and seek and for the row that is changed: the compiler builds a function with a single call into its caller
 // whatever its size, and of one with many it makes a call for each row, by which reading a frame of 000 took 44 ns instead of 30, one of 004 54 instead of 41,
-// and changing a signal 30 instead of 23. Writing loses nothing by the call.
+// and changing a signal 30 instead of 23. Packing has none of its own: in the C interface's code it is the one caller of `row_at`.
 pub fn row_to_sift(i: usize) -> Row
     ensures { λ r. ⌜ r ≡ getD rows i noRow ⌝ }
 {

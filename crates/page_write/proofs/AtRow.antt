@@ -1,20 +1,40 @@
--- What the functions of `signal` answer at a fine row. An i64 that is handed to a function arrives as the number of its own bits.
-use mathlib.Core.Path.{_≡_, ap, _∙_}
-use mathlib.Core.Bool.{true}
-use Prim.Native.Nat.{ℕ, _^_, _<_}
+-- What the functions of `signal`, and a number's 64 bits, answer at a fine row. An i64 that is handed to a function arrives as the number of its own bits.
+use mathlib.Core.Path.{_≡_, refl, sym, ap, ap₂, _∙_, subst}
+use mathlib.Core.Bool.{Bool, true}
+use Prim.Native.Nat.{ℕ, _-_, _^_, _<_}
 use native.Mathlib.Omega.{arith}
+use lib.Bits.{bitAnd, and-mask}
+use lib.Dec.{ltb}
 use lib.IntN.{ℤ}
+use lib.ListN.{getD}
 use mir.Val.{toZ, ofZ, SFits}
 use mir.Syntax.{w64}
 use mir.Facts.{toZ-ofZ}
+use borrow.Author.Tests.{ltb-true}
 use Rattle.signal.specs.Signal.{putBits, putOf}
+use Rattle.signal.specs.Twos.{ofSigned}
 use Rattle.signal.specs.Raw.{fitsIn, bitsIn, fitsOf, bitsOf}
 use Rattle.signal.proofs.Totals.{put-in}
 use Rattle.signal.proofs.RawLaws.{fits-in, bits-in, bits-lt}
 use Rattle.page_rows.specs.declared.Row.{Row}
-use Rattle.page_rows.specs.Table.{Fine, lowest, takes}
+use Rattle.page_rows.specs.Rules.{every}
+use Rattle.page_rows.specs.Table.{rows, rowCount, noRow, Fine, lowest, takes}
 use Rattle.page_write.specs.Raws.{rowTakes, putRaw}
-use Rattle.page_rows.proofs.Rules.{both-true}
+use Rattle.page_rows.proofs.Rules.{both-true, every-at, rows-length}
+use Rattle.page_write.proofs.Words.{low-word}
+
+-- no row has a label from 63 on, so that packing may take 63 for every number from there on
+abbrev below-63 : Row → Bool
+below-63 r = ltb (r .labels) (2 ^ 63)
+
+all-below : every below-63 rows ≡ true
+unfolding rows
+all-below = refl
+
+pub labels-at : (i : ℕ) (r : Row) → i < rowCount → r ≡ getD rows i noRow → r .labels < 2 ^ 63
+labels-at i r h e =
+    subst (λ (q : Row). q .labels < 2 ^ 63) (sym e)
+    (ltb-true (getD rows i noRow .labels) (2 ^ 63) (every-at below-63 rows all-below i (rw rows-length h)))
 
 -- what a row takes fits it
 pub takes-fits : (r : Row) (z : ℤ) → rowTakes r z ≡ true → fitsIn (r .signed) (r .width) z ≡ true
@@ -38,3 +58,11 @@ module _ (r : Row) (fine : Fine r) where
         let f = takes-fits r z t in
         ap (putOf n (lowest r) (r .width)) (q ∙ bits-row f)
         ∙ put-row n (bitsIn (r .signed) (r .width) z) (bits-lt (r .signed) (r .width) (fine .0) z f)
+
+    -- the lowest of its 64 bits
+    pub low-row : (x m : ℕ) → x ≡ ofSigned 64 (toZ w64 (ofZ w64 z)) → m ≡ 2 ^ r .width - 1 → fitsIn (r .signed) (r .width) z ≡ true
+        → bitAnd x m ≡ bitsIn (r .signed) (r .width) z
+    low-row x m p q t =
+        ap₂ bitAnd (p ∙ ap (ofSigned 64) (toZ-ofZ held)) q
+        ∙ and-mask (ofSigned 64 z) (r .width)
+        ∙ low-word (r .signed) (r .width) (fine .0) (fine .1) z t

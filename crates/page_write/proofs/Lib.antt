@@ -1,3 +1,4 @@
 pub mod AtRow
 pub mod Places
 pub mod Trips
+pub mod Words

@@ -12,6 +12,7 @@ use page_rows::length_of;
 use refusals::Refusal;
 use signals::pack;
 
+mod at_row; // at_row.rt: what packing does at a row
 mod signals; // signals.rt: the loops over one message's rows
 
 // The payload number of raw numbers that all fit and have their labels.

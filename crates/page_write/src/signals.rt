@@ -1,16 +1,16 @@
 // The loops over the rows of one message, which stand together from its first row on, and what they do at a row.
 ghost use mathlib.Core.Path.{_≡_};
-ghost use mathlib.Core.Bool.{true};
 ghost use Prim.Native.Nat.{_<_};
 ghost use lib.IntN.{pos};
 ghost use lib.ListN.{drop, getD};
 ghost use Rattle.page_rows.specs.Table.{rows, noRow, rowCount, signalCount, Fine, block};
-ghost use Rattle.page_write.specs.Raws.{wholeAt, wholesOf, pad, rowTakes, putRaw};
+ghost use Rattle.page_write.specs.Raws.{wholeAt, wholesOf, pad};
 ghost use Rattle.page_write.specs.Steps.{packOf};
 use crate::Packed;
+use crate::at_row::put_raw;
+use crate::at_row::row_takes;
 use page_rows::ROW_COUNT;
 use page_rows::Row;
-use page_rows::label_holds;
 use page_rows::row_at;
 use page_rows::row_to_unpack;
 
@@ -58,24 +58,6 @@ pub fn raw_after(at: usize, kind: usize, place: usize, n: u64) -> i64
         return 0;
     }
     signal_whole(r, n)
-}
-
-// Whether a signal takes the raw number: it fits, and has a label where the signal has labels.
-fn row_takes(r: Row, z: i64) -> bool
-    requires { ⌜ Fine r ⌝ }
-    ensures { λ b. ⌜ b ≡ rowTakes r z ⌝ }
-{
-    if !signal::fits(z, r.signed, r.width) {
-        return false;
-    }
-    label_holds(r.labels, signal::bits(z, r.signed, r.width))
-}
-
-fn put_raw(r: Row, n: u64, z: i64) -> u64
-    requires { ⌜ Fine r × (rowTakes r z ≡ true) ⌝ }
-    ensures { λ m. ⌜ m ≡ putRaw r n z ⌝ }
-{
-    signal::put(n, r.low, r.width, signal::bits(z, r.signed, r.width))
 }
 
 pub fn pack(at: usize, kind: usize, raws: [i64; 16]) -> Packed

@@ -9,6 +9,7 @@ use Rattle.page_read.specs.declared.Judged.the-variants.{Frame, Refused}
 use Rattle.refusals.specs.declared.Refusal.the-variants.{NoLabel}
 use Rattle.page_rows.specs.Table.{takes}
 use Rattle.page_write.specs.Raws.{rowTakes}
+use Rattle.page_read.proofs.Starts.{start-row}
 use Rattle.page_write.proofs.AtRow.{fits-row, bits-row, put-raw-row}
 use Rattle.page_change.proofs.change_row.Statement.{statement}
 use Rattle.page_change.proofs.change_row.Tie as tie
@@ -43,13 +44,15 @@ label-holds-requires : tie.Need-label-holds-requires
 label-holds-requires c κs = search needs
 
 start-bit-requires : tie.Need-start-bit-requires
-start-bit-requires c κs = c .before .before .before .before .before .pre
+start-bit-requires c κs = search needs
 
 returns-2 : tie.Need-returns-2
 returns-2 c =
     let b = c .before in
     let t = b .before in
-    rw (fitting (t .before .before), labelled t, not-true (t .label-holds .result) (b .if2 .taken)) (ap (λ (s : ℕ). Refused (NoLabel s)) (c .start-bit .ensures))
+    let s = t .before .before .before .before in
+    rw (fitting (t .before .before), labelled t, not-true (t .label-holds .result) (b .if2 .taken))
+    (ap (λ (s : ℕ). Refused (NoLabel s)) (start-row (s .args .r) (s .pre) (c .start-bit .result) (c .start-bit .ensures)))
 
 held : (c : tie.Else2) → (let a = c .before .before .before .before .before .args in rowTakes (a .r) (a .z) ≡ true)
 held c =

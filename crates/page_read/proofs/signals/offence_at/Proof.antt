@@ -5,6 +5,7 @@ use Rattle.page_read.specs.declared.Offence.the-variants.{Start}
 use Rattle.page_rows.specs.declared.Row.{Row}
 use Rattle.page_rows.specs.Layout.{rowOf}
 use Rattle.page_rows.specs.Table.{Fine, bitsAt, takes}
+use Rattle.page_read.proofs.Starts.{start-row}
 use Rattle.page_read.proofs.signals.offence_at.Statement.{statement}
 use Rattle.page_read.proofs.signals.offence_at.Tie as tie
 
@@ -35,12 +36,13 @@ returns : tie.Need-returns
 returns c = rw (held (c .before), c .if1 .taken)
 
 start-bit-requires : tie.Need-start-bit-requires
-start-bit-requires c κs = fine (c .before .before .before)
+start-bit-requires c κs = search needs
 
 returns-2 : tie.Need-returns-2
 returns-2 c =
     let r = c .before .before .before .before in
-    rw (held (c .before .before), c .before .if1 .left) (ap Start (c .start-bit .ensures ∙ ap (λ (x : Row). x .start) (r .row-of .ensures)))
+    rw (held (c .before .before), c .before .if1 .left)
+    (ap Start (start-row (r .row-of .result) (fine r) (c .start-bit .result) (c .start-bit .ensures) ∙ ap (λ (x : Row). x .start) (r .row-of .ensures)))
 
 pub offence-at-spec : {M : Type 1} → statement M
 offence-at-spec =

@@ -16,6 +16,7 @@ use Rattle.page_rows.specs.Table.{rows, rowCount, block, lowest, bitsAt, takes}
 use Rattle.page_read.specs.Steps.{offenceOf, cleared, judgedBy}
 use Rattle.page_rows.proofs.Rules.{fine-at}
 use Rattle.page_rows.proofs.Walk.{block-in, block-out, block-end}
+use Rattle.page_read.proofs.Starts.{start-row}
 use Rattle.page_read.proofs.signals.sifted.Statement.{statement}
 use Rattle.page_read.proofs.signals.sifted.Tie as tie
 
@@ -40,7 +41,7 @@ label-holds-requires : tie.Need-label-holds-requires Inv-rows μ-rows
 label-holds-requires c κs = search needs
 
 start-bit-requires : tie.Need-start-bit-requires Inv-rows μ-rows
-start-bit-requires c κs = fine-at _ _ (omega arith) (c .before .before .before .before .before .row-to-sift .ensures)
+start-bit-requires c κs = search needs
 
 put-requires : tie.Need-put-requires Inv-rows μ-rows
 put-requires c κs = search needs
@@ -112,7 +113,8 @@ returns-3 c =
     let e = block-in (g .kind) (a .rows .i) (k .row-to-sift .result) (omega arith) (k .row-to-sift .ensures) (q .if2 .left) in
     let first : Start (k .row-to-sift .result .start) ≡ offenceOf (g .n) l =
     sym (ap (offenceOf (g .n)) e ∙ rw (held t, not-true (t .label-holds .result) (b .if3 .taken))) ∙ a .rows .inv .0 in
-    ap (λ (s : ℕ). judgedBy (g .kind) (g .n) (Start s) (cleared l (g .n))) (c .start-bit .ensures)
+    ap (λ (s : ℕ). judgedBy (g .kind) (g .n) (Start s) (cleared l (g .n)))
+    (start-row (k .row-to-sift .result) (fine-at _ _ (omega arith) (k .row-to-sift .ensures)) (c .start-bit .result) (c .start-bit .ensures))
     ∙ ap (λ (o : Offence). judgedBy (g .kind) (g .n) o (cleared l (g .n))) first
 
 pub sifted-spec : {M : Type 1} → statement M

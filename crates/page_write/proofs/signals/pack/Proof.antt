@@ -22,6 +22,7 @@ use Rattle.page_write.specs.Raws.{rowTakes, putRaw, allTake, packedOn}
 use Rattle.page_write.specs.Steps.{packOf}
 use Rattle.page_rows.proofs.Rules.{fine-at}
 use Rattle.page_rows.proofs.Walk.{block-in, block-out, block-end}
+use Rattle.page_write.proofs.AtRow.{labels-at}
 use Rattle.page_write.proofs.signals.pack.Statement.{statement}
 use Rattle.page_write.proofs.signals.pack.Tie as tie
 
@@ -70,7 +71,9 @@ array-copy-out-z : tie.Need-array-copy-out-z Inv-rows μ-rows
 array-copy-out-z c = omega arith
 
 row-takes-requires : tie.Need-row-takes-requires Inv-rows μ-rows
-row-takes-requires c κs = fine-at _ _ (omega arith) (c .before .before .before .before .row-at .ensures)
+row-takes-requires c κs =
+    let e = c .before .before .before .before .row-at .ensures in
+    (fine-at _ _ (omega arith) e, labels-at _ _ (omega arith) e)
 
 -- a turn's row and number, before those that are left
 step : (c : tie.After-z Inv-rows μ-rows) → (
