@@ -22,7 +22,7 @@ from words import record
 
 # the turn of 2^32 ms in which these times stand as they are
 TURN = 2**32 * 395
-LINES = frames(51, 4000)
+LINES = frames(51, 9000)
 PARTS = list(map(record, LINES))
 RECORDING = [candump_line(line, start=TURN).encode() for line in LINES]
 SEED = random.randrange(10**6)

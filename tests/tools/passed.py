@@ -113,7 +113,9 @@ class Ended(unittest.TestCase):
         self.addCleanup(run.stdin.close)
         self.addCleanup(run.wait)
         self.addCleanup(run.kill)
-        return run, int(run.stderr.read(100).split()[1])
+        program = int(run.stderr.read(100).split()[1])
+        self.addCleanup(lambda: is_there(program) and os.kill(program, signal.SIGKILL))
+        return run, program
 
     def gone(self, process):
         patience = time.monotonic() + 10
