@@ -46,6 +46,6 @@ bench: lib replay
 
 report: replay
 	@mkdir -p target/report
-	@tools/replay --lines $(POSTS) $(LOG) > target/report/$(night).lines
+	@tools/replay --lines $(POSTS) $(LOG) > target/report/$(night).lines || [ $$? -eq 1 ]
 	@tools/report $(if $(PICTURE),--screenshot $(PICTURE)) --name $(night) $(POSTS) $(LOG) target/report/$(night).lines target/report/$(night).html
 	@echo target/report/$(night).html

@@ -133,6 +133,19 @@ class Statuses(unittest.TestCase):
         self.assertEqual(self.status('desk', told=b'tick 1 1\n' * 100000), WELL)
         self.assertEqual(self.status('desk', told=b'tick 1 1\n' * 100000 + b'release 9\nsetup 9 1 1 1 1 1\n'), PARTLY)
 
+    def test_make(self):
+        """`make run` ends with the replay's status; `make report` writes a page of a cut log too, and of a refused set-up. The program stands already."""
+        def made(*words):
+            return subprocess.run(['make', '-s', '-o', 'replay', *words], cwd=ROOT, capture_output=True, text=True, timeout=100)
+
+        self.assertEqual((made('run').returncode, made('run').stdout.splitlines()[-2]), (0, '490 records: 490 accepted, 0 refused'))
+        for set_ups, log, told in [(SET_UP, CUT, 'The log is cut'), (SET_UP.replace(' 0', ' 8', 1), TICK, 'Nothing was replayed: the set-up in line 1 of '), (SET_UP, b'', 'The log holds no record.')]:
+            Path('statuses.posts').write_text(set_ups)
+            Path('statuses.log').write_bytes(log)
+            done = made('report', f'NIGHT={os.getcwd()}/statuses.log', f'POSTS={os.getcwd()}/statuses.posts')
+            self.assertEqual((done.returncode, done.stdout), (0, 'target/report/statuses.html\n'), done.stderr)
+            self.assertIn(told, (ROOT / 'target/report/statuses.html').read_text())
+
     def test_wrong_usage(self):
         for tool, words in [('nightlog', ()), ('nightlog', ('show',)), ('nightlog', ('shows', 'a.log')), ('nightlog', ('show', 'a.log', 'b.log')), ('nightlog', ('append', 'a', 'b')),
                             ('desk', ('lents',)), ('desk', ('lent', 'lent')), ('replay', ()), ('replay', ('a.posts',)), ('replay', ('a', 'b', 'c'))]:
