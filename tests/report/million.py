@@ -14,7 +14,7 @@ from second import ROOT
 
 RECORDS = 1_000_000
 # kB; a log of seven million may take 500,000, and no more is kept of it than of this one
-MEMORY = 120_000
+MEMORY = 80_000
 PAGE = 5_000_000
 
 

@@ -135,6 +135,23 @@ class Ended(unittest.TestCase):
             os.kill(program, signal.SIGKILL)
             self.assertEqual(run.wait(timeout=20), -signal.SIGKILL, name)
 
+    def test_a_last_word(self):
+        """The signal reaches the program, and what it still says passes; the wrapper says nothing of its own and ends behind it."""
+        for number in signal.SIGTERM, signal.SIGINT:
+            self.tools.stand_in('nightlog', f'''
+def last(*_):
+    os.write(2, b'the end')
+    signal.signal({int(number)}, signal.SIG_DFL)
+    os.kill(os.getpid(), {int(number)})
+signal.signal({int(number)}, last)
+os.write(2, b'begun, ')
+while True:
+    time.sleep(1)''')
+            run = self.tools.start('nightlog', stdin=subprocess.DEVNULL, stderr=subprocess.PIPE)
+            begun = run.stderr.read(7)
+            run.send_signal(number)
+            self.assertEqual((begun + run.communicate(timeout=20)[1], run.returncode), (b'begun, the end', -number))
+
     def test_a_signal_that_is_ignored(self):
         """As under nohup."""
         run, program = self.started(preexec_fn=lambda: signal.signal(signal.SIGHUP, signal.SIG_IGN))
@@ -154,6 +171,16 @@ class Ended(unittest.TestCase):
             run.stdout.read(10)
             run.stdout.close()
             self.assertEqual(run.wait(timeout=20), -signal.SIGPIPE, (name, words))
+
+    def test_nobody_ever_reads(self):
+        """A program whose few bytes are taken on the way before it could learn that."""
+        for name, words in (('nightlog', ['check', 'x']), ('desk', [])):
+            self.tools.stand_in(name, 'os.write(1, b"0 records, END\\n")')
+            read, write = os.pipe()
+            os.close(read)
+            run = self.tools.start(name, *words, stdin=subprocess.DEVNULL, stdout=write)
+            os.close(write)
+            self.assertEqual(run.wait(timeout=20), -signal.SIGPIPE, name)
 
     def test_a_full_device(self):
         for name, words in (('nightlog', ['check', 'x']), ('desk', [])):
