@@ -83,7 +83,8 @@ class Post:
 
 
 class Night:
-    """`begin` and `end` are the first and the last accepted time, none where nothing was accepted. `refused` is the set-up that ended the replay, if one did."""
+    """`begin` and `end` are the first and the last accepted time, none where nothing was accepted; `refused` is the set-up that ended the replay, if one
+    did."""
 
     def __init__(self, name, set_ups, refused=None):
         self.name, self.refused, self.ending, self.records = name, refused, None, 0

@@ -67,8 +67,8 @@ def bar(night, post, place, session, scale, y):
 def more_bar(night, post, scale, y):
     """The sessions that are not kept one by one."""
     left, right = scale.x(post.sessions[-1].closed), scale.x(night.end if post.latest.closed is None else post.latest.closed)
-    return tag('a', tag('title', text(hover.more_sessions(post))), tag('rect', class_='session more', x=left, y=y + 8, width=max(2.0, right - left), height=BAR - 16),
-               href=f'#{hover.session_id(post, "more")}')
+    shape = tag('rect', class_='session more', x=left, y=y + 8, width=max(2.0, right - left), height=BAR - 16)
+    return tag('a', tag('title', text(hover.more_sessions(post))), shape, href=f'#{hover.session_id(post, "more")}')
 
 
 def label(words, y, class_=None):

@@ -19,7 +19,8 @@ ON_SCREEN = ' Pointing at a mark tells its time and rule, and a click leads to i
 def page(night, sources):
     title = f'Night {night.name}'
     head = ['<meta charset="utf-8">', f'<meta http-equiv="Content-Security-Policy" content="{POLICY}">', '<meta name="viewport" content="width=device-width">',
-            '<meta name="color-scheme" content="light dark">', tag('title', text(f'{title}: {span(night)}')), tag('style', '\n', STYLE.read_text(encoding='utf-8'))]
+            '<meta name="color-scheme" content="light dark">', tag('title', text(f'{title}: {span(night)}')),
+            tag('style', '\n', STYLE.read_text(encoding='utf-8'))]
     told = warning(*refusal(night, sources[0])) if night.refused else replayed(night)
     parts = [tag('h1', text(title)), *told, footer(sources)]
     body = tag('body', tag('main', *(f'\n{part}' for part in parts), '\n'))

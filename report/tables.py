@@ -21,7 +21,8 @@ def row(first, *cells, id=None):
 def posts(night):
     def of(post):
         found = counts('F', totals(post.findings)) or 'none'
-        cells = (post.set_up.channel, limits(post.set_up), f'{post.set_up.silence} ms', f'{post.all_sessions:,}', f'{post.accepted:,}', f'{post.refused:,}', found)
+        cells = (post.set_up.channel, limits(post.set_up), f'{post.set_up.silence} ms', f'{post.all_sessions:,}', f'{post.accepted:,}', f'{post.refused:,}',
+                 found)
         return row(tag('a', text(post.number), href=f'#post-{post.number}'), *map(text, cells))
 
     return table('The posts of the night', ('Post', 'Channel', 'Limits', 'W', 'Sessions', 'Accepted', 'Refused', 'Findings'), map(of, night.posts))

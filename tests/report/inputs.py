@@ -66,9 +66,10 @@ class NightLogs(unittest.TestCase):
 
     def test_bounds(self):
         """Whole records with a number on either side of each bound."""
-        numbers = [number(n) for n in (0, 127, 128, 2**14 - 1, 2**14, 2**21, 2**28 - 1, 2**28, 2**32 - 1, 2**32, 2**34, 2**35)] + [b'\x80\x00', b'\x80\x80\x00', b'\xff' * 4 + b'\x00']
-        parts = [number(n) for n in (0, 1, 127, 128, 129, 4094, 4095, 4096, 4097, 16385, 2**21 - 1, 2**21 + 1, 2**28 - 1, 2**28 + 1, 2**30 - 2, 2**30 - 1, 2**30, 2**30 + 1, 2**32 - 1)]
-        logs = [time + b'\x01\x01\x00' for time in numbers] + [b'\x01\x01' + part + b'\x01\x00' for part in parts] + [b'\x01\x01' + part + b'\x09' for part in parts]
+        numbers = [number(n) for n in (0, 127, 128, 2**14 - 1, 2**14, 2**21, 2**28 - 1, 2**28, 2**32 - 1, 2**32, 2**34, 2**35)]
+        logs = [time + b'\x01\x01\x00' for time in (*numbers, b'\x80\x00', b'\x80\x80\x00', b'\xff' * 4 + b'\x00')]
+        parts = [number(n) for power in (0, 7, 12, 14, 21, 28, 30, 32) for n in range(max(0, 2**power - 2), min(2**32, 2**power + 2))]
+        logs += [b'\x01\x01' + part + held for part in parts for held in (b'\x01\x00', b'\x09')]
         logs += [b'\x01' + channel + b'\x01\x00' for channel in (b'\x1f', b'\x20', b'\x9f\x00', b'\x80\x01')]
         logs += [b'\x01\x01\x01' + length + bytes(12) for length in (b'\x08', b'\x09', b'\x0a', b'\x88\x00')]
         for log, told in zip(logs, records_of(logs), strict=True):

@@ -82,7 +82,8 @@ class Million(unittest.TestCase):
         self.assertTrue(sessions[-1][0].startswith(f'and {night.sessions[SHORT] - 300:,} more, up to session {night.sessions[SHORT]:,} '), sessions[-1])
         bars = list(self.page.by_id(f'row-post-{SHORT}').all('rect', 'session'))
         self.assertEqual(([bar.classes for bar in bars][-1], len(bars)), (['session', 'more'], 301))
-        refused = [tabled.cells(row) for row in tabled.table(self.page, f'R3 identifier not in the table, standard and extended ones told apart: {night.refused:,}')]
+        caption = f'R3 identifier not in the table, standard and extended ones told apart: {night.refused:,}'
+        refused = [tabled.cells(row) for row in tabled.table(self.page, caption)]
         self.assertEqual((len(refused), refused[-1][0]), (201, 'others'))
         self.assertTrue(refused[-1][-1].startswith(f'{night.refused - 200:,} records of other'), refused[-1])
         longest = max((row.text() for row in tabled.table(self.page, 'Findings of post 3')), key=len)

@@ -36,7 +36,8 @@ class Bus(unittest.TestCase):
         os.chdir(folder.name)
 
     def start(self):
-        to_lines = subprocess.Popen([ROOT / 'tools/candump2log', '--lines'], stdin=subprocess.PIPE, stdout=subprocess.PIPE, stderr=subprocess.DEVNULL, bufsize=0)
+        to_lines = subprocess.Popen([ROOT / 'tools/candump2log', '--lines'], stdin=subprocess.PIPE, stdout=subprocess.PIPE,
+                                    stderr=subprocess.DEVNULL, bufsize=0)
         append = subprocess.Popen([ROOT / 'tools/nightlog', 'append', 'night.log'], stdin=to_lines.stdout, stderr=subprocess.PIPE)
         to_lines.stdout.close()
         return to_lines, append
@@ -105,7 +106,8 @@ class Bus(unittest.TestCase):
         Path('candump').write_text('#!/bin/sh\nexec cat recording\n')
         os.chmod('candump', 0o755)
         os.symlink(ROOT / 'tools', 'tools')
-        done = subprocess.run(['bash', '-o', 'pipefail', '-c', shown], env={**os.environ, 'PATH': f'.:{os.environ["PATH"]}'}, capture_output=True, text=True, timeout=60)
+        path = {**os.environ, 'PATH': f'.:{os.environ["PATH"]}'}
+        done = subprocess.run(['bash', '-o', 'pipefail', '-c', shown], env=path, capture_output=True, text=True, timeout=60)
         self.assertEqual((done.returncode, done.stderr), (0, f'nightlog: night.log: {len(LINES)} records appended\n'))
         self.assertTrue(Path('night.log').read_bytes() == b''.join(PARTS))
 

@@ -1,4 +1,5 @@
-"""Every program of tools/ tells how it is called: `--help` prints its usage on standard output, with status 0; a wrong call prints it on standard error, with status 2."""
+"""Every program of tools/ tells how it is called: `--help` prints its usage on standard output, with status 0; a wrong call prints it on standard error,
+with status 2."""
 import os
 import subprocess
 import unittest

@@ -94,7 +94,7 @@ class Statuses(unittest.TestCase):
         posts = Path('a.posts')
         for set_ups, bytes_, want, words, said in [
             (SET_UP, TICK, WELL, '1 0 A0\n\nEND: the log is whole\n1 records: 1 accepted, 0 refused\n', ''),
-            (SET_UP, CUT, PARTLY, f'1 0 A0\n\nCUT@{len(TICK)}: a piece of a record is left over from byte {len(TICK)} on\n1 records: 1 accepted, 0 refused\n', ''),
+            (SET_UP, CUT, PARTLY, '1 0 A0\n\nCUT@5: a piece of a record is left over from byte 5 on\n1 records: 1 accepted, 0 refused\n', ''),
             ('setup 8 2 5000 2000 500 500\n', TICK, PARTLY, '\nSETUP R9: post number above 7\n', 'replay: a.posts: line 1: the set-up is refused\n'),
             ('hello\n', TICK, PARTLY, '', 'replay: a.posts: line 1: no setup POST CHANNEL VOLT CHG DIS W [SENSOR]\n'),
             (SET_UP, None, FAILED, '', 'replay: a.log: No such file or directory\n'),
@@ -139,7 +139,8 @@ class Statuses(unittest.TestCase):
             return subprocess.run(['make', '-s', '-o', 'replay', *words], cwd=ROOT, capture_output=True, text=True, timeout=100)
 
         self.assertEqual((made('run').returncode, made('run').stdout.splitlines()[-2]), (0, '490 records: 490 accepted, 0 refused'))
-        for set_ups, log, told in [(SET_UP, CUT, 'The log is cut'), (SET_UP.replace(' 0', ' 8', 1), TICK, 'Nothing was replayed: the set-up in line 1 of '), (SET_UP, b'', 'The log holds no record.')]:
+        refused = 'Nothing was replayed: the set-up in line 1 of '
+        for set_ups, log, told in (SET_UP, CUT, 'The log is cut'), (SET_UP.replace(' 0', ' 8', 1), TICK, refused), (SET_UP, b'', 'The log holds no record.'):
             Path('statuses.posts').write_text(set_ups)
             Path('statuses.log').write_bytes(log)
             done = made('report', f'NIGHT={os.getcwd()}/statuses.log', f'POSTS={os.getcwd()}/statuses.posts')
@@ -147,8 +148,8 @@ class Statuses(unittest.TestCase):
             self.assertIn(told, (ROOT / 'target/report/statuses.html').read_text())
 
     def test_wrong_usage(self):
-        for tool, words in [('nightlog', ()), ('nightlog', ('show',)), ('nightlog', ('shows', 'a.log')), ('nightlog', ('show', 'a.log', 'b.log')), ('nightlog', ('append', 'a', 'b')),
-                            ('desk', ('lents',)), ('desk', ('lent', 'lent')), ('replay', ()), ('replay', ('a.posts',)), ('replay', ('a', 'b', 'c'))]:
+        for tool, words in [('nightlog', ()), ('nightlog', ('show',)), ('nightlog', ('shows', 'a.log')), ('nightlog', ('show', 'a.log', 'b.log')),
+                            ('nightlog', ('append', 'a', 'b')), ('desk', ('lents',)), ('desk', ('lent', 'lent')), ('replay', ()), ('replay', ('a.posts',)), ('replay', ('a', 'b', 'c'))]:
             self.assertEqual(self.status(tool, *words), FAILED, (tool, words))
 
     def test_ended_by_a_signal(self):
