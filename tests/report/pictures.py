@@ -8,7 +8,7 @@ import dom
 from browser import dumped
 
 # Points at the edges of letters and lines may differ between machines: squares of so many points are compared by their mean, of 255, and so many may differ.
-SIDE, NEAR, FEW = 8, 40, 20
+SIDE, NEAR, FEW = 8, 40, 50
 
 PAGE = '''<!DOCTYPE html><title></title><img src="data:image/png;base64,{}"><img src="data:image/png;base64,{}"><p></p><script>
 function means(image) {{
