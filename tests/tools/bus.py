@@ -12,7 +12,7 @@ import time
 import unittest
 from pathlib import Path
 
-from standing import ROOT
+from standing import ROOT, children, is_there
 
 sys.path.append(str(ROOT / 'tests/candump'))
 
@@ -59,13 +59,16 @@ class Bus(unittest.TestCase):
             feeder = threading.Thread(target=feed, args=(to_lines.stdin, RECORDING[have:have + 400]))
             feeder.start()
             self.wait_for(have + r.randrange(1, 40), append)
-            killed = (to_lines, append, append)[turn % 3]
+            killed, programs = (to_lines, append, append)[turn % 3], children(append.pid)
             killed.send_signal(r.choice([signal.SIGKILL, signal.SIGTERM]))
             self.assertLess(killed.wait(timeout=20), 0)
             feeder.join()
             to_lines.stdin.close()
             said = append.communicate(timeout=20)[1]
             to_lines.wait(timeout=20)
+            # a program that is killed with its wrapper may still be in its last write
+            while any(map(is_there, programs)):
+                time.sleep(0.001)
             before, have = have, self.recorded()
             self.assertGreater(have, before, f'seed {SEED}: turn {turn}')
             inside += have < before + 400

@@ -43,9 +43,18 @@ class Standing:
         return done.returncode, done.stdout, done.stderr
 
 
-def is_there(process):
-    """Whether a process, by its number, still runs."""
+def state_and_parent(process):
+    """Of a process by its number."""
     try:
-        return 'Z' not in Path(f'/proc/{process}/stat').read_text().rsplit(')', 1)[1].split()[0]
+        state, parent = Path(f'/proc/{process}/stat').read_text().rsplit(')', 1)[1].split()[:2]
+        return state, int(parent)
     except OSError:
-        return False
+        return 'Z', 0
+
+
+def is_there(process):
+    return state_and_parent(process)[0] != 'Z'
+
+
+def children(process):
+    return [int(path.name) for path in Path('/proc').iterdir() if path.name.isdecimal() and state_and_parent(path.name)[1] == process]
