@@ -1,5 +1,6 @@
 """How tools/report is called."""
 import argparse
+import os
 import sys
 from pathlib import Path
 
@@ -42,14 +43,13 @@ def arguments():
 def report(asked):
     if asked.screenshot and asked.out == '-':
         raise Fault('--screenshot: there is no picture of standard output')
-    set_ups = told(asked.posts, posts.read, text_of(asked.posts))
-    records, ending = nightlog.read(bytes_of(asked.log))
-    answers = told(asked.lines, lines.read, text_of(asked.lines))
-    night = told(asked.lines, Night, asked.name or Path(asked.log).stem, set_ups, records, ending, answers)
-    written = page(night, (asked.posts, asked.log)).encode()
-    if asked.out == '-':
-        sys.stdout.buffer.write(written)
-        return
+    with opened(asked.posts) as file:
+        set_ups, refused = told(asked.posts, posts.read, read(file, asked.posts))
+    night = Night(shown(asked.name or Path(asked.log).stem), set_ups, refused)
+    with opened(asked.log) as log, opened(asked.lines) as answers:
+        play = night.skip if refused else night.play
+        told(asked.lines, play, nightlog.Log(Named(log, asked.log)), lines.read(Named(answers, asked.lines)))
+    written = page(night, (shown(asked.posts), shown(asked.log))).encode()
     write(asked.out, written)
     if asked.screenshot:
         picture.take(asked.out, asked.screenshot)
@@ -59,24 +59,57 @@ def told(name, reader, *given):
     """A fault is that of the file."""
     try:
         return reader(*given)
+    except Unreadable:
+        raise
     except Fault as fault:
         raise Fault(f'{"standard input" if name == "-" else name}: {fault}') from fault
 
 
-def bytes_of(name):
+def shown(name):
+    """A file's name on the page: of its bytes those that are no text, and what cannot be printed, by their numbers."""
+    words = os.fsencode(name).decode(errors='backslashreplace')
+    return ''.join(letter if letter.isprintable() else letter.encode('unicode_escape').decode() for letter in words)
+
+
+def opened(name):
     try:
-        return sys.stdin.buffer.read() if name == '-' else Path(name).read_bytes()
+        return open(0 if name == '-' else name, 'rb', closefd=name != '-')
     except OSError as error:
-        raise Fault(f'{name}: cannot be read: {error.strerror}') from error
+        raise Unreadable(name, error) from error
 
 
-def text_of(name):
+class Unreadable(Fault):
+    def __init__(self, name, error):
+        super().__init__(f'{name}: cannot be read: {error.strerror}')
+
+
+class Named:
+    """A file whose faults in reading tell its name."""
+
+    def __init__(self, file, name):
+        self.file, self.name = file, name
+
+    def read(self, size):
+        try:
+            return self.file.read(size)
+        except OSError as error:
+            raise Unreadable(self.name, error) from error
+
+    def readline(self, size):
+        try:
+            return self.file.readline(size)
+        except OSError as error:
+            raise Unreadable(self.name, error) from error
+
+
+def read(file, name):
     """What is no text is no line either."""
-    return bytes_of(name).decode(errors='replace')
+    return Named(file, name).read(-1).decode(errors='replace')
 
 
 def write(name, written):
     try:
-        Path(name).write_bytes(written)
+        with open(1 if name == '-' else name, 'wb', closefd=name != '-') as file:
+            file.write(written)
     except OSError as error:
-        raise Fault(f'{name}: cannot be written: {error.strerror}') from error
+        raise Fault(f'{"standard output" if name == "-" else name}: cannot be written: {error.strerror}') from error

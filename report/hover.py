@@ -1,10 +1,11 @@
 """What a mark or a bar says on hover, and the names by which the drawings point to the tables."""
 from . import clock, messages
+from .nightlog import Raw
 from .words import FINDINGS, REFUSALS, YES_NO
 
 
-def finding_id(post, group):
-    return f'post-{post.number}-f{group[0].number}-{group[0].count}'
+def finding_id(post, number, group):
+    return f'post-{post.number}-f{number}-{group.first}'
 
 
 def session_id(post, place):
@@ -21,23 +22,22 @@ def rule(post, number):
     return words + f'\n02: "{YES_NO}"' if number == 9 and post.set_up.yes_no else words
 
 
-def findings(post, group):
-    first, last = group[0], group[-1]
-    if len(group) == 1:
-        when = f'{clock.told(first.time)}, record {first.count}, post {post.number}'
-        what = f'\n{messages.accepted_words(first.record)}'
+def findings(post, number, group):
+    if group.number == 1:
+        when = f'{clock.told(group.low)}, record {group.first}, post {post.number}'
+        what = f'\n{messages.accepted_words(Raw(*group.raw).record())}'
     else:
-        when = f'{clock.told(first.time)} to {clock.told(last.time)}, {len(group)} records from {first.count} to {last.count}, post {post.number}'
+        when = f'{clock.told(group.low)} to {clock.told(group.high)}, {group.number} records from {group.first} to {group.last}, post {post.number}'
         what = ''
-    return f'{when}\n{rule(post, first.number)}{what}'
+    return f'{when}\n{rule(post, number)}{what}'
 
 
-def refusals(group):
-    first, counts = group[0], [refusal.count for refusal in group]
-    words = f'R{first.number} {REFUSALS[first.number]}'
-    if len(group) == 1:
-        return f'{clock.told(first.record.time)}, record {first.count}\n{words}\n{first.record.desk_line()}'
-    return f'{len(group)} records from {min(counts)} to {max(counts)}\n{words}'
+def refusals(number, group):
+    words = f'R{number} {REFUSALS[number]}'
+    if group.number == 1:
+        record = Raw(*group.raw).record()
+        return f'{clock.told(record.time)}, record {group.first}\n{words}\n{record.desk_line()}'
+    return f'{group.number} records from {group.first} to {group.last}\n{words}'
 
 
 def session(post, place, session):
@@ -46,6 +46,10 @@ def session(post, place, session):
     else:
         until = f'to {clock.told(session.closed)}, {clock.lasting(session.closed - session.opened)}, {session.state}'
     return f'Post {post.number}, session {place}\n{clock.told(session.opened)} {until}\n{session.first.words()}'
+
+
+def more_sessions(post):
+    return f'Post {post.number}: {post.all_sessions - len(post.sessions):,} more sessions, behind the {len(post.sessions)} that are drawn one by one'
 
 
 def presence(post):

@@ -68,6 +68,13 @@ def status(payload):
     return Status(volt, amps, 2 * insulation, ENABLES[enable])
 
 
+def status_in(held):
+    """Of length and payload."""
+    if len(held) != 9 or held[7] > 1:
+        raise ValueError(f'no {EXTENDED[0x63000]}: {held[1:].hex() or "no bytes"}')
+    return status(held[1:])
+
+
 def new_session(payload):
     protocol, plug = payload
     return NewSession(PROTOCOLS[protocol], PLUGS[plug])
@@ -84,6 +91,9 @@ def finished(payload):
 
 
 READERS = {0x63000: status, 0x6b001: new_session, 0x6b003: control, 0x6b004: finished}
+# their identifiers as parts of a log's records: doubled, and one more, in groups of seven bits
+PARTS = {identifier: bytes((2 * identifier & 127 | 129, 2 * identifier >> 7 & 127 | 128, 2 * identifier >> 14)) for identifier in READERS}
+STATUS, OTHERS = PARTS.pop(0x63000), frozenset(PARTS.values())
 
 
 def read(record):

@@ -2,9 +2,10 @@
 from pathlib import Path
 
 from . import clock, overview, readings, tables
-from .groups import by_number
+from .groups import LISTED, Groups
 from .markup import tag, text
-from .words import MALFORMED
+from .scale import Scale
+from .words import MALFORMED, SET_UPS
 
 STYLE = Path(__file__).with_name('style.css')
 # the browser is told as well that nothing is to be loaded
@@ -18,22 +19,45 @@ ON_SCREEN = ' Pointing at a mark tells its time and rule, and a click leads to i
 def page(night, sources):
     title = f'Night {night.name}'
     head = ['<meta charset="utf-8">', f'<meta http-equiv="Content-Security-Policy" content="{POLICY}">', '<meta name="viewport" content="width=device-width">',
-            '<meta name="color-scheme" content="light dark">', tag('title', text(f'{title}: {span(night)}')), tag('style', '\n', STYLE.read_text())]
-    parts = [tag('h1', text(title)), summary(night), *ending(night.ending), tables.posts(night), *glance(night),
-             *(of_post(night, post) for post in night.posts), refused(night), *rules(night), footer(sources)]
+            '<meta name="color-scheme" content="light dark">', tag('title', text(f'{title}: {span(night)}')),
+            tag('style', '\n', STYLE.read_text(encoding='utf-8'))]
+    told = warning(*refusal(night, sources[0])) if night.refused else replayed(night)
+    parts = [tag('h1', text(title)), *told, footer(sources)]
     body = tag('body', tag('main', *(f'\n{part}' for part in parts), '\n'))
     return '<!DOCTYPE html>\n' + tag('html', '\n', tag('head', *(f'\n{part}' for part in head), '\n'), '\n', body, '\n', lang='en') + '\n'
 
 
+def replayed(night):
+    groups = Groups(night, Scale(night.begin, night.end)) if night.begin is not None else None
+    return [summary(night), *warning(*empty(night), *ending(night.ending)), tables.posts(night), *glance(night, groups),
+            *(of_post(night, post, groups) for post in night.posts), refused(night, groups), *rules(night)]
+
+
+def refusal(night, posts):
+    """Why nothing was replayed."""
+    line, number = night.refused
+    yield (f'Nothing was replayed: the set-up in line {line} of {posts} is refused, R{number}: {SET_UPS[number]}. '
+           f'The log has {several(night.records, "record")}.')
+    yield from ending(night.ending)
+
+
+def empty(night):
+    if night.records == 0:
+        yield 'The log holds no record.'
+
+
 def span(night):
+    if night.refused:
+        return 'nothing replayed'
     return f'{clock.told(night.begin)} to {clock.told(night.end)}' if night.begin is not None else 'nothing accepted'
 
 
 def summary(night):
     lasting = f', {clock.lasting(night.end - night.begin)}' if night.begin is not None else ''
-    refused = f'{len(night.refusals):,} refused ({tables.counts("R", night.refusals)})' if night.refusals else 'none refused'
-    found = night.findings()
-    findings = f'{several(len(found), "finding")} ({tables.counts("F", found)})' if found else 'No finding'
+    often = tables.totals(night.refusals)
+    refused = f'{sum(often.values()):,} refused ({tables.counts("R", often)})' if often else 'none refused'
+    found = night.found()
+    findings = f'{several(sum(found.values()), "finding")} ({tables.counts("F", found)})' if found else 'No finding'
     words = f'{span(night)}{lasting}. {several(night.records, "record")}, {night.accepted:,} accepted, {refused}. '
     return tag('p', text(words), tag('strong', text(f'{findings}.')))
 
@@ -45,26 +69,27 @@ def several(number, word):
 def ending(ending):
     """How the log ends, if not behind a whole record."""
     if ending.cut:
-        words = f'The log is cut: a piece of a record is left over at byte {ending.byte:,}.'
+        yield f'The log is cut: a piece of a record is left over at byte {ending.byte:,}.'
     elif ending.refusal:
-        words = f'The log is malformed at byte {ending.byte:,}, R{ending.refusal}: {MALFORMED[ending.refusal]}. Nothing behind that was read.'
-    else:
-        return []
-    return [tag('p', text(words), class_='warning')]
+        yield f'The log is malformed at byte {ending.byte:,}, R{ending.refusal}: {MALFORMED[ending.refusal]}. Nothing behind that was read.'
 
 
-def glance(night):
+def warning(*sentences):
+    return [tag('p', text(words), class_='warning') for words in sentences]
+
+
+def glance(night, groups):
     if night.begin is None:
         return []
     key = tag('figcaption', text(KEY), tag('span', text(ON_SCREEN), class_='screen'))
-    return [tag('section', tag('h2', text('The night')), tag('figure', overview.drawing(night), key))]
+    return [tag('section', tag('h2', text('The night')), tag('figure', overview.drawing(night, groups), key))]
 
 
-def of_post(night, post):
+def of_post(night, post, groups):
     parts, none = [tag('h2', text(f'Post {post.number}, channel {post.set_up.channel}'))], []
-    for held, words, part in ((post.readings, 'Power_Modules_Status', lambda: tag('figure', readings.drawing(night, post))),
+    for held, words, part in ((post.readings.kept, 'Power_Modules_Status', lambda: tag('figure', readings.drawing(night, post, groups))),
                               (post.sessions, 'session', lambda: tables.sessions(post)),
-                              (post.findings, 'finding', lambda: tables.findings(night, post))):
+                              (post.findings, 'finding', lambda: tables.findings(post, groups))):
         if held:
             parts.append(part())
         else:
@@ -75,13 +100,14 @@ def of_post(night, post):
     return tag('section', *parts, id=f'post-{post.number}')
 
 
-def refused(night):
-    listed = [tables.refusals(*each) for each in by_number(night.refusals)]
+def refused(night, groups):
+    most = groups.listed if groups else LISTED
+    listed = [tables.refusals(night, number, most) for number in sorted(night.refusals)]
     return tag('section', tag('h2', text('Refusals')), *(listed or [tag('p', text('Nothing was refused.'))]), id='refusals')
 
 
 def rules(night):
-    return [tag('section', tag('h2', text('Rules')), tables.rules(night), id='rules')] if night.findings() else []
+    return [tag('section', tag('h2', text('Rules')), tables.rules(night), id='rules')] if night.found() else []
 
 
 def footer(sources):

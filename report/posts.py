@@ -4,7 +4,8 @@ from typing import NamedTuple
 
 from .faults import Fault
 
-SET_UP = re.compile(r'setup (0|[1-9]\d*)' + r' (0|[1-9]\d*)' * 5 + r'(?: ([01]))?', re.ASCII)
+NUMBER = r' (0|[1-9]\d{0,9})'
+SET_UP = re.compile('setup' + NUMBER * 6 + f'(?:{NUMBER})?', re.ASCII)
 
 
 class SetUp(NamedTuple):
@@ -18,17 +19,40 @@ class SetUp(NamedTuple):
     yes_no: bool
 
 
+class Refused(NamedTuple):
+    """The line whose set-up ends the replay before its first record, and the refusal's number."""
+    line: int
+    number: int
+
+
 def read(text):
-    """The set-up of each post, in ascending order. 01: "Setting up a post again, on its own channel or a free one, frees its old channel"."""
+    """The set-up of each post, in ascending order, and the first that is refused, behind which nothing is read.
+    01: "Setting up a post again, on its own channel or a free one, frees its old channel"."""
     posts = {}
     for number, line in enumerate(text.split('\n'), 1):
         if line == '' or line.startswith('#'):
             continue
         found = SET_UP.fullmatch(line)
-        if found is None:
+        numbers = [int(each) for each in found.groups(default='0')] if found else [2**32]
+        if max(numbers) >= 2**32:
             raise Fault(f'line {number}: not setup POST CHANNEL VOLT CHG DIS W [SENSOR]')
-        post, channel, *limits = map(int, found.groups(default='0'))
-        if any(other.channel == channel for other in posts.values() if other.post != post):
-            raise Fault(f'line {number}: channel {channel} is held by another post')
-        posts[post] = SetUp(post, channel, *limits[:-1], yes_no=limits[-1] == 1)
+        if refusal := judged(posts, *numbers):
+            return in_order(posts), Refused(number, refusal)
+        posts[numbers[0]] = SetUp(*numbers[:-1], yes_no=numbers[-1] == 1)
+    return in_order(posts), None
+
+
+def in_order(posts):
     return [posts[post] for post in sorted(posts)]
+
+
+def judged(posts, post, channel, volt, charge, discharge, silence, sensor):
+    """01's and 02's refusal of a set-up, the lowest that applies; 0 where there is none."""
+    if post > 7:
+        return 9
+    if channel > 31:
+        return 10
+    if any(other.channel == channel for other in posts.values() if other.post != post):
+        return 11
+    fits = 1 <= volt <= 65535 and 1 <= charge <= 32767 and discharge <= 32767 and 100 <= silence <= 60000 and sensor <= 1
+    return 0 if fits else 12

@@ -1,10 +1,9 @@
 """A post's voltage, current and insulation over the night, each on its own axis, behind them its sessions and findings."""
 from .axis import Axis, whole_steps
 from .curves import runs, thinned
-from .groups import all_groups
 from .markup import short, tag, text
 from .messages import tenths
-from .scale import LEFT, PLOT, WIDTH, Scale
+from .scale import LEFT, PLOT, WIDTH
 
 HEAD, PANEL = 24, 88
 # above the panels, for the numbers of findings
@@ -12,40 +11,40 @@ ABOVE = 16
 INSULATION_TICKS = (0, 20, 60, 150, 300, 510)
 
 
-def drawing(night, post):
-    scale, top = Scale(night.begin, night.end), ABOVE if post.findings else 0
+def drawing(night, post, groups):
+    scale, top = groups.scale, ABOVE if post.findings else 0
     tops = [top + place * (HEAD + PANEL) for place in range(4)]
     panels = [draw(post, scale, tops[place]) for place, draw in enumerate((voltage, current, insulation))]
     bottom = tops[-1]
-    return tag('svg', sessions(night, post, scale, top + HEAD, bottom), guides(post, scale, top, bottom), *panels, scale.labels(bottom + 17),
+    return tag('svg', sessions(night, post, scale, top + HEAD, bottom), guides(groups, post, top, bottom), *panels, scale.labels(bottom + 17),
                class_='readings', viewBox=f'0 0 {WIDTH} {bottom + 24}', role='img', aria_label=told(post))
 
 
 def told(post):
-    volts, amps, kohms, _ = zip(*(reading.status for reading in post.readings))
-    return (f'Curves of post {post.number}: voltage from {tenths(min(volts))} to {tenths(max(volts))} V, current from {tenths(min(amps))} to '
-            f'{tenths(max(amps))} A, insulation from {min(kohms)} to {max(kohms)} kOhm')
+    volts, amps, kohms = post.bounds
+    return (f'Curves of post {post.number}: voltage from {tenths(volts[0])} to {tenths(volts[1])} V, current from {tenths(amps[0])} to '
+            f'{tenths(amps[1])} A, insulation from {kohms[0]} to {kohms[1]} kOhm')
 
 
 def voltage(post, scale, top):
-    points = [(reading.time, reading.status.volt / 10) for reading in post.readings]
+    points = [(reading.time, reading.volt / 10) for reading in post.readings.kept]
     axis = whole_steps(0, max(value for _, value in points), top + HEAD + PANEL, PANEL)
     return panel('Voltage', 'V', axis, scale, top, curve(points, post, scale, axis))
 
 
 def current(post, scale, top):
-    points = [(reading.time, reading.status.amps / 10) for reading in post.readings]
+    points = [(reading.time, reading.amps / 10) for reading in post.readings.kept]
     values = [value for _, value in points]
     axis = whole_steps(min(values), max(values), top + HEAD + PANEL, PANEL)
     return panel('Current', 'A', axis, scale, top, curve(points, post, scale, axis))
 
 
 def insulation(post, scale, top):
-    points = [(reading.time, reading.status.kohm) for reading in post.readings]
+    points = [(reading.time, reading.kohm) for reading in post.readings.kept]
     axis = Axis(0, 510, INSULATION_TICKS, top + HEAD + PANEL, PANEL, bend=True)
     if post.set_up.yes_no:
         return panel('Insulation', 'kOhm, a sensor of yes (510) and no (0)', axis, scale, top, curve(points, post, scale, axis))
-    least = [(reading.time, min(510, reading.status.volt / 100)) for reading in post.readings]
+    least = [(reading.time, min(510, reading.volt / 100)) for reading in post.readings.kept]
     words = 'kOhm, root scale; dashed: 100 Ohm per volt'
     return panel('Insulation', words, axis, scale, top, curve(least, post, scale, axis, 'curve least'), curve(points, post, scale, axis))
 
@@ -69,15 +68,15 @@ def sessions(night, post, scale, top, bottom):
                        width=max(1.0, scale.x(night.end if session.closed is None else session.closed) - scale.x(session.opened))) for session in post.sessions)
 
 
-def guides(post, scale, top, bottom):
+def guides(groups, post, top, bottom):
     """A dashed line at each group of findings, its number above where there is room."""
-    lines, taken = [], 0
-    for group in all_groups(post.findings, scale):
-        left, right = scale.x(group[0].time), scale.x(group[-1].time)
+    lines, taken, scale = [], 0, groups.scale
+    for number, group in groups.all_of(post):
+        left, right = scale.x(group.low), scale.x(group.high)
         if right - left > 2:
             lines.append(tag('rect', class_='found', x=left, y=top, width=right - left, height=bottom - top))
         lines.append(tag('path', class_='found', d=f'M{short(left)} {top}V{bottom}'))
         if left > taken:
-            lines.append(tag('text', text(f'F{group[0].number}'), class_='number', x=left, y=top - 4, text_anchor='middle'))
+            lines.append(tag('text', text(f'F{number}'), class_='number', x=left, y=top - 4, text_anchor='middle'))
             taken = left + 24
     return ''.join(lines)

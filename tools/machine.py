@@ -17,6 +17,7 @@ def runner():
         return []
     rt = shutil.which('rt')
     if rt is None:
-        sys.exit('rt, the Rattle kit\'s command, is not on the PATH')
+        print('rt, the Rattle kit\'s command, is not on the PATH', file=sys.stderr)
+        sys.exit(2)
     kit = Path(rt).resolve().parents[1] / 'on' / machine / 'toolchain'
     return [str(kit / 'bin/qemu-x86_64'), str(kit / 'lib/ld-linux-x86-64.so.2'), '--library-path', str(kit / 'lib')]

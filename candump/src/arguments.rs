@@ -1,10 +1,11 @@
-//! The command line: options with a value each, IN and OUT.
+//! The command line: options with a value each, filters without one, IN and OUT.
 
 use std::ffi::{OsStr, OsString};
 
 #[derive(Debug, Default)]
 pub struct Call {
     values: Vec<(&'static str, OsString)>,
+    filters: Vec<&'static str>,
     pub input: OsString,
     pub output: OsString,
 }
@@ -13,10 +14,19 @@ impl Call {
     pub fn value(&self, option: &str) -> Option<&OsStr> {
         self.values.iter().find(|(name, _)| *name == option).map(|(_, value)| value.as_os_str())
     }
+
+    pub fn has(&self, filter: &str) -> bool {
+        self.filters.contains(&filter)
+    }
 }
 
-/// `None` where help is asked for; `Err` says what is wrong with the arguments.
-pub fn parse(arguments: Vec<OsString>, options: &[&'static str]) -> Result<Option<Call>, String> {
+/// `None` where help is asked for; `Err` says what is wrong with the arguments. A filter stands between pipes, so that IN and OUT
+/// may be left out with it: standard input and output.
+pub fn parse(
+    arguments: Vec<OsString>,
+    options: &[&'static str],
+    filters: &[&'static str],
+) -> Result<Option<Call>, String> {
     let mut call = Call::default();
     let mut files = Vec::new();
     let mut arguments = arguments.into_iter();
@@ -31,11 +41,16 @@ pub fn parse(arguments: Vec<OsString>, options: &[&'static str]) -> Result<Optio
                 return Err(format!("{option} stands twice"));
             }
             call.values.push((option, value));
+        } else if let Some(filter) = filters.iter().find(|filter| argument == **filter) {
+            call.filters.push(filter);
         } else if shown.starts_with('-') && shown != "-" {
             return Err(format!("there is no option {shown}"));
         } else {
             files.push(argument);
         }
+    }
+    if files.is_empty() && !call.filters.is_empty() {
+        files = vec!["-".into(), "-".into()];
     }
     let [input, output] = <[OsString; 2]>::try_from(files).map_err(|_| "an IN and an OUT are needed, and no more")?;
     Ok(Some(Call { input, output, ..call }))
@@ -46,7 +61,7 @@ mod tests {
     use super::*;
 
     fn parsed(line: &str) -> Result<Option<Call>, String> {
-        parse(line.split_whitespace().map(OsString::from).collect(), &["--map", "--clock"])
+        parse(line.split_whitespace().map(OsString::from).collect(), &["--map", "--clock"], &["--lines"])
     }
 
     #[test]
@@ -57,6 +72,16 @@ mod tests {
             assert_eq!((call.value("--clock"), call.value("--map")), (Some(OsStr::new("wrap")), None));
         }
         assert!(parsed("--clock --help a").unwrap_err().starts_with("an IN and an OUT"));
+    }
+
+    #[test]
+    fn filters() {
+        for (line, input) in [("--lines", "-"), ("--clock wrap --lines", "-"), ("a b --lines", "a")] {
+            let call = parsed(line).unwrap().unwrap();
+            assert!(call.has("--lines") && call.input == input, "{line}");
+        }
+        assert!(!parsed("a b").unwrap().unwrap().has("--lines"));
+        assert!(parsed("--lines a").unwrap_err().starts_with("an IN and an OUT"));
     }
 
     #[test]

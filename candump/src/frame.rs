@@ -1,23 +1,14 @@
 //! A frame as candump writes it: `ID#BYTES`, three digits for a standard identifier and eight for an extended one.
 
-use second::Frame;
-
 use crate::fields::{Fault, Field};
+use crate::log::Frame;
 use crate::numbers::hexadecimal;
 
 /// linux/can.h's bit for a message of the controller about an error; it is the first above an identifier's 29.
 const ERROR: u32 = 1 << 29;
 
-/// What is read; that the numbers are not too large for a log is the log's to judge.
-#[derive(Debug, PartialEq, Eq)]
-pub struct Read {
-    pub id: u32,
-    pub extended: bool,
-    pub bytes: Vec<u8>,
-}
-
-/// A frame that no log holds (remote, error, FD) is a fault too.
-pub fn read(field: Field) -> Result<Read, Fault> {
+/// A frame that no log holds (remote, error, FD) is a fault too; that its numbers are not too large for one is the log's to judge.
+pub fn read(field: Field) -> Result<Frame, Fault> {
     let cross = field
         .bytes
         .iter()
@@ -42,7 +33,7 @@ pub fn read(field: Field) -> Result<Read, Fault> {
     if halves.len() % 2 == 1 {
         return Err(field.fault_at(field.bytes.len() - 1, "half a byte"));
     }
-    Ok(Read { id, extended, bytes: halves.chunks(2).map(|pair| pair[0] << 4 | pair[1]).collect() })
+    Ok(Frame { id, extended, bytes: halves.chunks(2).map(|pair| pair[0] << 4 | pair[1]).collect() })
 }
 
 fn digits(field: Field, from: usize, to: usize) -> Result<Vec<u8>, Fault> {
@@ -64,7 +55,7 @@ pub fn write(frame: &Frame) -> String {
 mod tests {
     use super::*;
 
-    fn read_at_30(text: &str) -> Result<Read, Fault> {
+    fn read_at_30(text: &str) -> Result<Frame, Fault> {
         read(Field { column: 30, bytes: text.as_bytes() })
     }
 
@@ -81,8 +72,8 @@ mod tests {
             ("0006B000#01", 0x6b000, true, &[1]),
             ("1FFFFFFF#0123456789ABCDEF", 0x1fff_ffff, true, &[1, 0x23, 0x45, 0x67, 0x89, 0xab, 0xcd, 0xef]),
         ] {
-            assert_eq!(read_at_30(text), Ok(Read { id, extended, bytes: bytes.to_vec() }));
-            assert_eq!(write(&Frame { id, extended, bytes }), text);
+            assert_eq!(read_at_30(text), Ok(Frame { id, extended, bytes: bytes.to_vec() }));
+            assert_eq!(write(&Frame { id, extended, bytes: bytes.to_vec() }), text);
             assert_eq!(read_at_30(&text.to_lowercase()), read_at_30(text));
         }
     }

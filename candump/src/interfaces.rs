@@ -1,11 +1,10 @@
 //! Which channel an interface is, and which interface a channel: by a map file, and by the interface's number where the map
 //! says nothing. Nothing that the map gives to one is ever taken for another: what has an interface goes back to its channel.
 
-use second::CHANNELS;
-
 use crate::arguments::Call;
 use crate::fields::{fields, shown, Fault};
 use crate::files;
+use crate::log::CHANNELS;
 use crate::numbers::decimal;
 
 /// No interface stands in it twice and no channel.

@@ -6,6 +6,7 @@ mod fields;
 mod files;
 mod frame;
 mod interfaces;
+mod log;
 mod numbers;
 pub mod program;
 mod stamp;

@@ -9,7 +9,9 @@ use crate::arguments::{self, Call};
 pub struct Program {
     pub name: &'static str,
     pub usage: &'static str,
-    pub options: [&'static str; 2],
+    /// With a value each.
+    pub options: &'static [&'static str],
+    pub filters: &'static [&'static str],
     /// `Err` says what could not be read or written.
     pub run: fn(&Call) -> Result<Done, String>,
 }
@@ -30,7 +32,7 @@ impl Program {
 }
 
 pub fn run(program: &Program) -> ExitCode {
-    let done = match arguments::parse(std::env::args_os().skip(1).collect(), &program.options) {
+    let done = match arguments::parse(std::env::args_os().skip(1).collect(), program.options, program.filters) {
         Ok(Some(call)) => (program.run)(&call),
         Ok(None) => {
             io::stdout().write_all(program.usage.as_bytes()).map(|()| Done::All).map_err(|error| error.to_string())

@@ -1,17 +1,20 @@
 //! log2candump: a night log becomes lines of `candump -L`, piece by piece.
 
-use second::log::{self, Ending};
-use second::{log_line, Arrival};
-
 use crate::arguments::Call;
 use crate::files::{self, Output};
 use crate::frame;
 use crate::interfaces::Interfaces;
+use crate::log::{self, Ending, Record};
 use crate::program::{Done, Program};
 use crate::stamp;
 
-pub const PROGRAM: Program =
-    Program { name: "log2candump", usage: include_str!("log2candump.txt"), options: ["--map", "--start"], run };
+pub const PROGRAM: Program = Program {
+    name: "log2candump",
+    usage: include_str!("log2candump.txt"),
+    options: &["--map", "--start"],
+    filters: &[],
+    run,
+};
 
 fn run(call: &Call) -> Result<Done, String> {
     let interfaces = Interfaces::asked(call)?;
@@ -26,12 +29,11 @@ fn run(call: &Call) -> Result<Done, String> {
         let size = piece.len();
         rest.extend_from_slice(piece);
         input.consume(size);
-        let read = log::read(&rest);
-        for record in &read.records {
+        let (records, whole, ending) = log::read(&rest);
+        for record in &records {
             lines.write(record)?;
         }
         lines.output.flush()?;
-        let (whole, ending) = (read.at, read.ending);
         rest.drain(..whole);
         at += whole as u64;
         if size == 0 || matches!(ending, Ending::Bad(_)) {
@@ -42,7 +44,7 @@ fn run(call: &Call) -> Result<Done, String> {
         PROGRAM.say(format!("{}: ticks, which have no candump line: {}", input.name, lines.ticks));
     }
     if ending != Ending::End {
-        PROGRAM.say(format!("{}: {}", input.name, log_line::ending(ending, at)));
+        PROGRAM.say(format!("{}: {}", input.name, ending.words(at)));
     }
     Ok(if ending == Ending::End && lines.left_out == 0 { Done::All } else { Done::SomeLeftOut })
 }
@@ -66,7 +68,7 @@ struct Lines {
 }
 
 impl Lines {
-    fn write(&mut self, record: &Arrival) -> Result<(), String> {
+    fn write(&mut self, record: &Record) -> Result<(), String> {
         self.records += 1;
         let Some(frame) = &record.frame else {
             self.ticks += 1;

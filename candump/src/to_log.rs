@@ -1,6 +1,4 @@
-//! candump2log: a recording of `candump -L` becomes a night log, line by line.
-
-use second::{log, Arrival, Frame, Refusal};
+//! candump2log: a recording of `candump -L` becomes a night log, or the desk's lines of one, line by line.
 
 use crate::arguments::Call;
 use crate::clock::Clock;
@@ -8,18 +6,24 @@ use crate::fields::{fields, Fault, Field};
 use crate::files;
 use crate::frame;
 use crate::interfaces::Interfaces;
+use crate::log::{self, Record};
 use crate::program::{Done, Program};
 use crate::stamp;
 
-pub const PROGRAM: Program =
-    Program { name: "candump2log", usage: include_str!("candump2log.txt"), options: ["--map", "--clock"], run };
-
-/// 02, Req 01: two numbers of at most five groups, two of one, and the payload.
-const LONGEST_RECORD: usize = 5 + 1 + 5 + 1 + 8;
+pub const PROGRAM: Program = Program {
+    name: "candump2log",
+    usage: include_str!("candump2log.txt"),
+    options: &["--map", "--clock"],
+    filters: &["--lines"],
+    run,
+};
 
 fn run(call: &Call) -> Result<Done, String> {
     let interfaces = Interfaces::asked(call)?;
-    let clock = call.value("--clock").map_or("first".into(), |name| name.to_string_lossy());
+    let as_lines = call.has("--lines");
+    // Lines go to a log that outlives this run: the next one has to count from the same moment.
+    let usual = if as_lines { "wrap" } else { "first" };
+    let clock = call.value("--clock").map_or(usual.into(), |name| name.to_string_lossy());
     let clock = Clock::named(&clock).ok_or_else(|| format!("--clock {clock}: neither first nor wrap"))?;
     let (mut input, mut output) = files::open(&call.input, &call.output)?;
     let mut recorder = Recorder { clock, interfaces };
@@ -35,10 +39,20 @@ fn run(call: &Call) -> Result<Done, String> {
             break;
         }
         lines += 1;
+        let cut = !line.ends_with(b"\n");
         match recorder.record(&line) {
+            Ok(_) if cut && as_lines => {
+                left_out += 1;
+                PROGRAM.say(format!("{}: line {lines}: no line feed behind it, it may be cut: left out", input.name));
+            }
+            // A line is written by itself, so that none is cut where this program is killed.
+            Ok(record) if as_lines => {
+                output.write(log::desk_line(&record).as_bytes())?;
+                output.flush()?;
+            }
             Ok(record) => {
-                output.write(&record)?;
-                if !line.ends_with(b"\n") {
+                output.write(&log::bytes(&record))?;
+                if cut {
                     PROGRAM.say(format!("{}: line {lines}: no line feed behind it, it may be cut", input.name));
                 }
             }
@@ -61,8 +75,8 @@ struct Recorder {
 }
 
 impl Recorder {
-    /// The bytes of a line's record. The earliest bad part of a line decides why there are none.
-    fn record(&mut self, line: &[u8]) -> Result<Vec<u8>, Fault> {
+    /// A line's record, which a log holds. The earliest bad part of a line decides why there is none.
+    fn record(&mut self, line: &[u8]) -> Result<Record, Fault> {
         let end = Field { column: line.trim_ascii_end().len() + 1, bytes: b"" };
         let mut parts = fields(line).peekable();
         let stamp = parts.next().ok_or_else(|| end.fault("an empty line"))?;
@@ -77,21 +91,19 @@ impl Recorder {
         if let Some(more) = parts.next() {
             return Err(more.fault("more than a frame and its direction, R or T"));
         }
-        let frame = Some(Frame { id: frame.id, extended: frame.extended, bytes: &frame.bytes });
-        let mut buffer = vec![0; LONGEST_RECORD];
-        let size = log::write(&Arrival { channel, time, frame }, &mut buffer).map_err(|why| field.fault(words(why)))?;
-        buffer.truncate(size);
-        Ok(buffer)
+        let record = Record { time, channel, frame: Some(frame) };
+        log::holds(&record).map_err(|number| field.fault(words(number)))?;
+        Ok(record)
     }
 }
 
 /// Why the log holds no such frame.
-fn words(refusal: Refusal) -> String {
+fn words(refusal: u8) -> String {
     match refusal {
-        Refusal::Number(18) => "a standard identifier above 7FF".to_string(),
-        Refusal::Number(19) => "an extended identifier above 1FFFFFFF".to_string(),
-        Refusal::Number(20) => "more than 8 bytes".to_string(),
-        other => format!("refused by the log, {other}"),
+        18 => "a standard identifier above 7FF".to_string(),
+        19 => "an extended identifier above 1FFFFFFF".to_string(),
+        20 => "more than 8 bytes".to_string(),
+        other => format!("refused by the log, R{other}"),
     }
 }
 
@@ -113,7 +125,7 @@ mod tests {
         recorder.record(b"(1700000000.123456) can2 0006B003#R").unwrap_err();
         for line in ["can2 0006B000#01\n", "  can2  0006b000#01\r\n", "can2 0006B000#01 R", "can2 0006B000#01 T\n"] {
             let record = recorder.record(format!("(1700000000.423001) {line}").as_bytes());
-            assert_eq!(record.unwrap(), [0xac, 0x02, 0x02, 0x81, 0xc0, 0x35, 0x01, 0x01], "{line}");
+            assert_eq!(log::bytes(&record.unwrap()), [0xac, 0x02, 0x02, 0x81, 0xc0, 0x35, 0x01, 0x01], "{line}");
         }
     }
 

@@ -1,5 +1,4 @@
-//! A second program for 01: answers desk scripts, makes them, and compares other programs by them. Programs beside it take
-//! its night log from here.
+//! A second program for 01: answers desk scripts, makes them, and compares other programs by them.
 
 mod arguments;
 mod check;
@@ -13,8 +12,8 @@ mod history;
 #[cfg(test)]
 mod label_readings;
 mod label_slips;
-pub mod log;
-pub mod log_line;
+mod log;
+mod log_line;
 #[cfg(test)]
 mod log_readings;
 mod log_slips;
@@ -63,9 +62,6 @@ use program::Program;
 use replay::Replay;
 use rng::Rng;
 use script::Extras;
-
-pub use codec::Refusal;
-pub use posts::{Arrival, Frame, CHANNELS};
 
 const DIFFERS: u8 = 1;
 const CANNOT: u8 = 2;

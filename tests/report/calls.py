@@ -1,5 +1,6 @@
 """How tools/report is called: pipes and files, nights with little in them, and what does not belong together."""
 import os
+import random
 import shutil
 import struct
 import subprocess
@@ -9,9 +10,13 @@ import unittest
 from pathlib import Path
 
 import dom
-from second import ROOT
+from second import ROOT, answers
 from tool import called
 from words import record
+
+sys.path.append(str(ROOT))
+
+from report import posts
 
 POSTS = 'setup 0 4 5000 2000 500 500\n# the other side\n\nsetup 1 5 5000 2000 500 500 1\n'
 LOG = b''.join(map(record, ['tick 4 100', 'frame 5 200 6b000 x 01', 'tick 9 250', 'frame 4 300 6b000 x 0e']))
@@ -127,13 +132,64 @@ class Calls(unittest.TestCase):
     def test_posts_that_are_none(self):
         for posts, said in [
             ('setup 0 4 5000 2000 500\n', 'line 1: not setup POST CHANNEL VOLT CHG DIS W [SENSOR]'),
-            ('setup 0 4 5000 2000 500 500 2\n', 'line 1: not setup POST CHANNEL VOLT CHG DIS W [SENSOR]'),
+            ('setup 0 4 5000 2000 500 500 0 0\n', 'line 1: not setup POST CHANNEL VOLT CHG DIS W [SENSOR]'),
+            ('setup 0 4 4294967296 2000 500 500\n', 'line 1: not setup POST CHANNEL VOLT CHG DIS W [SENSOR]'),
             ('# x\nsetup 0 04 5000 2000 500 500\n', 'line 2: not setup POST CHANNEL VOLT CHG DIS W [SENSOR]'),
-            (POSTS + 'setup 2 5 1 1 1 100\n', 'line 5: channel 5 is held by another post'),
-            (POSTS + 'setup 0 6 1 1 1 100\nsetup 0 5 1 1 1 100\n', 'line 6: channel 5 is held by another post'),
         ]:
             self.files(posts=posts)
             self.refused(f'posts: {said}')
+
+    def test_a_set_up_that_is_refused(self):
+        """The replay wrote no line, and the page says why."""
+        for posts, line, why in [
+            (POSTS + 'setup 2 5 1 1 1 100\nno line\n', 5, 'R11: channel held by another post'),
+            (POSTS + 'setup 0 6 1 1 1 100\nsetup 0 5 1 1 1 100\n', 6, 'R11: channel held by another post'),
+            ('setup 8 4 5000 2000 500 500\n', 1, 'R9: post number above 7'),
+            ('# x\nsetup 0 32 5000 2000 500 500\n', 2, 'R10: channel above 31 at set-up'),
+            ('setup 0 4 5000 2000 500 500 2\n', 1, 'R12: a post limit outside its range'),
+        ]:
+            text = self.page(posts=posts, lines='')
+            self.assertIn(f'Nothing was replayed: the set-up in line {line} of posts is refused, {why}. The log has 4 records.', text)
+            self.assertNotIn('Post 0', text)
+            self.assertIn('nothing replayed', dom.read(Path('out.html').read_text()).one('title').text())
+        self.assertIn('The log has 4 records.The log is cut', self.page(posts=posts, lines='', log=LOG + b'\x80').replace('\n', ''))
+        os.remove('out.html')
+        self.files(posts=posts)
+        self.refused('lines: lines, though line 1 of the posts is refused')
+
+    def test_set_ups_as_they_are_judged(self):
+        """By the second program, on both sides of each bound."""
+        r = random.Random(61)
+        for _ in range(40):
+            lines = [f'setup {r.choice([0, 1, 7, 8])} {r.choice([0, 4, 31, 32])} {r.choice([0, 1, 65535, 65536])} {r.choice([1, 32767, 32767, 32768, 0])} '
+                     f'{r.choice([0, 0, 32767, 32768])} {r.choice([100, 60000, 60000, 99, 60001])}{r.choice(["", " 0", " 1", " 2"])}' for _ in range(3)]
+            answers_ = answers(lines)
+            refused = next(((line, int(answer[1:])) for line, answer in enumerate(answers_, 1) if answer != 'A'), None)
+            self.assertEqual(posts.read('\n'.join(lines))[1], refused, lines)
+
+    def test_a_log_without_records(self):
+        for log, more in (b'', ''), (b'\x80', 'The log is cut: a piece of a record is left over at byte 0.'), (b'\x01\x20', 'The log is malformed at byte 0'):
+            text = self.page(log=log, lines='').replace('\n', '')
+            self.assertIn(f'The log holds no record.{more}', text)
+        self.assertNotIn('The log holds no record', self.page())
+
+    def test_names_of_any_bytes(self):
+        """Files are found by them; on the page, and in what is told, are those bytes that can be printed."""
+        odd = bytes(n for n in range(1, 256) if n != ord('/'))
+        for name in (odd, b'\xff', b'a\nb', b'<b>&', b'-x', b'caf\xc3\xa9'):
+            for suffix, file in ((b'.posts', 'posts'), (b'.log', 'night.log'), (b'.lines', 'lines')):
+                shutil.copyfile(file, name[:200] + suffix)
+            done = called('--', *(os.fsdecode(name[:200] + suffix) for suffix in (b'.posts', b'.log', b'.lines', b'.html')))
+            self.assertEqual(done, (0, '', ''), name)
+            page = dom.read(Path(os.fsdecode(name[:200] + b'.html')).read_bytes().decode()).one('main')
+            shown = name[:200].decode(errors='backslashreplace')
+            for letter in (chr(n) for n in (*range(32), 127)):
+                shown = shown.replace(letter, letter.encode('unicode_escape').decode())
+            self.assertIn(f'From {shown}.posts, {shown}.log.', page.one('footer').text())
+            self.assertEqual(page.one('h1').text(), f'Night {shown}')
+            self.assertIn('4 records, 2 accepted', page.text())
+        told = 'report: none\\udcff: cannot be read: No such file or directory\n'
+        self.assertEqual(called('posts', os.fsdecode(b'none\xff'), 'lines', 'out.html'), (2, '', told))
 
     def test_a_post_set_up_again(self):
         text = self.page(posts='setup 0 7 4000 1000 500 500\n' + POSTS + 'setup 2 7 4000 1000 500 500\n')

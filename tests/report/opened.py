@@ -1,14 +1,20 @@
 """The pages of the nights, opened in Chromium: all that the replay tells is on them, and a page with any of it taken out or changed fails."""
 import re
+import sys
 import tempfile
 import unittest
 from pathlib import Path
 
 import held
 from browser import dumped, pictured
+from pictures import FEW, differing
 from second import ROOT, records, replay
 from told import Told, clock, ms
 from tool import write_page
+
+sys.path.append(str(ROOT))
+
+from report.picture import take
 
 TARGET = ROOT / 'target/report'
 
@@ -18,7 +24,7 @@ def paged(name, folder, *more):
     posts, log = ROOT / f'nights/{name}.posts', ROOT / f'nights/{name}.log'
     lines, _ = replay(posts, log)
     page = Path(folder) / f'{name}.html'
-    write_page(posts, log, lines, page, *more)
+    write_page(posts.relative_to(ROOT), log.relative_to(ROOT), lines, page, *more)
     return page, Told(posts.read_text(), records(log.read_bytes())[0], lines)
 
 
@@ -37,6 +43,7 @@ class Pages(unittest.TestCase):
         width, height, rows = pictured(picture)
         self.assertEqual((width, height), (1120, 2220))
         self.assertGreater(rows, 300, 'hardly anything on the picture')
+        self.hold_stored_picture(page, picture)
 
     def test_other_nights(self):
         """All findings, all refusals that a replay gives, and nothing of either."""
@@ -50,11 +57,16 @@ class Pages(unittest.TestCase):
         self.assertEqual(findings, set(range(1, 12)))
         self.assertEqual(refusals, {1, 2, 3, 4, 5, 6, 15})
 
-    def test_stored_picture(self):
-        """docs/report.png is renewed by hand, `make report PICTURE=docs/report.png`: points differ between machines."""
-        width, height, _ = pictured(ROOT / 'docs/report.png')
-        self.assertEqual((width, height), (1120, 2220))
-        self.assertLess((ROOT / 'docs/report.png').stat().st_size, 300000)
+    def hold_stored_picture(self, page, picture):
+        """docs/report.png is this page; of a page that lacks a finding's row it is not."""
+        stored = ROOT / 'docs/report.png'
+        self.assertLess(stored.stat().st_size, 300000)
+        self.assertLessEqual(differing(stored, picture), FEW, 'docs/report.png is not the page of the March night: make report PICTURE=docs/report.png')
+        with tempfile.TemporaryDirectory() as folder:
+            other, shot = Path(folder) / 'other.html', Path(folder) / 'other.png'
+            other.write_text(page.read_text().replace(ROW.findall(page.read_text())[-1], ''))
+            take(other, shot)
+            self.assertGreater(differing(stored, shot), FEW, 'a page that lacks a row')
 
 
 class Wrong(unittest.TestCase):

@@ -17,9 +17,13 @@ def answers(steps):
 
 def records(log):
     """The records of a log as desk lines, and how it ends."""
-    answer, = answers([f'logr {log.hex() or "-"}'])
-    found = re.fullmatch(r'L \d+((?: [tf],\S+)*) (\S+.*)', answer)
-    return [desk_line(record) for record in found[1].split()], found[2]
+    told, = records_of([log])
+    return told
+
+
+def records_of(logs):
+    found = (re.fullmatch(r'L \d+((?: [tf],\S+)*) (\S+.*)', answer) for answer in answers(f'logr {log.hex() or "-"}' for log in logs))
+    return [([desk_line(record) for record in each[1].split()], each[2]) for each in found]
 
 
 def desk_line(record):

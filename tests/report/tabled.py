@@ -28,8 +28,8 @@ def finding_rows(page, told, names):
             if ' to ' in which:
                 first, last = map(int, which.split(' to '))
                 alike = [each for each in told.findings if (each.post, each.number) == (post, number) and first <= each.count <= last]
-                times = row.one('span', 'each').text().split(', ')
-                sound = (bool(alike) and times == [clock(each.time) for each in alike] and what.startswith(f'{len(alike):,} times: ')
+                times = [clock(each.time) for each in alike]
+                sound = (bool(alike) and each_of(row) == listed(times) and what.startswith(f'{len(alike):,} times: ')
                          and when == f'{times[0]} to {times[-1]}' and (first, last) == (alike[0].count, alike[-1].count))
                 if not sound:
                     faults.append(f'row {row["id"]}: {when}, {which}, {what}')
@@ -37,6 +37,16 @@ def finding_rows(page, told, names):
                 alike = [Finding(post, number, ms(when), int(which))]
             rows[row['id']] = alike
     return rows, faults
+
+
+def each_of(row):
+    return row.one('span', 'each').text()
+
+
+def listed(times, most=200):
+    """All of them, or the first and how many more."""
+    more = f', and {len(times) - most:,} more up to {times[-1]}' if len(times) > most else ''
+    return ', '.join(times[:most]) + more
 
 
 def session_rows(page, told):

@@ -11,6 +11,7 @@ def called(*words, told='', **more):
 
 
 def write_page(posts, log, lines, page, *more):
-    got = called(*more, posts, log, '-', page, told=''.join(f'{line}\n' for line in lines))
+    """From the project's folder, as `make report` does."""
+    got = called(*more, posts, log, '-', page, told=''.join(f'{line}\n' for line in lines), cwd=ROOT)
     if got != (0, '', ''):
         raise AssertionError(got)
