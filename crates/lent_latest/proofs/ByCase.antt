@@ -3,12 +3,12 @@ use Prim.Native.Nat.{ℕ, _<_}
 use mathlib.Core.Path.{_≡_, sym, ap, _∙_}
 use mathlib.Core.Bool.{true, _&&_}
 use mathlib.Core.List.{List}
-use lib.ListN.{length, getD}
+use lib.ListN.{length}
 use borrow.Author.Tests.{lt-ltb}
-use Rattle.rules.specs.Record.{kindCount}
+use Rattle.rules.specs.Record.{kindCount, isSet}
 use Rattle.watch_rules.specs.declared.Table.{Table}
 use Rattle.watch_rules.specs.declared.LookedUp.{LookedUp}
-use Rattle.watch_rules.specs.Table.{postCount, noPost, lookUpOf}
+use Rattle.watch_rules.specs.Table.{postIn, isPost, lookUpOf}
 use Rattle.lent_look.proofs.Asked.{set-up}
 use Rattle.lent_latest.specs.Latest.{keptOf, hasRoom, keptWord, hands, timeLeft, bytesLeft, latestAnswer, latestWord, timeAfter, frameAfter}
 
@@ -30,10 +30,10 @@ module _ (t : Table) (i : ℕ) where
   )
 
   -- of a post that is set up and a number that is a kind: what is kept, and the room, decide
-  pub handed-kept : {r : ℕ} {after left : List ℕ} (k : ℕ) (times buf : List ℕ) → i < postCount → getD (t .posts) i noPost .used ≡ true → k < kindCount
+  pub handed-kept : {r : ℕ} {after left : List ℕ} (k : ℕ) (times buf : List ℕ) → isPost i ≡ true → isSet (postIn t i .head .used) ≡ true → k < kindCount
       → (r ≡ keptWord k (keptOf t i k) (length times) (length buf))
-      × (after ≡ timeLeft (keptOf t i k .known && hasRoom k (length times) (length buf)) (keptOf t i k) times)
-      × (left ≡ bytesLeft (keptOf t i k .known && hasRoom k (length times) (length buf)) k (keptOf t i k) buf)
+      × (after ≡ timeLeft (isSet (keptOf t i k .known) && hasRoom k (length times) (length buf)) (keptOf t i k) times)
+      × (left ≡ bytesLeft (isSet (keptOf t i k .known) && hasRoom k (length times) (length buf)) k (keptOf t i k) buf)
       → Handed k times buf r after left
   handed-kept k times buf l u m out =
       let e = rw (lt-ltb k kindCount m) at (handed-by k times buf (set-up t i l u)) in

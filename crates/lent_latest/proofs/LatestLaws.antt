@@ -20,14 +20,14 @@ use Rattle.page_write.proofs.Trips.{accepted, raws-back}
 use Rattle.rules.specs.declared.Dated.the-variants as dated
 use Rattle.rules.specs.declared.Latest.{Latest}
 use Rattle.rules.specs.declared.Slot.{Slot}
-use Rattle.rules.specs.History.{countFrom}
-use Rattle.rules.specs.Record.{kindCount, slotAt}
+use Rattle.rules.specs.History.{receivedOf, countFrom}
+use Rattle.rules.specs.Record.{kindCount, isSet, slotAt}
 use Rattle.rules.specs.Step.{latestIn, datedIn, recordIn}
 use Rattle.rules.proofs.Counted.{count-at}
 use Rattle.watch_rules.specs.declared.Table.{Table}
 use Rattle.watch_rules.specs.declared.Setting.{Setting}
 use Rattle.watch_rules.specs.declared.Setting.the-variants as setting
-use Rattle.watch_rules.specs.Table.{postCount, noPost, lookUpOf}
+use Rattle.watch_rules.specs.Table.{postIn, isPost, lookUpOf}
 use Rattle.plain_words.specs.Words.{refusalWord}
 use Rattle.lent_latest.specs.Latest.{keptOf, hasRoom, latestAnswer, hands, handsOut, timeLeft, bytesLeft, latestWord, timeAfter, frameAfter}
 use Rattle.lent_look.proofs.Asked.{set-up}
@@ -35,13 +35,13 @@ use Rattle.lent_look.proofs.Asked.{set-up}
 -- a frame that was read to what the post keeps is handed out byte for byte
 pub as-it-came : (t : Table) (i k : ℕ) (times buf : List ℕ) (id : ℕ) (extended : Bool) (bs : List ℕ) (time n : ℕ)
     → judgeOf id extended bs ≡ Frame k n → Bytes bs → keptOf t i k ≡ slotAt time n → handsOut t i k times buf ≡ true
-    → (timeAfter t i k times buf ≡ time ∷ drop 1 times) × (frameAfter t i k times buf ≡ bs ++ drop (length bs) buf)
+    → (timeAfter t i k times buf ≡ receivedOf time ∷ drop 1 times) × (frameAfter t i k times buf ≡ bs ++ drop (length bs) buf)
 unfolding timeAfter frameAfter
 as-it-came t i k times buf id extended bs time n e b s h = (rw (h, s), rw (h, s, raws-back id extended bs k n e b .bytes, ← accepted id extended bs k n e .sized))
 
 -- a refusal hands nothing out
 not-handed : (s : Setting) (k : ℕ) (l : Slot) (places room : ℕ) → 65536 ≤ latestAnswer s k l places room → hands s k l places room ≡ false
-not-handed setting.Done k l places room m = go (ltb k kindCount) (l .known) (hasRoom k places room) m
+not-handed setting.Done k l places room m = go (ltb k kindCount) (isSet (l .known)) (hasRoom k places room) m
   where
     go : (a b c : Bool) → 65536 ≤ cond a (cond b (cond c (lengthOf k) (refusalWord ShortBuffer)) 0) (refusalWord UnknownIdentifier) → a && (b && c) ≡ false
     go true true true x = absurd (let z : ⊥ = omega (arith, short-length k) in z)
@@ -74,9 +74,9 @@ pub some-bytes : (k : ℕ) → k < kindCount → 1 ≤ lengthOf k
 some-bytes k l = leb-true 1 (lengthOf k) (sym (count-at (λ j. leb 1 (lengthOf j)) true k 0 kindCount k (omega arith) l) ∙ ap (λ (bs : List Bool). getD bs k true) lengths ∙ getD-replicate kindCount k true true l)
 
 -- the record's message of the kind is that of the frame
-pub latest-shown : (t : Table) (i k : ℕ) → i < postCount → getD (t .posts) i noPost .used ≡ true → k < kindCount
-    → getD (lookUpOf t i .shown .latest) k (record { message = dated.Nothing }) .message ≡ datedIn k (keptOf t i k)
+pub latest-shown : (t : Table) (i k : ℕ) → isPost i ≡ true → isSet (postIn t i .head .used) ≡ true → k < kindCount
+    → getD (lookUpOf t i .shown .latest) k (record { message = dated.Nothing }) .message ≡ datedIn (postIn t i .head .time) k (keptOf t i k)
 unfolding recordIn
 latest-shown t i k l u m =
     rw (set-up t i l u)
-    (ap (λ (x : Latest). x .message) (count-at (λ j. record { message = datedIn j (latestIn (getD (t .posts) i noPost) j) }) (record { message = dated.Nothing }) k 0 kindCount k (omega arith) m))
+    (ap (λ (x : Latest). x .message) (count-at (λ j. record { message = datedIn (postIn t i .head .time) j (latestIn (postIn t i) j) }) (record { message = dated.Nothing }) k 0 kindCount k (omega arith) m))

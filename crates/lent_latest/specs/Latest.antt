@@ -3,22 +3,23 @@ use Prim.Native.Nat.{ℕ}
 use mathlib.Core.Bool.{Bool, false, cond, _&&_}
 use mathlib.Core.List.{List, _∷_, _++_}
 use lib.Dec.{ltb, leb}
-use lib.ListN.{length, getD, drop}
+use lib.ListN.{length, drop}
 use Rattle.payload.specs.Payload.{bytesOf}
 use Rattle.refusals.specs.declared.Refusal.the-variants.{UnknownIdentifier, ShortBuffer}
 use Rattle.page_rows.specs.Table.{lengthOf, bigOf}
 use Rattle.rules.specs.declared.Slot.{Slot}
-use Rattle.rules.specs.Record.{kindCount}
+use Rattle.rules.specs.History.{receivedOf}
+use Rattle.rules.specs.Record.{kindCount, isSet}
 use Rattle.rules.specs.Step.{latestIn}
 use Rattle.watch_rules.specs.declared.Table.{Table}
 use Rattle.watch_rules.specs.declared.Setting.{Setting}
 use Rattle.watch_rules.specs.declared.Setting.the-variants as setting
-use Rattle.watch_rules.specs.Table.{noPost, lookUpOf}
+use Rattle.watch_rules.specs.Table.{postIn, lookUpOf}
 use Rattle.plain_words.specs.Words.{refusalWord}
 
 -- what the post i keeps of the kind k
 abbrev pub keptOf : Table → ℕ → ℕ → Slot
-keptOf t i k = latestIn (getD (t .posts) i noPost) k
+keptOf t i k = latestIn (postIn t i) k
 
 -- a place for the time, and places for the bytes
 abbrev pub hasRoom : ℕ → ℕ → ℕ → Bool
@@ -26,7 +27,7 @@ hasRoom k places room = leb 1 places && leb (lengthOf k) room
 
 -- 0 where no frame was accepted, whatever is lent; else 8, or the number of bytes
 abbrev pub keptWord : ℕ → Slot → ℕ → ℕ → ℕ
-keptWord k l places room = cond (l .known) (cond (hasRoom k places room) (lengthOf k) (refusalWord ShortBuffer)) 0
+keptWord k l places room = cond (isSet (l .known)) (cond (hasRoom k places room) (lengthOf k) (refusalWord ShortBuffer)) 0
 
 -- 3 before them, for a number that is no kind
 abbrev pub latestAnswer : Setting → ℕ → Slot → ℕ → ℕ → ℕ
@@ -35,11 +36,11 @@ latestAnswer (setting.Refused w) k l places room = refusalWord w
 
 -- whether a frame is handed out
 abbrev pub hands : Setting → ℕ → Slot → ℕ → ℕ → Bool
-hands setting.Done k l places room = ltb k kindCount && (l .known && hasRoom k places room)
+hands setting.Done k l places room = ltb k kindCount && (isSet (l .known) && hasRoom k places room)
 hands (setting.Refused w) k l places room = false
 
 abbrev pub timeLeft : Bool → Slot → List ℕ → List ℕ
-timeLeft b l times = cond b (l .time ∷ drop 1 times) times
+timeLeft b l times = cond b (receivedOf (l .time) ∷ drop 1 times) times
 
 abbrev pub bytesLeft : Bool → ℕ → Slot → List ℕ → List ℕ
 bytesLeft b k l buf = cond b (bytesOf (bigOf k) (lengthOf k) (l .raw) ++ drop (lengthOf k) buf) buf

@@ -3,20 +3,24 @@
 ghost use mathlib.Core.Path.{_≡_};
 ghost use mathlib.Core.Bool.{_&&_};
 ghost use lib.ListN.{length};
+ghost use Rattle.rule_asks.specs.Judgements.{isSet};
 ghost use Rattle.lent_latest.specs.Latest.{hasRoom, keptWord, timeLeft, bytesLeft, latestWord, timeAfter, frameAfter};
 use plain_words::refusal_word;
+use post_record::received;
 use refusals::Refusal;
+use rule_asks::is_set;
 use rules::KINDS;
 use rules::Slot;
+use watch_places::is_post;
 use watch_rules::Table;
 
 // Where no frame was accepted nothing is written, so nothing lent can be too short.
 fn hand_out(l: Slot, kind: usize, time: &mut [u32], buf: &mut [u8]) -> u32
     ensures { λ r. ⌜ (r ≡ keptWord kind l (length (now (time .entry))) (length (now (buf .entry))))
-        × (now (time .exit) ≡ timeLeft (l .known && hasRoom kind (length (now (time .entry))) (length (now (buf .entry)))) l (now (time .entry)))
-        × (now (buf .exit) ≡ bytesLeft (l .known && hasRoom kind (length (now (time .entry))) (length (now (buf .entry)))) kind l (now (buf .entry))) ⌝ }
+        × (now (time .exit) ≡ timeLeft (isSet (l .known) && hasRoom kind (length (now (time .entry))) (length (now (buf .entry)))) l (now (time .entry)))
+        × (now (buf .exit) ≡ bytesLeft (isSet (l .known) && hasRoom kind (length (now (time .entry))) (length (now (buf .entry)))) kind l (now (buf .entry))) ⌝ }
 {
-    if !l.known {
+    if !is_set(l.known) {
         return 0;
     }
     if time.len() < 1 {
@@ -26,7 +30,7 @@ fn hand_out(l: Slot, kind: usize, time: &mut [u32], buf: &mut [u8]) -> u32
     if buf.len() < len {
         return refusal_word(Refusal::ShortBuffer);
     }
-    time[0] = l.time;
+    time[0] = received(l.time);
     payload::store(page_rows::is_big(kind), buf, l.raw, len);
     len as u32
 }
@@ -36,12 +40,13 @@ pub fn latest_of(t: Table, post: u32, kind: u32, time: &mut [u32], buf: &mut [u8
         × (now (time .exit) ≡ timeAfter t post kind (now (time .entry)) (now (buf .entry)))
         × (now (buf .exit) ≡ frameAfter t post kind (now (time .entry)) (now (buf .entry))) ⌝ }
 {
-    if 7 < post {
+    if !is_post(post) {
         return refusal_word(Refusal::NoSuchPost);
     }
     let i = post as usize;
     let p = t.posts[i];
-    if !p.used {
+    let h = p.head;
+    if !is_set(h.used as u64) {
         return refusal_word(Refusal::NotSetUp);
     }
     let k = kind as usize;

@@ -1,24 +1,23 @@
 -- What a look-up answers, by its case: no such post, a post that is not set up, a post that is.
-use Prim.Native.Nat.{ℕ, _<_, _≤_}
+use Prim.Native.Nat.{ℕ}
 use mathlib.Core.Path.{_≡_}
 use mathlib.Core.Bool.{true, false}
-use lib.ListN.{getD}
-use borrow.Author.Tests.{lt-ltb, le-ltb}
 use Rattle.refusals.specs.declared.Refusal.the-variants.{NoSuchPost, NotSetUp}
+use Rattle.rules.specs.Record.{isSet}
 use Rattle.rules.specs.Step.{recordIn}
 use Rattle.watch_rules.specs.declared.Table.{Table}
 use Rattle.watch_rules.specs.declared.Setting.the-variants as setting
-use Rattle.watch_rules.specs.Table.{postCount, noPost, notFound, lookUpOf}
+use Rattle.watch_rules.specs.Table.{postIn, isPost, notFound, lookUpOf}
 
 module _ (t : Table) (i : ℕ) where
-  pub no-post : postCount ≤ i → lookUpOf t i ≡ notFound NoSuchPost
+  pub no-post : isPost i ≡ false → lookUpOf t i ≡ notFound NoSuchPost
   unfolding lookUpOf
-  no-post l = rw (le-ltb i postCount l)
+  no-post l = rw l
 
-  pub not-set-up : i < postCount → getD (t .posts) i noPost .used ≡ false → lookUpOf t i ≡ notFound NotSetUp
+  pub not-set-up : isPost i ≡ true → isSet (postIn t i .head .used) ≡ false → lookUpOf t i ≡ notFound NotSetUp
   unfolding lookUpOf
-  not-set-up l e = rw (lt-ltb i postCount l, e)
+  not-set-up l e = rw (l, e)
 
-  pub set-up : i < postCount → getD (t .posts) i noPost .used ≡ true → lookUpOf t i ≡ record { answer = setting.Done; shown = recordIn (getD (t .posts) i noPost) }
+  pub set-up : isPost i ≡ true → isSet (postIn t i .head .used) ≡ true → lookUpOf t i ≡ record { answer = setting.Done; shown = recordIn (postIn t i) }
   unfolding lookUpOf
-  set-up l e = rw (lt-ltb i postCount l, e)
+  set-up l e = rw (l, e)

@@ -11,10 +11,13 @@ use message_types::labels::plug_number;
 use message_types::labels::protocol_number;
 use plain_words::flag;
 use plain_words::refusal_word;
+use post_record::received;
 use refusals::Refusal;
+use rule_asks::is_set;
 use rule_limits::kept::sensor_number;
 use rule_limits::kept::sensor_of;
 use rules::Post;
+use watch_places::is_post;
 use watch_rules::Table;
 
 fn where_set(b: bool, x: u32) -> u32
@@ -26,25 +29,28 @@ fn where_set(b: bool, x: u32) -> u32
 fn numbers_of(p: Post) -> [u32; 12]
     ensures { λ r. ⌜ r ≡ numbersOf (recordIn p) ⌝ }
 {
-    let l = p.limits;
+    let h = p.head;
+    let l = h.limits;
     let sensor = sensor_of(l.sensor);
-    let s = p.session;
+    let s = h.session;
+    let heard = is_set(h.heard as u64);
+    let opened = is_set(s.opened);
     let n = message_parts::session_in(s.first);
     let protocol = n.protocol;
     let plug = n.plug;
     [
-        p.channel,
+        h.channel,
         l.voltage,
         l.charge,
         l.discharge,
         l.silence,
         sensor_number(sensor),
-        flag(p.heard),
-        where_set(p.heard, p.time),
-        flag(s.opened),
-        where_set(s.opened, s.since),
-        where_set(s.opened, protocol_number(protocol) as u32),
-        where_set(s.opened, plug_number(plug) as u32),
+        flag(heard),
+        where_set(heard, received(h.time)),
+        flag(opened),
+        where_set(opened, received(s.since)),
+        where_set(opened, protocol_number(protocol) as u32),
+        where_set(opened, plug_number(plug) as u32),
     ]
 }
 
@@ -62,12 +68,13 @@ fn store_numbers(numbers: &mut [u32], ns: [u32; 12])
 pub fn looked(t: Table, post: u32, numbers: &mut [u32]) -> u32
     ensures { λ r. ⌜ (r ≡ lookUpWord t post (now (numbers .entry))) × (now (numbers .exit) ≡ numbersAfter t post (now (numbers .entry))) ⌝ }
 {
-    if 7 < post {
+    if !is_post(post) {
         return refusal_word(Refusal::NoSuchPost);
     }
     let i = post as usize;
     let p = t.posts[i];
-    if !p.used {
+    let h = p.head;
+    if !is_set(h.used as u64) {
         return refusal_word(Refusal::NotSetUp);
     }
     if numbers.len() < 12 {

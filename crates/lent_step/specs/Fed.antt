@@ -2,11 +2,9 @@
 use Prim.Native.Nat.{ℕ}
 use mathlib.Core.List.{List}
 use mathlib.Core.Bool.{Bool}
-use Rattle.page_read.specs.Judge.{judgeOf}
 use Rattle.watch_rules.specs.declared.Table.{Table}
 use Rattle.watch_rules.specs.declared.Fed.{Fed}
-use Rattle.watch_rules.specs.declared.Arrival.the-variants.{Tick}
-use Rattle.watch_rules.specs.Table.{arrivalOf, feedOf}
+use Rattle.watch_rules.specs.Table.{framing, ticking, feedOf}
 use Rattle.lent_words.specs.declared.Lent.{Lent}
 use Rattle.lent_words.specs.Words.{answerWord}
 
@@ -14,7 +12,7 @@ abbrev pub lentFed : Fed → Lent
 lentFed r = record { table = r .table; answer = answerWord (r .answer) }
 
 unfoldable pub frameWord : Table → ℕ → ℕ → ℕ → Bool → List ℕ → Lent
-frameWord t c time m x bs = lentFed (feedOf t c time (arrivalOf (judgeOf m x bs)))
+frameWord t c time m x bs = lentFed (feedOf t c time (framing m x bs))
 
 unfoldable pub tickWord : Table → ℕ → ℕ → Lent
-tickWord t c time = lentFed (feedOf t c time Tick)
+tickWord t c time = lentFed (feedOf t c time ticking)

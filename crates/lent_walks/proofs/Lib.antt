@@ -6,5 +6,6 @@ pub mod Handing
 pub mod InLook
 pub mod InPlace
 pub mod Lender
+pub mod Locals
 pub mod Params
 pub mod Ways

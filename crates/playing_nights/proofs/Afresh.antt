@@ -12,6 +12,7 @@ use Rattle.watch_rules.specs.declared.Setting.the-variants as setting
 use Rattle.watch_rules.specs.Table.{placeOf, emptyTable, setUpOf}
 use Rattle.watch_rules.specs.Steps.{Steps, feedSteps, setUpSteps, Kept}
 use Rattle.watch_rules.proofs.Tables.{place-look}
+use Rattle.rules.specs.declared.Post.{Post}
 use Rattle.watch_rules.proofs.Right.{feed-right, setUp-right, empty-kept}
 use Rattle.playing_line.specs.Lines.{lineRoom, lineOf}
 use Rattle.playing_nights.specs.Fed.{timeOf, channelOf, arrivalIn, fedWith, lineFor, linesFrom, line01, lines01From}
@@ -27,7 +28,7 @@ module _ (t : Table) (s : Steps) (kept : Kept t s) where
   pub line-01 : (n : ℕ) (x : Rec) → lineFor t n x ≡ line01 s n x
   line-01 n x =
       ap₂ (λ (i : ℕ) (a : Answer). lineOf n i a)
-      (ap (λ (u : Table). placeOf (u .posts) (channelOf x)) (kept .table) ∙ place-look s (channelOf x))
+      (ap (λ (ps : List Post). placeOf ps (channelOf x)) (kept .posts) ∙ place-look s (channelOf x))
       (feed-right t s (channelOf x) (timeOf x) (arrivalIn x) kept .answer)
 
 lines-kept : (xs : List Rec) (t : Table) (s : Steps) (n : ℕ) → Kept t s → linesFrom t n xs ≡ lines01From s n xs

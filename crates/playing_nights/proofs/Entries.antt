@@ -7,7 +7,6 @@ use native.Mathlib.Omega.{arith}
 use lib.Dec.{ltb, leb, eqb}
 use lib.ListN.{length, take, drop}
 use borrow.Author.Tests.{leb-true, leb-false, ltb-false, le-ltb}
-use Rattle.page_read.specs.Judge.{judgeOf}
 use Rattle.log_records.specs.declared.Entry.{Entry}
 use Rattle.log_records.specs.declared.Found.{Found}
 use Rattle.log_records.specs.declared.Found.the-variants as found
@@ -15,8 +14,7 @@ use Rattle.log_records.specs.Record.{tick, frame, identifiers}
 use Rattle.log_records.specs.Reading.{lengthPart, identifierPart, channelPart, timePart, recordAt, placed, foundAt, payloadOf, recOf}
 use Rattle.log_records.proofs.Wholes.{by-part, by-test}
 use Rattle.watch_rules.specs.declared.Table.{Table}
-use Rattle.watch_rules.specs.declared.Arrival.the-variants.{Tick}
-use Rattle.watch_rules.specs.Table.{arrivalOf, feedOf}
+use Rattle.watch_rules.specs.Table.{framing, ticking, feedOf}
 use Rattle.playing_nights.specs.Fed.{fedWith, channelOf}
 use Rattle.playing_nights.specs.Step.{Within}
 
@@ -88,9 +86,9 @@ payload-is s i l h = go (leb (length s) i) refl
     go false e = rw (le-ltb (length s - i) l (omega arith))
 
 module _ (t : Table) (s : List ℕ) (e : Entry) where
-  pub fed-tick : e .tick ≡ true → feedOf t (e .channel) (e .time) Tick ≡ fedWith t (recOf s e)
+  pub fed-tick : e .tick ≡ true → feedOf t (e .channel) (e .time) ticking ≡ fedWith t (recOf s e)
   fed-tick h = rw h
 
   pub fed-frame : e .tick ≡ false → Within s e
-      → feedOf t (e .channel) (e .time) (arrivalOf (judgeOf (e .id) (e .extended) (payloadOf s (e .start) (e .length)))) ≡ fedWith t (recOf s e)
+      → feedOf t (e .channel) (e .time) (framing (e .id) (e .extended) (payloadOf s (e .start) (e .length))) ≡ fedWith t (recOf s e)
   fed-frame h w = rw (h, payload-is s (e .start) (e .length) w)

@@ -14,7 +14,7 @@ use Rattle.page_read.specs.declared.Judged.the-variants as judged
 use Rattle.page_rows.specs.Table.{rows, rowsOf, noRow, firstAt, hasId}
 use Rattle.page_read.specs.Judge.{unlabelled, offends, offender, strayBelow, judgedNumber, judgedAt, judgeOf}
 use Rattle.rule_limits.specs.declared.PlainLimits.{PlainLimits}
-use Rattle.rules.specs.History.{Event, History, frame, tick, earlierIn}
+use Rattle.rules.specs.History.{Event, History, frame, tick, stampOf, earlierIn}
 use Rattle.rule_asks.specs.Judgements.{bit}
 use Rattle.rules.specs.Rules.{f1, f2, f3, f4, f5, f6, f7, f8, f9, f10, f11, findings01}
 use Rattle.log_records.specs.declared.Found.{Found as Seen}
@@ -25,8 +25,8 @@ use Rattle.log_records.specs.Reading.{foundAt, onward, readFrom, logOf, records
 use Rattle.watch_rules.specs.declared.Answer.the-variants.{Refused}
 use Rattle.watch_rules.specs.declared.Arrival.{Arrival}
 use Rattle.watch_rules.specs.declared.Arrival.the-variants.{Tick, Frame, Unread}
-use Rattle.watch_rules.specs.Table.{postCount, isChannel, arrivalOf}
-use Rattle.watch_rules.specs.Steps.{Steps, Standing, free, held, standing, holdsIn, findFrom, holder, answerIn, feed01, feedSteps}
+use Rattle.watch_rules.specs.Table.{postCount, isChannel, arrivalOf, Arriving}
+use Rattle.watch_rules.specs.Steps.{Steps, Standing, free, held, standing, holdsIn, findFrom, holder, found01, answerIn, feed01, feedSteps}
 use Rattle.playing_line.specs.Lines.{lineRoom, InWords, AllShort}
 use Rattle.playing_nights.specs.Fed.{timeOf, channelOf, arrivalIn, lines01From}
 use Rattle.playing_nights.specs.Night.{Wanted, Ready, ready, stopped, prepared01, night01, runOf}
@@ -60,16 +60,16 @@ findings-small lim h e =
     omega (
       arith,
       bit-le (f1 lim h e) 1,
-      bit-le (f2 h e) 2,
-      bit-le (f3 h e) 4,
-      bit-le (f4 h e) 8,
-      bit-le (f5 h e) 16,
-      bit-le (f6 e) 32,
+      bit-le (f2 lim h e) 2,
+      bit-le (f3 lim h e) 4,
+      bit-le (f4 lim h e) 8,
+      bit-le (f5 lim h e) 16,
+      bit-le (f6 lim h e) 32,
       bit-le (f7 lim h e) 64,
       bit-le (f8 lim h e) 128,
       bit-le (f9 lim h e) 256,
-      bit-le (f10 h e) 512,
-      bit-le (f11 h e) 1024,
+      bit-le (f10 lim h e) 512,
+      bit-le (f11 lim h e) 1024,
     )
 
 -- ---- the reader's refusals
@@ -107,23 +107,27 @@ Arrival-small Tick = Unit {0}
 Arrival-small (Frame k n) = Unit {0}
 Arrival-small (Unread w) = InWords (Refused w)
 
-arrival-small : (x : Rec) → Arrival-small (arrivalIn x)
-arrival-small (rec.tick time c) = tt
-arrival-small (rec.frame time c extended id payload) = go (judgeOf id extended payload) (judged-small id extended payload)
+arrival-small : (x : Rec) (lim : PlainLimits) → Arrival-small (arrivalIn x lim)
+arrival-small (rec.tick time c) lim = tt
+arrival-small (rec.frame time c extended id payload) lim = go (judgeOf id extended payload) (judged-small id extended payload)
   where
     go : (j : Judged) → Unread-small j → Arrival-small (arrivalOf j)
     go (judged.Frame k n) h = tt
     go (judged.Refused w) h = h
 
-answer-small : (x : Standing) (t : ℕ) (a : Arrival) → Arrival-small a → InWords (answerIn x t a)
-answer-small free t a h = (omega arith, omega arith)
-answer-small (held c lim hist) t Tick h = by-cond InWords (earlierIn hist t) _ _ (omega arith, omega arith) (findings-small lim hist (tick t))
-answer-small (held c lim hist) t (Frame k n) h = by-cond InWords (earlierIn hist t) _ _ (omega arith, omega arith) (findings-small lim hist (frame t k n))
-answer-small (held c lim hist) t (Unread w) h = by-cond InWords (earlierIn hist t) _ _ (omega arith, omega arith) h
+found-small : (lim : PlainLimits) (hist : History) (t : ℕ) (a : Arrival) → Arrival-small a → InWords (found01 lim hist t a)
+found-small lim hist t Tick h = findings-small lim hist (tick (stampOf hist t))
+found-small lim hist t (Frame k n) h = findings-small lim hist (frame (stampOf hist t) k n)
+found-small lim hist t (Unread w) h = h
 
-fed-small : (s : Steps) (c t : ℕ) (a : Arrival) → Arrival-small a → InWords (feed01 s c t a)
-unfolding feed01
-fed-small s c t a h = by-cond InWords (isChannel c && ltb (holder s c) postCount) _ _ (answer-small (standing (holder s c) s) t a h) (omega arith, omega arith)
+module _ (t : ℕ) (a : Arriving) (small : (lim : PlainLimits) → Arrival-small (a lim)) where
+  answer-small : (x : Standing) → InWords (answerIn x t a)
+  answer-small free = (omega arith, omega arith)
+  answer-small (held c lim hist) = by-cond InWords (earlierIn hist t) _ _ (omega arith, omega arith) (found-small lim hist t (a lim) (small lim))
+
+  fed-small : (s : Steps) (c : ℕ) → InWords (feed01 s c t a)
+  unfolding feed01
+  fed-small s c = by-cond InWords (isChannel c && ltb (holder s c) postCount) _ _ (answer-small (standing (holder s c) s)) (omega arith, omega arith)
 
 -- ---- lines
 
@@ -132,7 +136,7 @@ unfolding lines01From
 lines-01-short [] s n h = tt
 lines-01-short (x ∷ xs) s n h = (
   line-short (n + 1) (holder s (channelOf x)) (feed01 s (channelOf x) (timeOf x) (arrivalIn x)) (omega arith) (one-digit-post s (channelOf x))
-      (fed-small s (channelOf x) (timeOf x) (arrivalIn x) (arrival-small x)),
+      (fed-small (timeOf x) (arrivalIn x) (arrival-small x) s (channelOf x)),
   lines-01-short xs (feedSteps s (channelOf x) (timeOf x) (arrivalIn x)) (n + 1) (omega arith),
 )
 

@@ -1,13 +1,10 @@
 -- The records of a log fed singly to the watch, and their lines. 02, Req 05: "Its lines must be those of the records fed singly".
 use Prim.Native.Nat.{ℕ, _+_}
 use mathlib.Core.List.{List, [], _∷_}
-use Rattle.page_read.specs.Judge.{judgeOf}
 use Rattle.log_records.specs.Record.{Rec, tick, frame}
 use Rattle.watch_rules.specs.declared.Table.{Table}
 use Rattle.watch_rules.specs.declared.Fed.{Fed}
-use Rattle.watch_rules.specs.declared.Arrival.{Arrival}
-use Rattle.watch_rules.specs.declared.Arrival.the-variants.{Tick}
-use Rattle.watch_rules.specs.Table.{placeOf, arrivalOf, feedOf}
+use Rattle.watch_rules.specs.Table.{placeOf, Arriving, framing, ticking, feedOf}
 use Rattle.watch_rules.specs.Steps.{Steps, holder, feed01, feedSteps}
 use Rattle.playing_line.specs.Lines.{lineOf}
 
@@ -21,9 +18,9 @@ abbrev pub channelOf : Rec → ℕ
 channelOf (tick time c) = c
 channelOf (frame time c extended id payload) = c
 
-abbrev pub arrivalIn : Rec → Arrival
-arrivalIn (tick time c) = Tick
-arrivalIn (frame time c extended id payload) = arrivalOf (judgeOf id extended payload)
+abbrev pub arrivalIn : Rec → Arriving
+arrivalIn (tick time c) = ticking
+arrivalIn (frame time c extended id payload) = framing id extended payload
 
 -- the watch's table and answer after it
 abbrev pub fedWith : Table → Rec → Fed

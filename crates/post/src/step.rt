@@ -1,96 +1,89 @@
-// A post after one event more.
+// A head after one event more.
 ghost use mathlib.Core.Path.{_≡_};
+ghost use Prim.Native.Nat.{_<_};
 ghost use Rattle.rules.specs.Record.{unknown, slotAt, closedSession};
-ghost use Rattle.rules.specs.Step.{statusPut, controlPut, openedBy, sessionAfter, agedTo, withFrame};
+ghost use Rattle.rules.specs.Step.{keptCount, keptPut, openedBy, sessionAfter, agedTo, putAt, withFrame};
 use message_types::CONTROL;
+use message_types::CONTROLLER;
 use message_types::FINISHED;
+use message_types::PARAMETERS;
 use message_types::SESSION;
 use message_types::STATUS;
-use rules::KINDS;
-use rules::Post;
+use rule_asks::is_set;
+use rules::CONTROL_PLACE;
+use rules::Head;
+use rules::KEPT;
+use rules::STATUS_PLACE;
 use rules::Session;
 use rules::Slot;
 
-fn no_slot() -> Slot
+pub fn no_slot() -> Slot
     ensures { λ r. ⌜ r ≡ unknown ⌝ }
 {
     Slot {
-        known: false,
+        known: 0,
         time: 0,
         raw: 0,
+    }
+}
+
+pub fn slot_at(time: u64, raw: u64) -> Slot
+    ensures { λ r. ⌜ r ≡ slotAt time raw ⌝ }
+{
+    Slot {
+        known: 1,
+        time,
+        raw,
     }
 }
 
 pub fn no_session() -> Session
     ensures { λ r. ⌜ r ≡ closedSession ⌝ }
 {
+    let none = no_slot();
     Session {
-        opened: false,
+        opened: 0,
         since: 0,
         first: 0,
-        status: no_slot(),
-        control: no_slot(),
+        kept: [none; KEPT],
     }
 }
 
-fn status_put(s: Session, n: Slot) -> Session
-    ensures { λ r. ⌜ r ≡ statusPut s n ⌝ }
+fn kept_put(s: Session, place: usize, n: Slot) -> Session
+    requires { ⌜ place < keptCount ⌝ }
+    ensures { λ r. ⌜ r ≡ keptPut s place n ⌝ }
 {
-    let d = s.control;
-    if s.opened {
-        return Session {
-            opened: true,
-            since: s.since,
-            first: s.first,
-            status: n,
-            control: d,
-        };
+    let mut u = s;
+    if is_set(s.opened) {
+        u.kept[place] = n;
     }
-    s
-}
-
-fn control_put(s: Session, n: Slot) -> Session
-    ensures { λ r. ⌜ r ≡ controlPut s n ⌝ }
-{
-    let st = s.status;
-    if s.opened {
-        return Session {
-            opened: true,
-            since: s.since,
-            first: s.first,
-            status: st,
-            control: n,
-        };
-    }
-    s
+    u
 }
 
 fn opened_by(s: Session, n: Slot) -> Session
     ensures { λ r. ⌜ r ≡ openedBy s n ⌝ }
 {
-    if s.opened {
+    if is_set(s.opened) {
         return s;
     }
-    Session {
-        opened: true,
-        since: n.time,
-        first: n.raw,
-        status: no_slot(),
-        control: no_slot(),
-    }
+    let mut u = no_session();
+    u.opened = 1;
+    u.since = n.time;
+    u.first = n.raw;
+    u
 }
 
 fn session_after(s: Session, kind: usize, n: Slot) -> Session
     ensures { λ r. ⌜ r ≡ sessionAfter s kind n ⌝ }
 {
     if kind == STATUS {
-        return status_put(s, n);
+        return kept_put(s, STATUS_PLACE, n);
     }
     if kind == SESSION {
         return opened_by(s, n);
     }
     if kind == CONTROL {
-        return control_put(s, n);
+        return kept_put(s, CONTROL_PLACE, n);
     }
     if kind == FINISHED {
         return no_session();
@@ -98,33 +91,32 @@ fn session_after(s: Session, kind: usize, n: Slot) -> Session
     s
 }
 
-// The post at an event's time.
-pub fn aged(p: Post, time: u32) -> Post
-    ensures { λ r. ⌜ r ≡ agedTo p time ⌝ }
+// The head at an event's time.
+pub fn aged(h: Head, time: u64) -> Head
+    ensures { λ r. ⌜ r ≡ agedTo h time ⌝ }
 {
-    let mut q = p;
-    q.heard = true;
-    q.time = time;
-    q
+    let mut g = h;
+    g.heard = 1;
+    g.time = time;
+    g
 }
 
-// The post with a frame that came at its time. A number that is no kind leaves the latest frames as they were.
-pub fn with_frame(p: Post, kind: usize, raw: u64) -> Post
-    ensures { λ r. ⌜ r ≡ withFrame p kind raw ⌝ }
+fn put_at(place: usize, kind: usize, n: Slot, l: Slot) -> Slot
+    ensures { λ r. ⌜ r ≡ putAt place kind n l ⌝ }
 {
-    let n = Slot {
-        known: true,
-        time: p.time,
-        raw,
-    };
-    let s = p.session;
-    let u = session_after(s, kind, n);
-    let mut latest = p.latest;
-    if kind < KINDS {
-        latest[kind] = n;
-    }
-    let mut q = p;
-    q.latest = latest;
-    q.session = u;
-    q
+    if kind == place { n } else { l }
+}
+
+// The head with a frame that came at its time.
+pub fn with_frame(h: Head, kind: usize, n: Slot) -> Head
+    ensures { λ r. ⌜ r ≡ withFrame h kind n ⌝ }
+{
+    let s = h.session;
+    let c = h.controller;
+    let p = h.parameters;
+    let mut g = h;
+    g.controller = put_at(CONTROLLER, kind, n, c);
+    g.parameters = put_at(PARAMETERS, kind, n, p);
+    g.session = session_after(s, kind, n);
+    g
 }

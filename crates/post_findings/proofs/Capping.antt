@@ -6,8 +6,9 @@ use Rattle.message_types.specs.declared.DcPowerParameters.{DcPowerParameters}
 use Rattle.message_parts.specs.Parts.{parametersIn}
 use Rattle.rules.specs.declared.Slot.{Slot}
 use Rattle.rule_limits.specs.Limits.{capped}
+use Rattle.rules.specs.Record.{isSet}
 use Rattle.rules.specs.Step.{limitIn}
 
 pub limit-known : (number : DcPowerParameters → ℕ) (most : ℕ) (l : Slot) {q : DcPowerParameters} {r : ℕ}
-    → l .known ≡ true → q ≡ parametersIn (l .raw) → r ≡ capped most (number q) → r ≡ limitIn most number l
+    → isSet (l .known) ≡ true → q ≡ parametersIn (l .raw) → r ≡ capped most (number q) → r ≡ limitIn most number l
 limit-known number most l known read cut = rw (known, ← read) cut

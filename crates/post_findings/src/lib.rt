@@ -1,4 +1,4 @@
-// F3 to F11: what is found of a frame by its message, on a post that was aged to the frame's time. For the post's step.
+// F3 to F11: what is found of a frame by its message, on a head that was aged to the frame's time. For the post's step.
 ghost use mathlib.Core.Path.{_≡_};
 ghost use Prim.Native.Nat.{_≤_};
 ghost use Rattle.rules.specs.Step.{unreadyAfter, unreadyIn, carryingAfter, carryingIn, limitIn, controlFindings, statusFindings, openingFindings, finishedFindings, messageFindings};
@@ -6,14 +6,15 @@ use message_types::CONTROL;
 use message_types::DcPowerControl;
 use message_types::FINISHED;
 use message_types::NewChargeSession;
-use message_types::PARAMETERS;
 use message_types::PowerModulesStatus;
 use message_types::SESSION;
 use message_types::STATUS;
 use rule_asks::*;
 use rule_limits::cap;
 use rule_limits::kept::sensor_of;
-use rules::Post;
+use rules::CONTROL_PLACE;
+use rules::Head;
+use rules::STATUS_PLACE;
 use rules::Session;
 use rules::Slot;
 
@@ -22,7 +23,7 @@ use rules::Slot;
 fn voltage_limit(most: u32, l: Slot) -> u32
     ensures { λ r. ⌜ r ≡ limitIn most (λ q. q .voltage) l ⌝ }
 {
-    if l.known {
+    if is_set(l.known) {
         cap(most, message_parts::parameters_in(l.raw).voltage)
     } else {
         most
@@ -32,7 +33,7 @@ fn voltage_limit(most: u32, l: Slot) -> u32
 fn charge_limit(most: u32, l: Slot) -> u32
     ensures { λ r. ⌜ r ≡ limitIn most (λ q. q .charge) l ⌝ }
 {
-    if l.known {
+    if is_set(l.known) {
         cap(most, message_parts::parameters_in(l.raw).charge)
     } else {
         most
@@ -42,7 +43,7 @@ fn charge_limit(most: u32, l: Slot) -> u32
 fn discharge_limit(most: u32, l: Slot) -> u32
     ensures { λ r. ⌜ r ≡ limitIn most (λ q. q .discharge) l ⌝ }
 {
-    if l.known {
+    if is_set(l.known) {
         cap(most, message_parts::parameters_in(l.raw).discharge)
     } else {
         most
@@ -54,7 +55,7 @@ fn discharge_limit(most: u32, l: Slot) -> u32
 fn unready_after(l: Slot) -> bool
     ensures { λ r. ⌜ r ≡ unreadyAfter l ⌝ }
 {
-    if l.known {
+    if is_set(l.known) {
         let x = message_parts::status_in(l.raw).enable;
         return negated(allowed(x));
     }
@@ -64,19 +65,23 @@ fn unready_after(l: Slot) -> bool
 fn unready(s: Session) -> bool
     ensures { λ r. ⌜ r ≡ unreadyIn s ⌝ }
 {
-    let st = s.status;
-    if s.opened { unready_after(st) } else { false }
+    let st = s.kept[STATUS_PLACE];
+    if is_set(s.opened) {
+        unready_after(st)
+    } else {
+        false
+    }
 }
 
-fn control_findings(p: Post, d: DcPowerControl) -> u32
-    ensures { λ r. ⌜ (r ≡ controlFindings p d) × (r ≤ 124) ⌝ }
+fn control_findings(h: Head, d: DcPowerControl) -> u32
+    ensures { λ r. ⌜ (r ≡ controlFindings h d) × (r ≤ 124) ⌝ }
 {
-    let s = p.session;
+    let s = h.session;
     let x = d.contactors;
     let f = d.function;
-    let closed = negated(s.opened);
-    let l = p.latest[PARAMETERS];
-    let most = p.limits.voltage;
+    let closed = negated(is_set(s.opened));
+    let l = h.parameters;
+    let most = h.limits.voltage;
     let above = voltage_limit(most, l) < d.target as u32;
     flag(both(close(x), closed), 4)
         + flag(both(powered(f), closed), 8)
@@ -90,7 +95,7 @@ fn control_findings(p: Post, d: DcPowerControl) -> u32
 fn carrying_after(l: Slot) -> bool
     ensures { λ r. ⌜ r ≡ carryingAfter l ⌝ }
 {
-    if l.known {
+    if is_set(l.known) {
         let f = message_parts::control_in(l.raw).function;
         return carrying(f);
     }
@@ -100,20 +105,24 @@ fn carrying_after(l: Slot) -> bool
 fn carrying_session(s: Session) -> bool
     ensures { λ r. ⌜ r ≡ carryingIn s ⌝ }
 {
-    let l = s.control;
-    if s.opened { carrying_after(l) } else { false }
+    let l = s.kept[CONTROL_PLACE];
+    if is_set(s.opened) {
+        carrying_after(l)
+    } else {
+        false
+    }
 }
 
-fn status_findings(p: Post, m: PowerModulesStatus) -> u32
-    ensures { λ r. ⌜ (r ≡ statusFindings p m) × (r ≤ 384) ⌝ }
+fn status_findings(h: Head, m: PowerModulesStatus) -> u32
+    ensures { λ r. ⌜ (r ≡ statusFindings h m) × (r ≤ 384) ⌝ }
 {
-    let s = p.session;
-    let l = p.latest[PARAMETERS];
-    let charge = charge_limit(p.limits.charge, l);
-    let discharge = discharge_limit(p.limits.discharge, l);
-    let sensor = sensor_of(p.limits.sensor);
+    let s = h.session;
+    let l = h.parameters;
+    let charge = charge_limit(h.limits.charge, l);
+    let discharge = discharge_limit(h.limits.discharge, l);
+    let sensor = sensor_of(h.limits.sensor);
     flag(
-        both(s.opened, is_outside(m.current, charge, discharge)),
+        both(is_set(s.opened), is_outside(m.current, charge, discharge)),
         128,
     )
         + flag(both(carrying_session(s), insulates_badly(sensor, m)), 256)
@@ -125,7 +134,10 @@ fn opening_findings(s: Session, n: NewChargeSession) -> u32
     ensures { λ r. ⌜ (r ≡ openingFindings s n) × (r ≤ 512) ⌝ }
 {
     flag(
-        both(s.opened, do_differ(message_parts::session_in(s.first), n)),
+        both(
+            is_set(s.opened),
+            do_differ(message_parts::session_in(s.first), n),
+        ),
         512,
     )
 }
@@ -133,21 +145,21 @@ fn opening_findings(s: Session, n: NewChargeSession) -> u32
 fn finished_findings(s: Session) -> u32
     ensures { λ r. ⌜ (r ≡ finishedFindings s) × (r ≤ 1024) ⌝ }
 {
-    flag(negated(s.opened), 1024)
+    flag(negated(is_set(s.opened)), 1024)
 }
 
-pub fn message_findings(p: Post, kind: usize, raw: u64) -> u32
-    ensures { λ r. ⌜ (r ≡ messageFindings p kind raw) × (r ≤ 1024) ⌝ }
+pub fn message_findings(h: Head, kind: usize, raw: u64) -> u32
+    ensures { λ r. ⌜ (r ≡ messageFindings h kind raw) × (r ≤ 1024) ⌝ }
 {
-    let s = p.session;
+    let s = h.session;
     if kind == STATUS {
-        return status_findings(p, message_parts::status_in(raw));
+        return status_findings(h, message_parts::status_in(raw));
     }
     if kind == SESSION {
         return opening_findings(s, message_parts::session_in(raw));
     }
     if kind == CONTROL {
-        return control_findings(p, message_parts::control_in(raw));
+        return control_findings(h, message_parts::control_in(raw));
     }
     if kind == FINISHED {
         return finished_findings(s);

@@ -2,48 +2,59 @@
 ghost use lib.ListN.{getD};
 ghost use mathlib.Core.List.{map};
 ghost use mathlib.Core.Path.{_≡_};
-ghost use Rattle.rules.specs.History.{countFrom};
+ghost use Rattle.rules.specs.History.{receivedOf, countFrom};
 ghost use Rattle.rules.specs.Record.{kindCount, unknown};
 ghost use Rattle.rules.specs.Step.{datedIn, partIn, lastIn, recordIn};
 use message_types::CONTROL;
 use message_types::STATUS;
+use rule_asks::is_set;
 use rule_limits::kept::limits_in;
+use rules::CONTROL_PLACE;
 use rules::Dated;
+use rules::Head;
 use rules::KINDS;
 use rules::LastTime;
 use rules::Latest;
 use rules::OpenSession;
 use rules::Post;
 use rules::Record;
+use rules::STATUS_PLACE;
 use rules::Session;
 use rules::SessionPart;
 use rules::Slot;
 
-fn dated(kind: usize, l: Slot) -> Dated
-    ensures { λ r. ⌜ r ≡ datedIn kind l ⌝ }
+// A kept time as it was received.
+pub fn received(time: u64) -> u32
+    ensures { λ r. ⌜ r ≡ receivedOf time ⌝ }
 {
-    if l.known {
-        Dated::At(l.time, message_build::message_of(kind, l.raw))
+    (time % 4294967296) as u32
+}
+
+fn dated(now: u64, kind: usize, l: Slot) -> Dated
+    ensures { λ r. ⌜ r ≡ datedIn now kind l ⌝ }
+{
+    if is_set(l.known) {
+        Dated::At(received(l.time), message_build::message_of(kind, l.raw))
     } else {
         Dated::Nothing
     }
 }
 
-fn part(s: Session) -> SessionPart
-    ensures { λ r. ⌜ r ≡ partIn s ⌝ }
+fn part(now: u64, s: Session) -> SessionPart
+    ensures { λ r. ⌜ r ≡ partIn now s ⌝ }
 {
-    if !s.opened {
+    if !is_set(s.opened) {
         return SessionPart::Closed;
     }
-    let st = s.status;
-    let ct = s.control;
+    let st = s.kept[STATUS_PLACE];
+    let ct = s.kept[CONTROL_PLACE];
     let n = message_parts::session_in(s.first);
     let protocol = n.protocol;
     let plug = n.plug;
-    let status = dated(STATUS, st);
-    let control = dated(CONTROL, ct);
+    let status = dated(now, STATUS, st);
+    let control = dated(now, CONTROL, ct);
     SessionPart::Opened(OpenSession {
-        since: s.since,
+        since: received(s.since),
         protocol,
         plug,
         status,
@@ -51,19 +62,19 @@ fn part(s: Session) -> SessionPart
     })
 }
 
-fn last_time(p: Post) -> LastTime
-    ensures { λ r. ⌜ r ≡ lastIn p ⌝ }
+fn last_time(h: Head) -> LastTime
+    ensures { λ r. ⌜ r ≡ lastIn h ⌝ }
 {
-    if p.heard {
-        LastTime::At(p.time)
+    if is_set(h.heard as u64) {
+        LastTime::At(received(h.time))
     } else {
         LastTime::Never
     }
 }
 
 // The latest frame of each kind, by its message.
-fn messages_of(slots: [Slot; KINDS]) -> [Latest; KINDS]
-    ensures { λ r. ⌜ r ≡ map (λ k. record { message = datedIn k (getD slots k unknown) }) (countFrom 0 kindCount) ⌝ }
+fn messages_of(now: u64, slots: [Slot; KINDS]) -> [Latest; KINDS]
+    ensures { λ r. ⌜ r ≡ map (λ k. record { message = datedIn now k (getD slots k unknown) }) (countFrom 0 kindCount) ⌝ }
 {
     let mut latest = [Latest {
         message: Dated::Nothing,
@@ -72,7 +83,7 @@ fn messages_of(slots: [Slot; KINDS]) -> [Latest; KINDS]
     while k < KINDS {
         let l = slots[k];
         latest[k] = Latest {
-            message: dated(k, l),
+            message: dated(now, k, l),
         };
         k += 1;
     }
@@ -83,14 +94,16 @@ pub fn record_in(p: Post) -> Record
     ensures { λ r. ⌜ r ≡ recordIn p ⌝ }
 {
     let slots = p.latest;
-    let latest = messages_of(slots);
-    let kept = p.limits;
+    let h = p.head;
+    let now = h.time;
+    let latest = messages_of(now, slots);
+    let kept = h.limits;
     let limits = limits_in(kept);
-    let s = p.session;
-    let session = part(s);
-    let last = last_time(p);
+    let s = h.session;
+    let session = part(now, s);
+    let last = last_time(h);
     Record {
-        channel: p.channel,
+        channel: h.channel,
         limits,
         last,
         latest,

@@ -2,45 +2,53 @@
 ghost use mathlib.Core.Path.{_≡_};
 ghost use Prim.Native.Nat.{_≤_};
 ghost use Rattle.rules.specs.History.{earlier, elapsed};
-ghost use Rattle.rules.specs.Step.{isEarly, laterOf, silentIn, lateAfter, anyFindings};
-use message_types::CONTROLLER;
+ghost use Rattle.rules.specs.Step.{stampIn, isEarly, laterOf, silentIn, lateAfter, anyFindings};
 use rule_asks::flag;
-use rules::Post;
+use rule_asks::is_set;
+use rules::Head;
+use rules::STATUS_PLACE;
 use rules::Session;
 use rules::Slot;
 
-// ---- the two questions about times, each in one place
+// ---- the questions about times, each in one place
 
-fn is_earlier(time: u32, latest: u32) -> bool
+fn is_earlier(time: u32, latest: u64) -> bool
     ensures { λ r. ⌜ r ≡ earlier time latest ⌝ }
 {
-    time < latest
+    (time as u64) < latest
 }
 
-fn ms_between(now: u32, from: u32) -> u32
+fn ms_between(now: u64, from: u64) -> u64
     ensures { λ r. ⌜ r ≡ elapsed now from ⌝ }
 {
     if from <= now { now - from } else { 0 }
 }
 
+// Where an event that is received at a time stands.
+pub fn stamp(h: Head, time: u32) -> u64
+    ensures { λ r. ⌜ r ≡ stampIn h time ⌝ }
+{
+    time as u64
+}
+
 // ---- 2
 
-pub fn is_early(p: Post, time: u32) -> bool
-    ensures { λ r. ⌜ r ≡ isEarly p time ⌝ }
+pub fn is_early(h: Head, time: u32) -> bool
+    ensures { λ r. ⌜ r ≡ isEarly h time ⌝ }
 {
-    if p.heard {
-        is_earlier(time, p.time)
+    if is_set(h.heard as u64) {
+        is_earlier(time, h.time)
     } else {
         false
     }
 }
 
-// ---- F1 and F2, of a post that was aged to the event's time
+// ---- F1 and F2, of a head that was aged to the event's time
 
-fn later(since: u32, st: Slot) -> u32
+fn later(since: u64, st: Slot) -> u64
     ensures { λ r. ⌜ r ≡ laterOf since st ⌝ }
 {
-    if st.known {
+    if is_set(st.known) {
         if since < st.time {
             return st.time;
         }
@@ -50,34 +58,34 @@ fn later(since: u32, st: Slot) -> u32
 }
 
 // F1
-fn silent(s: Session, w: u32, now: u32) -> bool
+fn silent(s: Session, w: u32, now: u64) -> bool
     ensures { λ r. ⌜ r ≡ silentIn s w now ⌝ }
 {
-    let st = s.status;
-    if s.opened {
-        w < ms_between(now, later(s.since, st))
+    let st = s.kept[STATUS_PLACE];
+    if is_set(s.opened) {
+        (w as u64) < ms_between(now, later(s.since, st))
     } else {
         false
     }
 }
 
 // F2
-fn late(l: Slot, now: u32) -> bool
+fn late(l: Slot, now: u64) -> bool
     ensures { λ r. ⌜ r ≡ lateAfter l now ⌝ }
 {
-    if l.known {
+    if is_set(l.known) {
         200 < ms_between(now, l.time)
     } else {
         false
     }
 }
 
-pub fn any_findings(p: Post) -> u32
-    ensures { λ r. ⌜ (r ≡ anyFindings p) × (r ≤ 3) ⌝ }
+pub fn any_findings(h: Head) -> u32
+    ensures { λ r. ⌜ (r ≡ anyFindings h) × (r ≤ 3) ⌝ }
 {
-    let s = p.session;
-    let w = p.limits.silence;
-    let now = p.time;
-    let l = p.latest[CONTROLLER];
+    let s = h.session;
+    let l = h.controller;
+    let w = h.limits.silence;
+    let now = h.time;
     flag(silent(s, w, now), 1) + flag(late(l, now), 2)
 }

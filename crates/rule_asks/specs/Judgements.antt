@@ -87,6 +87,10 @@ badInsulation YesNo s = eqb (s .insulation) 0
 unfoldable pub differs : NewChargeSession → NewChargeSession → Bool
 differs a b = not (eqb (protocolNumber (a .protocol)) (protocolNumber (b .protocol))) || not (eqb (plugNumber (a .plug)) (plugNumber (b .plug)))
 
+-- a flag that is kept as a word: 1, and every other number is none
+abbrev pub isSet : ℕ → Bool
+isSet n = eqb n 1
+
 -- finding k is bit k - 1 of the answer
 abbrev pub bit : Bool → ℕ → ℕ
 bit true w = w

@@ -2,7 +2,7 @@
 ghost use mathlib.Core.Path.{_≡_};
 ghost use mathlib.Core.Bool.{_&&_, not};
 ghost use Prim.Native.Nat.{_≤_};
-ghost use Rattle.rule_asks.specs.Judgements.{isAllowed, isClose, isPowered, isCarrying, isOff, isStandby, isLowering, lowersBadly, outside, leaking, badInsulation, differs, bit};
+ghost use Rattle.rule_asks.specs.Judgements.{isAllowed, isClose, isPowered, isCarrying, isOff, isStandby, isLowering, lowersBadly, outside, leaking, badInsulation, differs, isSet, bit};
 ghost use Rattle.message_types.specs.Labels.{protocolNumber, plugNumber};
 use message_types::DcPowerControl;
 use message_types::LowerOutput;
@@ -149,6 +149,12 @@ pub fn do_differ(a: NewChargeSession, b: NewChargeSession) -> bool
     let x = a.plug;
     let y = b.plug;
     message_types::labels::plug_number(x) != message_types::labels::plug_number(y)
+}
+
+pub fn is_set(n: u64) -> bool
+    ensures { λ r. ⌜ r ≡ isSet n ⌝ }
+{
+    n == 1
 }
 
 pub fn flag(b: bool, w: u32) -> u32

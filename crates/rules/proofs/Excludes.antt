@@ -20,8 +20,8 @@ and-false true = refl
 and-false false = refl
 
 pub excludes : (lim : PlainLimits) (h : History) (e : Event)
-    → (isOpen (opening h) ≡ false → (f1 lim h e ≡ false) × (f5 h e ≡ false) × (f8 lim h e ≡ false) × (f9 lim h e ≡ false) × (f10 h e ≡ false))
-    × (isOpen (opening h) ≡ true → (f3 h e ≡ false) × (f4 h e ≡ false) × (f11 h e ≡ false))
+    → (isOpen (opening h) ≡ false → (f1 lim h e ≡ false) × (f5 lim h e ≡ false) × (f8 lim h e ≡ false) × (f9 lim h e ≡ false) × (f10 lim h e ≡ false))
+    × (isOpen (opening h) ≡ true → (f3 lim h e ≡ false) × (f4 lim h e ≡ false) × (f11 lim h e ≡ false))
 unfolding f1 f3 f4 f5 f8 f9 f10 f11
 excludes lim h e = (
   λ closed. let no : opening h ≡ none = none-open (opening h) closed in

@@ -1,19 +1,21 @@
--- The inner step is looking back over one event more: a post that stands for a history goes to the one that stands for the longer history, and its findings and its record are 01's.
+-- The inner step is looking back over one event more: a head that stands for a history goes to the one that stands for the longer history, and its findings and its post's record are 01's.
 use Prim.Native.Nat.{ℕ, _<_}
 use native.Mathlib.Omega.{arith}
-use mathlib.Core.Path.{_≡_, refl, sym}
+use mathlib.Core.Path.{_≡_, refl, sym, ap}
 use mathlib.Core.List.{[], _∷_, map}
-use mathlib.Core.Bool.{true}
+use mathlib.Core.Bool.{Bool, true, false, cond}
 use mathlib.Core.Option.{Option, none, some}
-use borrow.Author.Tests.{eq-eqb, ne-eqb}
+use borrow.Author.Tests.{eq-eqb, ne-eqb, ltb-false}
+use lib.Dec.{eqb, ltb}
 use lib.ListN.{set}
-use Rattle.message_parts.specs.Parts.{statusKind, controlKind}
+use Rattle.message_parts.specs.Parts.{statusKind, controlKind, controllerKind, parametersKind}
 use Rattle.rule_limits.specs.declared.PlainLimits.{PlainLimits}
 use Rattle.rules.specs.declared.Latest.{Latest}
-use Rattle.rules.specs.History.{frame, tick, History, newest, ofKind, sinceFinished, opening, earlierIn, countFrom}
+use Rattle.rules.specs.declared.Slot.{Slot}
+use Rattle.rules.specs.History.{Event, frame, tick, History, newest, ofKind, sinceFinished, opening, inSession, stampOf, earlierIn, countFrom}
 use Rattle.rules.specs.Rules.{sessionStatus, sessionControl, findings01}
-use Rattle.rules.specs.Record.{kindCount, datedOf, lastOf, partOf, recordOf, unknown, slotAt, slotOf, sessionOf, latests, session01, postAt, postOf}
-use Rattle.rules.specs.Step.{latestIn, agedTo, withFrame, isEarly, tickStep, frameStep, freshPost, datedIn, partIn, lastIn, recordIn}
+use Rattle.rules.specs.Record.{kindCount, isSet, datedOf, lastOf, partOf, latestTime, recordAt, recordOf, unknown, slotAt, slotOf, keptOf, sessionOf, session01, headAt, headOf, latests, postOf}
+use Rattle.rules.specs.Step.{putAt, agedTo, withFrame, isEarly, tickStep, frameStep, keepIn, stored, freshPost, latestIn, datedIn, partIn, lastIn, recordIn}
 use Rattle.rules.proofs.Counted.{count-at, count-same, count-set}
 use Rattle.rules.proofs.SessionLook.{session-stays, session-frame}
 use Rattle.rules.proofs.FindingsLook.{findings-tick, findings-frame}
@@ -28,92 +30,128 @@ latest-frame h t k raw =
     (λ i ne. rw (ne-eqb k i (λ e. ne (sym e))))
     0 kindCount k (omega arith)
 
-latest-tick : (h : History) (t : ℕ) → latests h ≡ latests (tick t ∷ h)
+-- of a number that is no kind
+latest-other : (h : History) (t k raw : ℕ) → ltb k kindCount ≡ false → latests h ≡ latests (frame t k raw ∷ h)
 unfolding latests
-latest-tick h t = refl
+latest-other h t k raw past =
+    count-same (λ i. slotOf (newest (ofKind i) h)) (λ i. slotOf (newest (ofKind i) (frame t k raw ∷ h))) 0 kindCount
+    (λ i low high. rw (ne-eqb k i (λ e. let z : ⊥ = omega (arith, ltb-false k kindCount past) in z)))
+
+kept-frame : (h : History) (t k raw : ℕ) → keepIn (latests h) k (slotAt t raw) ≡ latests (frame t k raw ∷ h)
+kept-frame h t k raw = go (ltb k kindCount) refl
+  where
+    go : (b : Bool) → ltb k kindCount ≡ b → cond b (set (latests h) k (slotAt t raw)) (latests h) ≡ latests (frame t k raw ∷ h)
+    go true e = latest-frame h t k raw
+    go false e = latest-other h t k raw e
+
+kept-tick : (h : History) (t : ℕ) → keepIn (latests h) kindCount unknown ≡ latests (tick t ∷ h)
+unfolding latests
+kept-tick h t = refl
+
+-- a slot that the head keeps
+put-frame : (h : History) (j t k raw : ℕ) → putAt j k (slotAt t raw) (slotOf (newest (ofKind j) h)) ≡ slotOf (newest (ofKind j) (frame t k raw ∷ h))
+put-frame h j t k raw = go (eqb k j) refl
+  where
+    go : (b : Bool) → eqb k j ≡ b → putAt j k (slotAt t raw) (slotOf (newest (ofKind j) h)) ≡ slotOf (newest (ofKind j) (frame t k raw ∷ h))
+    go true e = rw e
+    go false e = rw e
 
 -- ---- what the record shows of a slot and of the session's part
 
-dated-look : (k : ℕ) (o : Option (ℕ × ℕ)) → datedIn k (slotOf o) ≡ datedOf k o
-dated-look k none = refl
-dated-look k (some o) = refl
+dated-look : (now k : ℕ) (o : Option (ℕ × ℕ)) → datedIn now k (slotOf o) ≡ datedOf now k o
+dated-look now k none = refl
+dated-look now k (some o) = refl
 
-part-look : (o s d : Option (ℕ × ℕ)) → partIn (sessionOf o s d) ≡ partOf o s d
-part-look none s d = refl
-part-look (some o) s d = rw (dated-look statusKind s, dated-look controlKind d)
+part-look : (now : ℕ) (h : History) (o : Option (ℕ × ℕ)) → partIn now (sessionOf o (keptOf (inSession h))) ≡ partOf now o (sessionStatus h) (sessionControl h)
+unfolding sessionStatus sessionControl
+part-look now h none = refl
+part-look now h (some o) = simp dated-look
 
 module _ (c : ℕ) (lim : PlainLimits) where
-  -- ---- the post after one event more
+  -- ---- the head after one event more
 
-  aged-look : (h : History) (t : ℕ) → agedTo (postOf c lim h) t ≡ postAt c lim true t h
-  unfolding agedTo postAt
+  aged-look : (h : History) (t : ℕ) → agedTo (headOf c lim h) t ≡ headAt c lim true t h
+  unfolding agedTo headAt
   aged-look h t = refl
 
-  post-frame : (h : History) (t k raw : ℕ) → withFrame (postAt c lim true t h) k raw ≡ postOf c lim (frame t k raw ∷ h)
-  unfolding withFrame postAt
-  post-frame h t k raw = rw (session-frame h t k raw, latest-frame h t k raw)
+  head-frame : (h : History) (t k raw : ℕ) → withFrame (headAt c lim true t h) k (slotAt t raw) ≡ headOf c lim (frame t k raw ∷ h)
+  unfolding withFrame headAt
+  head-frame h t k raw = rw (session-frame h t k raw, put-frame h controllerKind t k raw, put-frame h parametersKind t k raw)
 
-  post-tick : (h : History) (t : ℕ) → postAt c lim true t h ≡ postOf c lim (tick t ∷ h)
-  unfolding postAt
-  post-tick h t = rw (session-stays h (tick t) (refl, refl, refl, refl), latest-tick h t)
+  head-tick : (h : History) (t : ℕ) → headAt c lim true t h ≡ headOf c lim (tick t ∷ h)
+  unfolding headAt
+  head-tick h t = rw (session-stays h (tick t) (refl, refl, refl, refl))
 
   -- ---- the record's parts
 
-  last-look : (h : History) → lastIn (postOf c lim h) ≡ lastOf h
-  unfolding postAt
+  last-look : (h : History) → lastIn (headOf c lim h) ≡ lastOf h
+  unfolding headAt
   last-look [] = refl
   last-look (e ∷ h) = refl
 
   latest-look : (h : History) (k : ℕ) → k < kindCount → latestIn (postOf c lim h) k ≡ slotOf (newest (ofKind k) h)
-  unfolding postAt latests
+  unfolding latests
   latest-look h k lt = count-at (λ i. slotOf (newest (ofKind i) h)) unknown k 0 kindCount k (omega arith) lt
 
-  abbrev shownIn : History → ℕ → Latest
-  shownIn h k = record { message = datedIn k (latestIn (postOf c lim h) k) }
+  abbrev shownIn : ℕ → History → ℕ → Latest
+  shownIn now h k = record { message = datedIn now k (latestIn (postOf c lim h) k) }
 
-  abbrev shownOf : History → ℕ → Latest
-  shownOf h k = record { message = datedOf k (newest (ofKind k) h) }
+  abbrev shownOf : ℕ → History → ℕ → Latest
+  shownOf now h k = record { message = datedOf now k (newest (ofKind k) h) }
 
-  messages-look : (h : History) → map (shownIn h) (countFrom 0 kindCount) ≡ map (shownOf h) (countFrom 0 kindCount)
-  messages-look h =
-      count-same (shownIn h) (shownOf h) 0 kindCount (λ k low high. rw (latest-look h k (omega arith), dated-look k (newest (ofKind k) h)))
+  messages-look : (now : ℕ) (h : History) → map (shownIn now h) (countFrom 0 kindCount) ≡ map (shownOf now h) (countFrom 0 kindCount)
+  messages-look now h =
+      count-same (shownIn now h) (shownOf now h) 0 kindCount (λ k low high. rw (latest-look h k (omega arith), dated-look now k (newest (ofKind k) h)))
 
-  session-look : (h : History) → partIn (postOf c lim h .session) ≡ partOf (opening h) (sessionStatus h) (sessionControl h)
-  unfolding postAt session01
-  session-look h = part-look (opening h) (sessionStatus h) (sessionControl h)
+  session-look : (now : ℕ) (h : History) → partIn now (headOf c lim h .session) ≡ partOf now (opening h) (sessionStatus h) (sessionControl h)
+  unfolding headAt session01
+  session-look now h = part-look now h (opening h)
 
   -- ---- the post, its steps and its record
 
-  pub used-look : (h : History) → postOf c lim h .used ≡ true
-  unfolding postAt
+  pub used-look : (h : History) → headOf c lim h .used ≡ 1
+  unfolding headAt
   used-look h = refl
 
-  pub channel-look : (h : History) → postOf c lim h .channel ≡ c
-  unfolding postAt
+  pub channel-look : (h : History) → headOf c lim h .channel ≡ c
+  unfolding headAt
   channel-look h = refl
 
-  pub limits-look : (h : History) → postOf c lim h .limits ≡ lim
-  unfolding postAt
+  pub limits-look : (h : History) → headOf c lim h .limits ≡ lim
+  unfolding headAt
   limits-look h = refl
 
   pub fresh-look : freshPost c lim ≡ postOf c lim []
-  unfolding postAt latests session01 opening sinceFinished
+  unfolding headAt latests session01 opening sinceFinished
   fresh-look = refl
 
-  pub early-look : (h : History) (t : ℕ) → isEarly (postOf c lim h) t ≡ earlierIn h t
-  unfolding postAt earlierIn
+  pub early-look : (h : History) (t : ℕ) → isEarly (headOf c lim h) t ≡ earlierIn h t
+  unfolding headAt earlierIn
   early-look [] t = refl
   early-look (e ∷ h) t = refl
 
-  pub tick-look : (h : History) (t : ℕ) → tickStep (postOf c lim h) t ≡ record { post = postOf c lim (tick t ∷ h); findings = findings01 lim h (tick t) }
+  pub tick-look : (h : History) (t : ℕ)
+      → tickStep (headOf c lim h) t
+      ≡ record { head = headOf c lim (tick (stampOf h t) ∷ h); slot = unknown; at = kindCount; findings = findings01 lim h (tick (stampOf h t)) }
   unfolding tickStep
-  tick-look h t = rw (aged-look h t, findings-tick c lim h t, post-tick h t)
+  tick-look h t = rw (aged-look h t, findings-tick c lim h t, head-tick h t)
 
   pub frame-look : (h : History) (t k raw : ℕ)
-      → frameStep (postOf c lim h) t k raw ≡ record { post = postOf c lim (frame t k raw ∷ h); findings = findings01 lim h (frame t k raw) }
+      → frameStep (headOf c lim h) t k raw
+      ≡ record { head = headOf c lim (frame (stampOf h t) k raw ∷ h); slot = slotAt (stampOf h t) raw; at = k; findings = findings01 lim h (frame (stampOf h t) k raw) }
   unfolding frameStep
-  frame-look h t k raw = rw (aged-look h t, findings-frame c lim h t k raw, post-frame h t k raw)
+  frame-look h t k raw = rw (aged-look h t, findings-frame c lim h t k raw, head-frame h t k raw)
+
+  -- the post with what a step left of it
+  pub stored-tick : (h : History) (t : ℕ) → stored (postOf c lim h) (headOf c lim (tick t ∷ h)) kindCount unknown ≡ postOf c lim (tick t ∷ h)
+  stored-tick h t = rw (kept-tick h t)
+
+  pub stored-frame : (h : History) (t k raw : ℕ) → stored (postOf c lim h) (headOf c lim (frame t k raw ∷ h)) k (slotAt t raw) ≡ postOf c lim (frame t k raw ∷ h)
+  stored-frame h t k raw = rw (kept-frame h t k raw)
+
+  pub stored-still : (h : History) → stored (postOf c lim h) (headOf c lim h) kindCount unknown ≡ postOf c lim h
+  stored-still h = refl
 
   pub record-look : (h : History) → recordIn (postOf c lim h) ≡ recordOf c lim h
-  unfolding recordIn recordOf
-  record-look h = rw (last-look h, messages-look h, session-look h, channel-look h, limits-look h)
+  unfolding recordIn recordAt headAt
+  record-look h = rw (last-look h, messages-look (latestTime h) h, session-look (latestTime h) h)

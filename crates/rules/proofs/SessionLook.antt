@@ -7,9 +7,8 @@ use mathlib.Core.Option.{Option, none, some}
 use lib.Dec.{eqb}
 use Rattle.message_parts.specs.Parts.{statusKind, sessionKind, controlKind, finishedKind}
 use Rattle.rules.specs.declared.Session.{Session}
-use Rattle.rules.specs.History.{Event, frame, History, first, newest, oldest, onlyIf, afterOldest, ofKind, sinceFinished, opening, inSession}
-use Rattle.rules.specs.Rules.{sessionStatus, sessionControl}
-use Rattle.rules.specs.Record.{slotAt, sessionOf, session01}
+use Rattle.rules.specs.History.{Event, frame, History, first, oldest, onlyIf, afterOldest, openingOf, sinceFinished, opening, inSession}
+use Rattle.rules.specs.Record.{slotAt, keptOf, sessionOf, session01}
 use Rattle.rules.specs.Step.{sessionAfter}
 use Rattle.rules.proofs.ByKind.{by-kind}
 use Rattle.rules.proofs.Unasked.{Unasked, unasked-frame}
@@ -17,10 +16,10 @@ use Rattle.rules.proofs.Unasked.{Unasked, unasked-frame}
 -- ---- over the opening before the event and the session's events so far
 
 abbrev sessionBefore : Option (ℕ × ℕ) → History → Session
-sessionBefore o a = sessionOf o (newest (ofKind statusKind) a) (newest (ofKind controlKind) a)
+sessionBefore o a = sessionOf o (keptOf a)
 
 abbrev sessionWith : Option (ℕ × ℕ) → History → Event → Session
-sessionWith o a e = sessionOf (first o (ofKind sessionKind e)) (newest (ofKind statusKind) (onlyIf o (e ∷ a))) (newest (ofKind controlKind) (onlyIf o (e ∷ a)))
+sessionWith o a e = sessionOf (first o (openingOf e)) (keptOf (onlyIf o (e ∷ a)))
 
 module _ (a : History) (t raw : ℕ) where
   abbrev Goes : ℕ → Option (ℕ × ℕ) → Type 0
@@ -49,18 +48,18 @@ stays (some o) a e un = rw (un .0, un .2)
 
 module _ (h : History) where
   abbrev before : Option (ℕ × ℕ)
-  before = oldest (ofKind sessionKind) (sinceFinished h)
+  before = oldest openingOf (sinceFinished h)
 
   abbrev events : History
-  events = afterOldest (ofKind sessionKind) (sinceFinished h)
+  events = afterOldest openingOf (sinceFinished h)
 
   -- an event of none of the four kinds leaves the session as it was
   pub session-stays : (e : Event) → Unasked e → session01 h ≡ session01 (e ∷ h)
-  unfolding session01 sessionStatus sessionControl opening inSession sinceFinished
+  unfolding session01 opening inSession sinceFinished
   session-stays e un = rw (un .3) (stays before events e un)
 
   pub session-frame : (t k raw : ℕ) → sessionAfter (session01 h) k (slotAt t raw) ≡ session01 (frame t k raw ∷ h)
-  unfolding session01 sessionStatus sessionControl opening inSession sinceFinished sessionAfter
+  unfolding session01 opening inSession sinceFinished sessionAfter
   session-frame t k raw =
       by-kind (λ j. sessionAfter (session01 h) j (slotAt t raw) ≡ session01 (frame t j raw ∷ h))
       (goes-status events t raw before)

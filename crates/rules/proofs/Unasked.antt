@@ -2,38 +2,37 @@
 use Prim.Native.Nat.{ℕ, _+_, _≤_}
 use native.Mathlib.Omega.{arith}
 use mathlib.Core.Path.{_≡_}
+use mathlib.Core.List.{[], _∷_}
 use mathlib.Core.Bool.{false}
 use mathlib.Core.Option.{none}
 use borrow.Author.Tests.{ne-eqb}
 use lib.Dec.{eqb}
 use Rattle.message_types.specs.KindNumbers.{statusKind, sessionKind, controlKind, finishedKind, safetyControlKind}
 use Rattle.rule_limits.specs.declared.PlainLimits.{PlainLimits}
-use Rattle.rules.specs.History.{Event, frame, History, ofKind}
+use Rattle.rules.specs.History.{Event, frame, History, statusOf, commandOf, openingOf, finishedOf}
 use Rattle.rule_asks.specs.Judgements.{bit}
-use Rattle.rules.specs.Rules.{f1, f2, f3, f4, f5, f6, f7, f8, f9, f10, f11, findings01}
+use Rattle.rules.specs.Rules.{f1, f2, f3, f4, f5, f6, f7, f8, f9, f10, f11, found, bitsFrom, findings01}
 
 -- F3 to F11 ask for Power_Modules_Status, New_Charge_Session, DC_Power_Control or Charge_Session_Finished
 abbrev pub Unasked : Event → Type 0
-Unasked e = (ofKind statusKind e ≡ none) × (ofKind sessionKind e ≡ none) × (ofKind controlKind e ≡ none) × (ofKind finishedKind e ≡ none)
+Unasked e = (statusOf e ≡ none) × (openingOf e ≡ none) × (commandOf e ≡ none) × (finishedOf e ≡ none)
 
 pub unasked-frame : (t k raw : ℕ) → eqb k statusKind ≡ false → eqb k sessionKind ≡ false → eqb k controlKind ≡ false → eqb k finishedKind ≡ false → Unasked (frame t k raw)
 unasked-frame t k raw s n d f = (rw s, rw n, rw d, rw f)
 
 -- of the rules that ask for a message
 abbrev pub messageBits : PlainLimits → History → Event → ℕ
-messageBits lim h e =
-    bit (f3 h e) 4 + bit (f4 h e) 8 + bit (f5 h e) 16 + bit (f6 e) 32 + bit (f7 lim h e) 64
-    + bit (f8 lim h e) 128 + bit (f9 lim h e) 256 + bit (f10 h e) 512 + bit (f11 h e) 1024
+messageBits lim h e = bitsFrom 4 (found (f3 ∷ f4 ∷ f5 ∷ f6 ∷ f7 ∷ f8 ∷ f9 ∷ f10 ∷ f11 ∷ []) lim h e)
 
 module _ (lim : PlainLimits) (h : History) (e : Event) (un : Unasked e) where
-  pub not-found : (f3 h e ≡ false) × (f4 h e ≡ false) × (f5 h e ≡ false) × (f6 e ≡ false) × (f7 lim h e ≡ false) × (f8 lim h e ≡ false) × (f9 lim h e ≡ false) × (f10 h e ≡ false) × (f11 h e ≡ false)
+  pub not-found : (f3 lim h e ≡ false) × (f4 lim h e ≡ false) × (f5 lim h e ≡ false) × (f6 lim h e ≡ false) × (f7 lim h e ≡ false) × (f8 lim h e ≡ false) × (f9 lim h e ≡ false) × (f10 lim h e ≡ false) × (f11 lim h e ≡ false)
   unfolding f3 f4 f5 f6 f7 f8 f9 f10 f11
   not-found = (rw (un .2), rw (un .2), rw (un .2), rw (un .2), rw (un .2), rw (un .0), rw (un .0), rw (un .1), rw (un .3))
 
   pub no-bits : messageBits lim h e ≡ 0
   no-bits = let n = not-found in rw (n .0, n .1, n .2, n .3, n .4, n .5, n .6, n .7, n .8)
 
-  pub only-f1-f2 : findings01 lim h e ≡ bit (f1 lim h e) 1 + bit (f2 h e) 2
+  pub only-f1-f2 : findings01 lim h e ≡ bit (f1 lim h e) 1 + bit (f2 lim h e) 2
   unfolding findings01
   only-f1-f2 = omega (arith, no-bits)
 
@@ -47,5 +46,5 @@ behind-the-charger t k raw l =
     (ne-eqb k finishedKind (λ e. omega arith))
 
 pub safety-frames : (lim : PlainLimits) (h : History) (t k raw : ℕ) → safetyControlKind ≤ k
-    → findings01 lim h (frame t k raw) ≡ bit (f1 lim h (frame t k raw)) 1 + bit (f2 h (frame t k raw)) 2
+    → findings01 lim h (frame t k raw) ≡ bit (f1 lim h (frame t k raw)) 1 + bit (f2 lim h (frame t k raw)) 2
 safety-frames lim h t k raw l = only-f1-f2 lim h (frame t k raw) (behind-the-charger t k raw l)

@@ -1,10 +1,10 @@
 -- A post's history: its accepted frames and ticks since its latest accepted set-up, the newest first, and what is read by looking back over it.
-use Prim.Native.Nat.{ℕ, zero, suc, _-_}
+use Prim.Native.Nat.{ℕ, zero, suc, _-_, _%_}
 use mathlib.Core.List.{List, [], _∷_}
 use mathlib.Core.Bool.{Bool, false, cond}
 use mathlib.Core.Option.{Option, none, some}
 use lib.Dec.{ltb, eqb}
-use Rattle.message_parts.specs.Parts.{sessionKind, finishedKind}
+use Rattle.message_parts.specs.Parts.{statusKind, parametersKind, controllerKind, sessionKind, controlKind, finishedKind}
 
 -- a frame by its time, its kind and its payload number (its message is `messageOf` of the two), or a tick
 pub data Event : Type 0 where
@@ -57,20 +57,54 @@ abbrev pub ofKind : ℕ → Event → Option (ℕ × ℕ)
 ofKind k (frame t j raw) = cond (eqb j k) (some (t, raw)) none
 ofKind k (tick t) = none
 
+-- ---- what the rules ask of an event: each is a time with a payload number, where the event is such a frame
+
+-- "Power_Modules_Status"
+abbrev pub statusOf : Event → Option (ℕ × ℕ)
+statusOf = ofKind statusKind
+
+-- "DC_Power_Control"
+abbrev pub commandOf : Event → Option (ℕ × ℕ)
+commandOf = ofKind controlKind
+
+-- "DC_Power_Parameters"
+abbrev pub limitsTold : Event → Option (ℕ × ℕ)
+limitsTold = ofKind parametersKind
+
+-- "a controller status"
+abbrev pub controllerOf : Event → Option (ℕ × ℕ)
+controllerOf = ofKind controllerKind
+
+-- "New_Charge_Session"
+abbrev pub openingOf : Event → Option (ℕ × ℕ)
+openingOf = ofKind sessionKind
+
+-- "Charge_Session_Finished"
+abbrev pub finishedOf : Event → Option (ℕ × ℕ)
+finishedOf = ofKind finishedKind
+
 -- ---- the session
 
 -- 01: "A session opens at a New_Charge_Session accepted while none is open, and closes at Charge_Session_Finished. Repeats of New_Charge_Session .. do not open it anew."
 -- So it opened at the first New_Charge_Session since the latest Charge_Session_Finished, and the session's events are those after it.
 unfoldable pub sinceFinished : History → History
-sinceFinished h = sinceNewest (ofKind finishedKind) h
+sinceFinished h = sinceNewest finishedOf h
 
 unfoldable pub opening : History → Option (ℕ × ℕ)
-opening h = oldest (ofKind sessionKind) (sinceFinished h)
+opening h = oldest openingOf (sinceFinished h)
 
 unfoldable pub inSession : History → History
-inSession h = afterOldest (ofKind sessionKind) (sinceFinished h)
+inSession h = afterOldest openingOf (sinceFinished h)
 
 -- ---- times
+
+-- where an event that is received at t stands in the history: at t
+abbrev pub stampOf : History → ℕ → ℕ
+stampOf h t = t
+
+-- a time of the history as it was received, in 32 bits
+abbrev pub receivedOf : ℕ → ℕ
+receivedOf t = t % 4294967296
 
 -- the ms from one time to a later one
 abbrev pub elapsed : ℕ → ℕ → ℕ

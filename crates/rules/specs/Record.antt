@@ -8,9 +8,13 @@ use mathlib.Core.Option.{Option, none, some}
 pub use Rattle.message_types.specs.KindNumbers.{kindCount}
 use Rattle.message_parts.specs.Parts.{statusKind, controlKind, sessionIn}
 use Rattle.message_build.specs.Built.{messageOf}
-use Rattle.rules.specs.declared.Slot.{Slot}
 use Rattle.rule_limits.specs.declared.PlainLimits.{PlainLimits}
+use Rattle.rule_limits.specs.Sensor.{limitsOf}
+pub use Rattle.rule_asks.specs.Judgements.{isSet}
+use Rattle.rule_asks.specs.Judgements.{bit}
+use Rattle.rules.specs.declared.Slot.{Slot}
 use Rattle.rules.specs.declared.Session.{Session}
+use Rattle.rules.specs.declared.Head.{Head}
 use Rattle.rules.specs.declared.Post.{Post}
 use Rattle.rules.specs.declared.LastTime.{LastTime}
 use Rattle.rules.specs.declared.LastTime.the-variants as last
@@ -20,80 +24,101 @@ use Rattle.rules.specs.declared.Latest.{Latest}
 use Rattle.rules.specs.declared.SessionPart.{SessionPart}
 use Rattle.rules.specs.declared.SessionPart.the-variants as part
 use Rattle.rules.specs.declared.Record.{Record}
-use Rattle.rules.specs.History.{History, timeOf, newest, ofKind, opening, countFrom}
-use Rattle.rule_limits.specs.Sensor.{limitsOf}
+use Rattle.rules.specs.History.{Event, History, timeOf, newest, ofKind, statusOf, commandOf, limitsTold, controllerOf, opening, inSession, receivedOf, countFrom}
 use Rattle.rules.specs.Rules.{sessionStatus, sessionControl}
 
--- ---- as it is handed out
+-- ---- as it is handed out, at the time `now` of the post's latest event
 
 -- a frame of the kind k, by its message
-abbrev pub datedOf : ℕ → Option (ℕ × ℕ) → Dated
-datedOf k none = dated.Nothing
-datedOf k (some m) = dated.At (m .0) (messageOf k (m .1))
+abbrev pub datedOf : ℕ → ℕ → Option (ℕ × ℕ) → Dated
+datedOf now k none = dated.Nothing
+datedOf now k (some m) = dated.At (receivedOf (m .0)) (messageOf k (m .1))
 
 abbrev pub lastOf : History → LastTime
 lastOf [] = last.Never
-lastOf (e ∷ h) = last.At (timeOf e)
+lastOf (e ∷ h) = last.At (receivedOf (timeOf e))
 
-abbrev pub partOf : Option (ℕ × ℕ) → Option (ℕ × ℕ) → Option (ℕ × ℕ) → SessionPart
-partOf none s d = part.Closed
-partOf (some o) s d =
+abbrev pub partOf : ℕ → Option (ℕ × ℕ) → Option (ℕ × ℕ) → Option (ℕ × ℕ) → SessionPart
+partOf now none s d = part.Closed
+partOf now (some o) s d =
     part.Opened
     (record {
-      since = o .0;
+      since = receivedOf (o .0);
       protocol = sessionIn (o .1) .protocol;
       plug = sessionIn (o .1) .plug;
-      status = datedOf statusKind s;
-      control = datedOf controlKind d;
+      status = datedOf now statusKind s;
+      control = datedOf now controlKind d;
     })
-
-unfoldable pub recordOf : ℕ → PlainLimits → History → Record
-recordOf c lim h =
-    record {
-      channel = c;
-      limits = limitsOf lim;
-      last = lastOf h;
-      latest = map (λ k. record { message = datedOf k (newest (ofKind k) h) }) (countFrom 0 kindCount);
-      session = partOf (opening h) (sessionStatus h) (sessionControl h);
-    }
-
--- ---- as the table keeps it: frames by time and payload number
-
-abbrev pub unknown : Slot
-unknown = record { known = false; time = 0; raw = 0 }
-
-abbrev pub slotAt : ℕ → ℕ → Slot
-slotAt t raw = record { known = true; time = t; raw = raw }
-
-abbrev pub slotOf : Option (ℕ × ℕ) → Slot
-slotOf none = unknown
-slotOf (some m) = slotAt (m .0) (m .1)
-
-abbrev pub closedSession : Session
-closedSession = record { opened = false; since = 0; first = 0; status = unknown; control = unknown }
-
-abbrev pub sessionOf : Option (ℕ × ℕ) → Option (ℕ × ℕ) → Option (ℕ × ℕ) → Session
-sessionOf none s d = closedSession
-sessionOf (some o) s d = record { opened = true; since = o .0; first = o .1; status = slotOf s; control = slotOf d }
-
-abbrev pub heardIn : History → Bool
-heardIn [] = false
-heardIn (e ∷ h) = true
 
 abbrev pub latestTime : History → ℕ
 latestTime [] = 0
 latestTime (e ∷ h) = timeOf e
 
+unfoldable pub recordAt : ℕ → PlainLimits → ℕ → History → Record
+recordAt c lim now h =
+    record {
+      channel = c;
+      limits = limitsOf lim;
+      last = lastOf h;
+      latest = map (λ k. record { message = datedOf now k (newest (ofKind k) h) }) (countFrom 0 kindCount);
+      session = partOf now (opening h) (sessionStatus h) (sessionControl h);
+    }
+
+abbrev pub recordOf : ℕ → PlainLimits → History → Record
+recordOf c lim h = recordAt c lim (latestTime h) h
+
+-- ---- as the table keeps it: frames by time and payload number, flags as words
+
+abbrev pub unknown : Slot
+unknown = record { known = 0; time = 0; raw = 0 }
+
+abbrev pub slotAt : ℕ → ℕ → Slot
+slotAt t raw = record { known = 1; time = t; raw = raw }
+
+abbrev pub slotOf : Option (ℕ × ℕ) → Slot
+slotOf none = unknown
+slotOf (some m) = slotAt (m .0) (m .1)
+
+-- what a session keeps the latest of
+abbrev pub kept01 : List (Event → Option (ℕ × ℕ))
+kept01 = statusOf ∷ commandOf ∷ []
+
+abbrev pub keptOf : History → List (Option (ℕ × ℕ))
+keptOf h = map (λ (asked : Event → Option (ℕ × ℕ)). newest asked h) kept01
+
+abbrev pub closedSession : Session
+closedSession = record { opened = 0; since = 0; first = 0; kept = map (λ (asked : Event → Option (ℕ × ℕ)). unknown) kept01 }
+
+abbrev pub sessionOf : Option (ℕ × ℕ) → List (Option (ℕ × ℕ)) → Session
+sessionOf none ks = closedSession
+sessionOf (some o) ks = record { opened = 1; since = o .0; first = o .1; kept = map slotOf ks }
+
+unfoldable pub session01 : History → Session
+session01 h = sessionOf (opening h) (keptOf (inSession h))
+
+abbrev pub heardIn : History → Bool
+heardIn [] = false
+heardIn (e ∷ h) = true
+
+-- as of the time `now`
+unfoldable pub headAt : ℕ → PlainLimits → Bool → ℕ → History → Head
+headAt c lim heard now h =
+    record {
+      used = 1;
+      channel = c;
+      limits = lim;
+      heard = bit heard 1;
+      time = now;
+      controller = slotOf (newest controllerOf h);
+      parameters = slotOf (newest limitsTold h);
+      session = session01 h;
+    }
+
+abbrev pub headOf : ℕ → PlainLimits → History → Head
+headOf c lim h = headAt c lim (heardIn h) (latestTime h) h
+
 unfoldable pub latests : History → List Slot
 latests h = map (λ k. slotOf (newest (ofKind k) h)) (countFrom 0 kindCount)
 
-unfoldable pub session01 : History → Session
-session01 h = sessionOf (opening h) (sessionStatus h) (sessionControl h)
-
--- as of the time `now`
-unfoldable pub postAt : ℕ → PlainLimits → Bool → ℕ → History → Post
-postAt c lim heard now h =
-    record { used = true; channel = c; limits = lim; heard = heard; time = now; latest = latests h; session = session01 h }
-
 abbrev pub postOf : ℕ → PlainLimits → History → Post
-postOf c lim h = postAt c lim (heardIn h) (latestTime h) h
+postOf c lim h = record { head = headOf c lim h; latest = latests h }

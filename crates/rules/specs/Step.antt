@@ -1,8 +1,8 @@
--- Inner step: a post after one event more, and the event's findings, as the code takes them. The promises do not speak of it: `frame-look` and `tick-look` turn it into looking back.
+-- Inner step: a post's head after one event more, and the event's findings, as the code takes them. The promises do not speak of it: `frame-look` and `tick-look` turn it into looking back.
 use Prim.Native.Nat.{ℕ, _+_, max}
 use mathlib.Core.List.{List, [], map}
-use mathlib.Core.Bool.{Bool, true, false, cond, not, _&&_}
-use lib.Dec.{ltb, leb, eqb}
+use mathlib.Core.Bool.{Bool, true, cond, not, _&&_}
+use lib.Dec.{ltb, eqb}
 use lib.ListN.{getD, set, replicate}
 use Rattle.message_types.specs.declared.DcPowerParameters.{DcPowerParameters}
 use Rattle.message_types.specs.declared.DcPowerControl.{DcPowerControl}
@@ -10,9 +10,13 @@ use Rattle.message_types.specs.declared.PowerModulesStatus.{PowerModulesStatus}
 use Rattle.message_types.specs.declared.NewChargeSession.{NewChargeSession}
 use Rattle.message_parts.specs.Parts.{statusKind, parametersKind, controllerKind, sessionKind, controlKind, finishedKind, statusIn, parametersIn, sessionIn, controlIn}
 use Rattle.message_build.specs.Built.{messageOf}
-use Rattle.rules.specs.declared.Slot.{Slot}
 use Rattle.rule_limits.specs.declared.PlainLimits.{PlainLimits}
+use Rattle.rule_limits.specs.Limits.{capped}
+use Rattle.rule_limits.specs.Sensor.{sensorOf, limitsOf}
+use Rattle.rule_asks.specs.Judgements.{isAllowed, isClose, isPowered, isCarrying, isOff, lowersBadly, outside, badInsulation, differs, bit}
+use Rattle.rules.specs.declared.Slot.{Slot}
 use Rattle.rules.specs.declared.Session.{Session}
+use Rattle.rules.specs.declared.Head.{Head}
 use Rattle.rules.specs.declared.Post.{Post}
 use Rattle.rules.specs.declared.Stepped.{Stepped}
 use Rattle.rules.specs.declared.LastTime.{LastTime}
@@ -23,102 +27,124 @@ use Rattle.rules.specs.declared.Latest.{Latest}
 use Rattle.rules.specs.declared.SessionPart.{SessionPart}
 use Rattle.rules.specs.declared.SessionPart.the-variants as part
 use Rattle.rules.specs.declared.Record.{Record}
-use Rattle.rules.specs.History.{elapsed, earlier, countFrom}
-use Rattle.rule_limits.specs.Sensor.{sensorOf, limitsOf}
-use Rattle.rule_asks.specs.Judgements.{isAllowed, isClose, isPowered, isCarrying, isOff, lowersBadly, outside, badInsulation, differs, bit}
-use Rattle.rule_limits.specs.Limits.{capped}
-use Rattle.rules.specs.Record.{kindCount, unknown, slotAt, closedSession}
+use Rattle.rules.specs.History.{elapsed, earlier, receivedOf, countFrom}
+use Rattle.rules.specs.Record.{kindCount, isSet, unknown, slotAt, closedSession}
 
 -- ---- the session's part after a frame
 
-abbrev pub statusPut : Session → Slot → Session
-statusPut s n = cond (s .opened) (record { opened = true; since = s .since; first = s .first; status = n; control = s .control }) s
+-- the places of what a session keeps
+abbrev pub statusPlace : ℕ
+statusPlace = 0
 
-abbrev pub controlPut : Session → Slot → Session
-controlPut s n = cond (s .opened) (record { opened = true; since = s .since; first = s .first; status = s .status; control = n }) s
+abbrev pub controlPlace : ℕ
+controlPlace = 1
+
+abbrev pub keptCount : ℕ
+keptCount = 2
+
+abbrev pub keptIn : Session → ℕ → Slot
+keptIn s j = getD (s .kept) j unknown
+
+abbrev pub keptPut : Session → ℕ → Slot → Session
+keptPut s j n = cond (isSet (s .opened)) (record { opened = s .opened; since = s .since; first = s .first; kept = set (s .kept) j n }) s
 
 abbrev pub openedBy : Session → Slot → Session
-openedBy s n = cond (s .opened) s (record { opened = true; since = n .time; first = n .raw; status = unknown; control = unknown })
+openedBy s n = cond (isSet (s .opened)) s (record { opened = 1; since = n .time; first = n .raw; kept = closedSession .kept })
 
 unfoldable pub sessionAfter : Session → ℕ → Slot → Session
 sessionAfter s k n =
-    cond (eqb k statusKind) (statusPut s n)
+    cond (eqb k statusKind) (keptPut s statusPlace n)
     (cond (eqb k sessionKind) (openedBy s n)
-    (cond (eqb k controlKind) (controlPut s n)
+    (cond (eqb k controlKind) (keptPut s controlPlace n)
     (cond (eqb k finishedKind) closedSession s)))
 
--- ---- the post
+-- ---- the head
 
-abbrev pub latestIn : Post → ℕ → Slot
-latestIn p k = getD (p .latest) k unknown
+-- where an event that is received at t stands
+abbrev pub stampIn : Head → ℕ → ℕ
+stampIn p t = t
 
-unfoldable pub agedTo : Post → ℕ → Post
-agedTo p t = record { used = p .used; channel = p .channel; limits = p .limits; heard = true; time = t; latest = p .latest; session = p .session }
+unfoldable pub agedTo : Head → ℕ → Head
+agedTo p t =
+    record {
+      used = p .used;
+      channel = p .channel;
+      limits = p .limits;
+      heard = 1;
+      time = t;
+      controller = p .controller;
+      parameters = p .parameters;
+      session = p .session;
+    }
 
-unfoldable pub withFrame : Post → ℕ → ℕ → Post
-withFrame p k raw =
+abbrev pub putAt : ℕ → ℕ → Slot → Slot → Slot
+putAt j k n l = cond (eqb k j) n l
+
+unfoldable pub withFrame : Head → ℕ → Slot → Head
+withFrame p k n =
     record {
       used = p .used;
       channel = p .channel;
       limits = p .limits;
       heard = p .heard;
       time = p .time;
-      latest = set (p .latest) k (slotAt (p .time) raw);
-      session = sessionAfter (p .session) k (slotAt (p .time) raw);
+      controller = putAt controllerKind k n (p .controller);
+      parameters = putAt parametersKind k n (p .parameters);
+      session = sessionAfter (p .session) k n;
     }
 
-abbrev pub isEarly : Post → ℕ → Bool
-isEarly p t = p .heard && earlier t (p .time)
+abbrev pub isEarly : Head → ℕ → Bool
+isEarly p t = isSet (p .heard) && earlier t (p .time)
 
--- ---- findings of a post that was aged to the event's time
+-- ---- findings of a head that was aged to the event's time
 
 abbrev pub laterOf : ℕ → Slot → ℕ
-laterOf since st = cond (st .known) (max since (st .time)) since
+laterOf since st = cond (isSet (st .known)) (max since (st .time)) since
 
 unfoldable pub silentIn : Session → ℕ → ℕ → Bool
-silentIn s w now = s .opened && ltb w (elapsed now (laterOf (s .since) (s .status)))
+silentIn s w now = isSet (s .opened) && ltb w (elapsed now (laterOf (s .since) (keptIn s statusPlace)))
 
 unfoldable pub lateAfter : Slot → ℕ → Bool
-lateAfter l now = l .known && ltb 200 (elapsed now (l .time))
+lateAfter l now = isSet (l .known) && ltb 200 (elapsed now (l .time))
 
-unfoldable pub anyFindings : Post → ℕ
-anyFindings p = bit (silentIn (p .session) (p .limits .silence) (p .time)) 1 + bit (lateAfter (latestIn p controllerKind) (p .time)) 2
+unfoldable pub anyFindings : Head → ℕ
+anyFindings p = bit (silentIn (p .session) (p .limits .silence) (p .time)) 1 + bit (lateAfter (p .controller) (p .time)) 2
 
 abbrev pub limitIn : ℕ → (DcPowerParameters → ℕ) → Slot → ℕ
-limitIn most number l = cond (l .known) (capped most (number (parametersIn (l .raw)))) most
+limitIn most number l = cond (isSet (l .known)) (capped most (number (parametersIn (l .raw)))) most
 
 abbrev pub unreadyAfter : Slot → Bool
-unreadyAfter st = cond (st .known) (not (isAllowed (statusIn (st .raw) .enable))) true
+unreadyAfter st = cond (isSet (st .known)) (not (isAllowed (statusIn (st .raw) .enable))) true
 
 unfoldable pub unreadyIn : Session → Bool
-unreadyIn s = s .opened && unreadyAfter (s .status)
+unreadyIn s = isSet (s .opened) && unreadyAfter (keptIn s statusPlace)
 
 abbrev pub carryingAfter : Slot → Bool
-carryingAfter l = l .known && isCarrying (controlIn (l .raw) .function)
+carryingAfter l = isSet (l .known) && isCarrying (controlIn (l .raw) .function)
 
 unfoldable pub carryingIn : Session → Bool
-carryingIn s = s .opened && carryingAfter (s .control)
+carryingIn s = isSet (s .opened) && carryingAfter (keptIn s controlPlace)
 
-unfoldable pub controlFindings : Post → DcPowerControl → ℕ
+unfoldable pub controlFindings : Head → DcPowerControl → ℕ
 controlFindings p d =
-    bit (isClose (d .contactors) && not (p .session .opened)) 4
-    + bit (isPowered (d .function) && not (p .session .opened)) 8
+    bit (isClose (d .contactors) && not (isSet (p .session .opened))) 4
+    + bit (isPowered (d .function) && not (isSet (p .session .opened))) 8
     + bit (isPowered (d .function) && unreadyIn (p .session)) 16
     + bit (lowersBadly d) 32
-    + bit (not (isOff (d .function)) && ltb (limitIn (p .limits .voltage) (λ q. q .voltage) (latestIn p parametersKind)) (d .target)) 64
+    + bit (not (isOff (d .function)) && ltb (limitIn (p .limits .voltage) (λ q. q .voltage) (p .parameters)) (d .target)) 64
 
-unfoldable pub statusFindings : Post → PowerModulesStatus → ℕ
+unfoldable pub statusFindings : Head → PowerModulesStatus → ℕ
 statusFindings p s =
-    bit (p .session .opened && outside (s .current) (limitIn (p .limits .charge) (λ q. q .charge) (latestIn p parametersKind)) (limitIn (p .limits .discharge) (λ q. q .discharge) (latestIn p parametersKind))) 128
+    bit (isSet (p .session .opened) && outside (s .current) (limitIn (p .limits .charge) (λ q. q .charge) (p .parameters)) (limitIn (p .limits .discharge) (λ q. q .discharge) (p .parameters))) 128
     + bit (carryingIn (p .session) && badInsulation (sensorOf (p .limits .sensor)) s) 256
 
 unfoldable pub openingFindings : Session → NewChargeSession → ℕ
-openingFindings s n = bit (s .opened && differs (sessionIn (s .first)) n) 512
+openingFindings s n = bit (isSet (s .opened) && differs (sessionIn (s .first)) n) 512
 
 unfoldable pub finishedFindings : Session → ℕ
-finishedFindings s = bit (not (s .opened)) 1024
+finishedFindings s = bit (not (isSet (s .opened))) 1024
 
-unfoldable pub messageFindings : Post → ℕ → ℕ → ℕ
+unfoldable pub messageFindings : Head → ℕ → ℕ → ℕ
 messageFindings p k raw =
     cond (eqb k statusKind) (statusFindings p (statusIn raw))
     (cond (eqb k sessionKind) (openingFindings (p .session) (sessionIn raw))
@@ -127,52 +153,76 @@ messageFindings p k raw =
 
 -- ---- the steps
 
-unfoldable pub tickStep : Post → ℕ → Stepped
-tickStep p t = record { post = agedTo p t; findings = anyFindings (agedTo p t) }
+unfoldable pub tickStep : Head → ℕ → Stepped
+tickStep p t =
+    record { head = agedTo p (stampIn p t); slot = unknown; at = kindCount; findings = anyFindings (agedTo p (stampIn p t)) }
 
-unfoldable pub frameStep : Post → ℕ → ℕ → ℕ → Stepped
+unfoldable pub frameStep : Head → ℕ → ℕ → ℕ → Stepped
 frameStep p t k raw =
-    record { post = withFrame (agedTo p t) k raw; findings = anyFindings (agedTo p t) + messageFindings (agedTo p t) k raw }
+    record {
+      head = withFrame (agedTo p (stampIn p t)) k (slotAt (stampIn p t) raw);
+      slot = slotAt (stampIn p t) raw;
+      at = k;
+      findings = anyFindings (agedTo p (stampIn p t)) + messageFindings (agedTo p (stampIn p t)) k raw;
+    }
+
+-- ---- the post with a head, and with a frame of a kind; a number that is no kind leaves the latest frames as they were
+
+abbrev pub keepIn : List Slot → ℕ → Slot → List Slot
+keepIn l k n = cond (ltb k kindCount) (set l k n) l
+
+abbrev pub stored : Post → Head → ℕ → Slot → Post
+stored p d k n = record { head = d; latest = keepIn (p .latest) k n }
 
 -- ---- posts that nothing was heard of
 
 abbrev pub noLimits : PlainLimits
 noLimits = record { voltage = 0; charge = 0; discharge = 0; silence = 0; sensor = 0 }
 
+abbrev pub newHead : ℕ → ℕ → PlainLimits → Head
+newHead used c lim =
+    record { used = used; channel = c; limits = lim; heard = 0; time = 0; controller = unknown; parameters = unknown; session = closedSession }
+
+abbrev pub newPost : ℕ → ℕ → PlainLimits → Post
+newPost used c lim = record { head = newHead used c lim; latest = replicate kindCount unknown }
+
 -- a post that is not set up
 abbrev pub freePost : Post
-freePost = record { used = false; channel = 0; limits = noLimits; heard = false; time = 0; latest = replicate kindCount unknown; session = closedSession }
+freePost = newPost 0 0 noLimits
 
 abbrev pub freshPost : ℕ → PlainLimits → Post
-freshPost c lim = record { used = true; channel = c; limits = lim; heard = false; time = 0; latest = replicate kindCount unknown; session = closedSession }
+freshPost c lim = newPost 1 c lim
 
 -- ---- the record that a post hands out
 
-abbrev pub datedIn : ℕ → Slot → Dated
-datedIn k l = cond (l .known) (dated.At (l .time) (messageOf k (l .raw))) dated.Nothing
+abbrev pub latestIn : Post → ℕ → Slot
+latestIn p k = getD (p .latest) k unknown
 
-abbrev pub partIn : Session → SessionPart
-partIn s =
-    cond (s .opened)
+abbrev pub datedIn : ℕ → ℕ → Slot → Dated
+datedIn now k l = cond (isSet (l .known)) (dated.At (receivedOf (l .time)) (messageOf k (l .raw))) dated.Nothing
+
+abbrev pub partIn : ℕ → Session → SessionPart
+partIn now s =
+    cond (isSet (s .opened))
     (part.Opened
     (record {
-      since = s .since;
+      since = receivedOf (s .since);
       protocol = sessionIn (s .first) .protocol;
       plug = sessionIn (s .first) .plug;
-      status = datedIn statusKind (s .status);
-      control = datedIn controlKind (s .control);
+      status = datedIn now statusKind (keptIn s statusPlace);
+      control = datedIn now controlKind (keptIn s controlPlace);
     }))
     part.Closed
 
-abbrev pub lastIn : Post → LastTime
-lastIn p = cond (p .heard) (last.At (p .time)) last.Never
+abbrev pub lastIn : Head → LastTime
+lastIn p = cond (isSet (p .heard)) (last.At (receivedOf (p .time))) last.Never
 
 unfoldable pub recordIn : Post → Record
 recordIn p =
     record {
-      channel = p .channel;
-      limits = limitsOf (p .limits);
-      last = lastIn p;
-      latest = map (λ k. record { message = datedIn k (latestIn p k) }) (countFrom 0 kindCount);
-      session = partIn (p .session);
+      channel = p .head .channel;
+      limits = limitsOf (p .head .limits);
+      last = lastIn (p .head);
+      latest = map (λ k. record { message = datedIn (p .head .time) k (latestIn p k) }) (countFrom 0 kindCount);
+      session = partIn (p .head .time) (p .head .session);
     }

@@ -12,40 +12,57 @@ use rule_limits::PlainLimits;
 
 pub const KINDS: usize = 12;
 
-// ---- a post as the table keeps it: plain data, so that a table of posts can be lent from C
+// ---- a post as the table keeps it: plain data, so that a table of posts can be lent from C. A flag is a whole word, 0 or 1, and times are as wide as words:
+// nothing that is stepped by value has padding, which the compiler would carry along byte by byte.
 
 // The latest frame of a kind, as it came.
 #[repr(C)]
 pub struct Slot {
-    pub known: bool,
-    pub time: u32,
+    pub known: u64,
+    pub time: u64,
     pub raw: u64,
 }
+
+// A session keeps the latest Power_Modules_Status and the latest DC_Power_Control that were accepted in it.
+pub const STATUS_PLACE: usize = 0;
+
+pub const CONTROL_PLACE: usize = 1;
+
+pub const KEPT: usize = 2;
 
 // All zero where none is open. `first` is the payload number of the New_Charge_Session that opened it.
 #[repr(C)]
 pub struct Session {
-    pub opened: bool,
-    pub since: u32,
+    pub opened: u64,
+    pub since: u64,
     pub first: u64,
-    pub status: Slot,
-    pub control: Slot,
+    pub kept: [Slot; KEPT],
+}
+
+// What the rules read of a post. The latest Advantics_Controller_Status and DC_Power_Parameters stand here too, so that they read nothing else.
+#[repr(C)]
+pub struct Head {
+    pub used: u32,
+    pub channel: u32,
+    pub limits: PlainLimits,
+    pub heard: u32,
+    pub time: u64,
+    pub controller: Slot,
+    pub parameters: Slot,
+    pub session: Session,
 }
 
 #[repr(C)]
 pub struct Post {
-    pub used: bool,
-    pub channel: u32,
-    pub limits: PlainLimits,
-    pub heard: bool,
-    pub time: u32,
+    pub head: Head,
     pub latest: [Slot; KINDS],
-    pub session: Session,
 }
 
-// A post after an event, and the event's findings.
+// A head after an event, the slot that the event fills and its kind (KINDS where it fills none), and the event's findings.
 pub struct Stepped {
-    pub post: Post,
+    pub head: Head,
+    pub slot: Slot,
+    pub at: usize,
     pub findings: u32,
 }
 

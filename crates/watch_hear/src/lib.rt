@@ -1,53 +1,76 @@
-// One post hears what comes to it: 2, then the reader's 3 to 6, then the findings. For the tables of posts.
+// One post hears what comes to it: 1 where it does not hold the channel, 2, then the reader's 3 to 6, then the findings. For every way to step a table of posts.
 ghost use mathlib.Core.Path.{_≡_};
-ghost use Rattle.watch_rules.specs.Table.{heardOf, arrivalOf};
+ghost use Rattle.watch_rules.specs.Table.{arrivalFor, turnedAway, heardOf};
 use page_read::Judged;
 use refusals::Refusal;
-use rules::Post;
+use rule_limits::PlainLimits;
+use rules::Head;
+use rules::KINDS;
+use rules::Slot;
 use watch_rules::Answer;
 use watch_rules::Arrival;
 use watch_rules::Heard;
 
-// What a frame is to a post, by what its reader said.
-pub fn arriving(j: Judged) -> Arrival
-    ensures { λ r. ⌜ r ≡ arrivalOf j ⌝ }
+// What a frame is to a post, by its limits and by what its reader says.
+pub fn arrival_for(limits: PlainLimits, id: u32, extended: bool, payload: &[u8]) -> Arrival
+    ensures { λ r. ⌜ r ≡ arrivalFor limits id extended (now (payload .entry)) ⌝ }
 {
-    match j {
+    match page_read::judge(id, extended, payload) {
         Judged::Frame(kind, raw) => Arrival::Frame(kind, raw),
         Judged::Refused(w) => Arrival::Unread(w),
     }
 }
 
-// 2, then the reader's 3 to 6, then the findings.
-pub fn hear(p: Post, time: u32, a: Arrival) -> Heard
-    ensures { λ r. ⌜ r ≡ heardOf p time a ⌝ }
+fn turned_away(h: Head, w: Refusal) -> Heard
+    ensures { λ r. ⌜ r ≡ turnedAway h w ⌝ }
 {
-    if post_times::is_early(p, time) {
-        return Heard {
-            post: p,
-            answer: Answer::Refused(Refusal::Earlier),
-        };
+    Heard {
+        head: h,
+        slot: Slot {
+            known: 0,
+            time: 0,
+            raw: 0,
+        },
+        at: KINDS,
+        answer: Answer::Refused(w),
+    }
+}
+
+pub fn hear(h: Head, channel: u32, time: u32, a: Arrival) -> Heard
+    ensures { λ r. ⌜ r ≡ heardOf h channel time a ⌝ }
+{
+    if 31 < channel {
+        return turned_away(h, Refusal::ChannelFree);
+    }
+    if !watch_places::holds_channel(h, channel) {
+        return turned_away(h, Refusal::ChannelFree);
+    }
+    if post_times::is_early(h, time) {
+        return turned_away(h, Refusal::Earlier);
     }
     match a {
         Arrival::Tick => {
-            let r = post::tick(p, time);
-            let q = r.post;
+            let r = post::tick(h, time);
+            let g = r.head;
+            let slot = r.slot;
             Heard {
-                post: q,
+                head: g,
+                slot,
+                at: r.at,
                 answer: Answer::Findings(r.findings),
             }
         }
         Arrival::Frame(kind, raw) => {
-            let r = post::frame(p, time, kind, raw);
-            let q = r.post;
+            let r = post::frame(h, time, kind, raw);
+            let g = r.head;
+            let slot = r.slot;
             Heard {
-                post: q,
+                head: g,
+                slot,
+                at: r.at,
                 answer: Answer::Findings(r.findings),
             }
         }
-        Arrival::Unread(w) => Heard {
-            post: p,
-            answer: Answer::Refused(w),
-        },
+        Arrival::Unread(w) => turned_away(h, w),
     }
 }

@@ -11,13 +11,13 @@ use Rattle.rules.specs.declared.Post.{Post}
 use Rattle.watch_rules.specs.Table.{holds, placeOf, noPost}
 
 module _ (l : List Post) (i c : ℕ) (passed : placeOf l c ≡ i + placeOf (drop i l) c) where
-  pub place-on : i < length l → holds (getD l i noPost) c ≡ false → placeOf l c ≡ (i + 1) + placeOf (drop (i + 1) l) c
+  pub place-on : i < length l → holds (getD l i noPost .head) c ≡ false → placeOf l c ≡ (i + 1) + placeOf (drop (i + 1) l) c
   unfolding placeOf
   place-on h e =
       let s : placeOf (drop i l) c ≡ suc (placeOf (drop (suc i) l) c) = rw (drop-cons l i noPost h, e) in
       rw (add-one i) (omega arith)
 
-  pub place-here : i < length l → holds (getD l i noPost) c ≡ true → placeOf l c ≡ i
+  pub place-here : i < length l → holds (getD l i noPost .head) c ≡ true → placeOf l c ≡ i
   unfolding placeOf
   place-here h e =
       let s : placeOf (drop i l) c ≡ 0 = rw (drop-cons l i noPost h, e) in

@@ -11,8 +11,10 @@ use Rattle.refusals.specs.declared.Refusal.the-variants.{ChannelFree, Earlier}
 use Rattle.page_read.specs.declared.Judged.the-variants as judged
 use Rattle.page_read.specs.Judge.{judgeOf}
 use Rattle.rule_limits.specs.declared.PlainLimits.{PlainLimits}
+use Rattle.rules.specs.declared.Head.{Head}
 use Rattle.rules.specs.declared.Post.{Post}
-use Rattle.rules.specs.History.{History, earlierIn}
+use Rattle.rules.specs.Record.{isSet}
+use Rattle.rules.specs.History.{Event, History, earlierIn}
 use Rattle.rules.specs.History as history
 use Rattle.rules.specs.Rules.{findings01}
 use Rattle.watch_rules.specs.declared.Table.{Table}
@@ -20,12 +22,11 @@ use Rattle.watch_rules.specs.declared.Answer.{Answer}
 use Rattle.watch_rules.specs.declared.Answer.the-variants.{Findings, Refused}
 use Rattle.watch_rules.specs.declared.Setting.{Setting}
 use Rattle.watch_rules.specs.declared.Setting.the-variants as setting
-use Rattle.watch_rules.specs.declared.Arrival.{Arrival}
-use Rattle.watch_rules.specs.declared.Arrival.the-variants.{Tick, Frame, Unread}
-use Rattle.watch_rules.specs.Table.{postCount, isChannel, holds, noPost, arrivalOf, emptyTable, lookUpOf}
-use Rattle.watch_rules.specs.Steps.{Step, Steps, Standing, free, held, standing, holdsIn, holder, otherHolds, answerIn, feed01, setUp01, release01, lookUp01, ifFound, feedSteps, ifDone, setUpSteps, releaseSteps, Apart, InRange, Kept}
-use Rattle.watch_rules.specs.Run.{Request, setUp, release, frame, tick, Reply, set, fed, reply, next, run, reply01, steps01, accepted, isRefusal, concerns, Unheld, arrivesOn, postIn, runFrom, repliesFrom, acceptedFrom, replies01From}
-use Rattle.watch_rules.proofs.Standings.{standing-none, standing-setUp, standing-setUp-other, standing-release, standing-release-other, standing-event, standing-event-other, held-on, holder-holds, holder-is, others-alike}
+use Rattle.watch_rules.specs.Table.{postCount, isChannel, holds, noPost, postIn, Arriving, framing, ticking, emptyTable, isPost, lookUpOf}
+use Rattle.watch_rules.specs.Steps as step
+use Rattle.watch_rules.specs.Steps.{event, Step, Steps, Standing, free, held, standing, holdsIn, holder, otherHolds, answerIn, feed01, setUp01, release01, lookUp01, ifFound, feedSteps, ifDone, setUpSteps, releaseSteps, Apart, InRange, Kept}
+use Rattle.watch_rules.specs.Run.{Request, setUp, release, frame, tick, Reply, set, fed, reply, next, run, reply01, steps01, accepted, isRefusal, concerns, Unheld, arrivesOn, runFrom, repliesFrom, acceptedFrom, replies01From}
+use Rattle.watch_rules.proofs.Standings.{standing-none, standing-setUp, standing-setUp-other, standing-release, standing-release-other, standing-event, standing-event-other, over-setUp, over-release, over-event, held-on, holder-holds, holder-is, others-alike}
 use Rattle.watch_rules.proofs.Tables.{holds-look, post-at}
 use Rattle.watch_rules.proofs.Right.{feed-right, setUp-right, release-right, lookUp-right, empty-kept}
 use Rattle.watch_rules.proofs.Refusing.{refused-table, refused-steps}
@@ -36,14 +37,14 @@ module _ (t : Table) (s : Steps) (kept : Kept t s) where
   next-kept : (a : Request) → Kept (next t a) (steps01 s a)
   next-kept (setUp i c lim) = setUp-right t s i c lim kept .kept
   next-kept (release i) = release-right t s i kept .kept
-  next-kept (frame c time m x bs) = feed-right t s c time (arrivalOf (judgeOf m x bs)) kept .kept
-  next-kept (tick c time) = feed-right t s c time Tick kept .kept
+  next-kept (frame c time m x bs) = feed-right t s c time (framing m x bs) kept .kept
+  next-kept (tick c time) = feed-right t s c time ticking kept .kept
 
   reply-right : (a : Request) → reply t a ≡ reply01 s a
   reply-right (setUp i c lim) = ap set (setUp-right t s i c lim kept .answer)
   reply-right (release i) = ap set (release-right t s i kept .answer)
-  reply-right (frame c time m x bs) = ap fed (feed-right t s c time (arrivalOf (judgeOf m x bs)) kept .answer)
-  reply-right (tick c time) = ap fed (feed-right t s c time Tick kept .answer)
+  reply-right (frame c time m x bs) = ap fed (feed-right t s c time (framing m x bs) kept .answer)
+  reply-right (tick c time) = ap fed (feed-right t s c time ticking kept .answer)
 
 -- ---- any requests
 
@@ -62,7 +63,7 @@ pub every-record : (rs : List Request) (i : ℕ) → lookUpOf (run rs) i ≡ loo
 every-record rs i = lookUp-right (run rs) (accepted rs) i (run-kept rs)
 
 module _ (rs : List Request) (i c : ℕ) (lim : PlainLimits) (h : History) (low : i < postCount) (own : standing i (accepted rs) ≡ held c lim h) where
-  feed-own : (t : ℕ) (a : Arrival) → feed01 (accepted rs) c t a ≡ answerIn (held c lim h) t a
+  feed-own : (t : ℕ) (a : Arriving) → feed01 (accepted rs) c t a ≡ answerIn (held c lim h) t a
   unfolding feed01
   feed-own t a =
       let has : holdsIn (standing i (accepted rs)) c ≡ true = ap (λ (x : Standing). holdsIn x c) own ∙ eq-eqb c c refl in
@@ -71,16 +72,16 @@ module _ (rs : List Request) (i c : ℕ) (lim : PlainLimits) (h : History) (low 
 
   -- The same for the post that holds the channel, over its limits and its own history: 2 where the time is earlier than its latest, else the findings of 01's rules.
   pub own-tick : (t : ℕ) → reply (run rs) (tick c t) ≡ fed (cond (earlierIn h t) (Refused Earlier) (Findings (findings01 lim h (history.tick t))))
-  own-tick t = every-answer rs (tick c t) ∙ ap fed (feed-own t Tick)
+  own-tick t = every-answer rs (tick c t) ∙ ap fed (feed-own t ticking)
 
   pub own-frame : (t m : ℕ) (x : Bool) (bs : List ℕ) (k n : ℕ) → judgeOf m x bs ≡ judged.Frame k n
       → reply (run rs) (frame c t m x bs) ≡ fed (cond (earlierIn h t) (Refused Earlier) (Findings (findings01 lim h (history.frame t k n))))
-  own-frame t m x bs k n e = every-answer rs (frame c t m x bs) ∙ ap fed (rw e (feed-own t (Frame k n)))
+  own-frame t m x bs k n e = every-answer rs (frame c t m x bs) ∙ ap fed (feed-own t (framing m x bs) ∙ rw e)
 
   -- and for a frame that its reader refuses
   pub own-unread : (t m : ℕ) (x : Bool) (bs : List ℕ) (w : Refusal) → judgeOf m x bs ≡ judged.Refused w
       → reply (run rs) (frame c t m x bs) ≡ fed (cond (earlierIn h t) (Refused Earlier) (Refused w))
-  own-unread t m x bs w e = every-answer rs (frame c t m x bs) ∙ ap fed (rw e (feed-own t (Unread w)))
+  own-unread t m x bs w e = every-answer rs (frame c t m x bs) ∙ ap fed (feed-own t (framing m x bs) ∙ rw e)
 
 -- ---- a refused request
 
@@ -88,6 +89,50 @@ module _ (rs : List Request) (i c : ℕ) (lim : PlainLimits) (h : History) (low 
 pub refused-nothing : (rs : List Request) (a : Request) → isRefusal (reply (run rs) a) ≡ true → (run (a ∷ rs) ≡ run rs) × (accepted (a ∷ rs) ≡ accepted rs)
 unfolding run accepted
 refused-nothing rs a q = (refused-table (run rs) a q, refused-steps (accepted rs) a (sym (ap isRefusal (every-answer rs a)) ∙ q))
+
+-- ---- only a post of the table is ever set up
+
+abbrev InTable : ℕ → Standing → Type 0
+InTable i free = Unit {0}
+InTable i (held c lim h) = i < postCount
+
+module _ (s : Steps) (i : ℕ) (was : InTable i (standing i s)) where
+  low-set : (k c : ℕ) (lim : PlainLimits) → InTable i (standing i (setUpSteps s k c lim))
+  unfolding setUpSteps setUp01
+  low-set k c lim = go (isPost k) refl
+    where
+      done : isPost k ≡ true → (r : Setting) → InTable i (standing i (ifDone r (step.setUp k c lim) s))
+      done post setting.Done = over-setUp s (InTable i) i k c lim (λ e. subst (λ (j : ℕ). j < postCount) e (ltb-true k postCount post)) (λ ne. was)
+      done post (setting.Refused w) = was
+
+      go : (b : Bool) → isPost k ≡ b → InTable i (standing i (setUpSteps s k c lim))
+      go true e = done e (setUp01 s k c lim)
+      go false e = rw e was
+
+  low-done : (r : Setting) (k : ℕ) → InTable i (standing i (ifDone r (step.release k) s))
+  low-done setting.Done k = over-release s (InTable i) i k tt was
+  low-done (setting.Refused w) k = was
+
+  low-found : (r : Answer) (c : ℕ) (e : Event) → InTable i (standing i (ifFound r (event c e) s))
+  low-found (Findings n) c e = over-event s (InTable i) i c e (λ lim h low. low) was
+  low-found (Refused w) c e = was
+
+  low-next : (a : Request) → InTable i (standing i (steps01 s a))
+  unfolding releaseSteps feedSteps
+  low-next (setUp k c lim) = low-set k c lim
+  low-next (release k) = low-done (release01 s k) k
+  low-next (frame c time m x bs) = low-found (feed01 s c time (framing m x bs)) c _
+  low-next (tick c time) = low-found (feed01 s c time ticking) c _
+
+in-table : (rs : List Request) (i : ℕ) → InTable i (standing i (accepted rs))
+unfolding accepted
+in-table [] i = rw (standing-none i) tt
+in-table (a ∷ rs) i = low-next (accepted rs) i (in-table rs i) a
+
+-- so its post is the one that is found by its channel
+holder-own : (rs : List Request) (i c : ℕ) (lim : PlainLimits) (h : History) → standing i (accepted rs) ≡ held c lim h → holder (accepted rs) c ≡ i
+holder-own rs i c lim h own =
+    holder-is (accepted rs) (run-kept rs .apart) i c (subst (InTable i) own (in-table rs i)) (ap (λ (x : Standing). holdsIn x c) own ∙ eq-eqb c c refl)
 
 -- ---- a post's standing, request by request: a refused one adds nothing, one about another post neither (`others-standing`), and an accepted one of its own this
 
@@ -115,15 +160,15 @@ module _ (rs : List Request) (i : ℕ) where
     pub counted-tick : reply (run rs) (tick c t) ≡ fed (Findings found) → standing i (accepted (tick c t ∷ rs)) ≡ held c lim (history.tick t ∷ h)
     unfolding accepted feedSteps
     counted-tick q =
-        let z : feed01 (accepted rs) c t Tick ≡ Findings found = cc (every-answer rs (tick c t)) in
-        rw z (standing-event (accepted rs) i c lim h (history.tick t) own)
+        let z : feed01 (accepted rs) c t ticking ≡ Findings found = cc (every-answer rs (tick c t)) in
+        rw (z, holder-own rs i c lim h own, own) (standing-event (accepted rs) i c lim h (history.tick t) own)
 
     pub counted-frame : (m : ℕ) (x : Bool) (bs : List ℕ) (k n : ℕ) → judgeOf m x bs ≡ judged.Frame k n → reply (run rs) (frame c t m x bs) ≡ fed (Findings found)
         → standing i (accepted (frame c t m x bs ∷ rs)) ≡ held c lim (history.frame t k n ∷ h)
     unfolding accepted feedSteps
     counted-frame m x bs k n e q =
-        let z : feed01 (accepted rs) c t (arrivalOf (judgeOf m x bs)) ≡ Findings found = cc (every-answer rs (frame c t m x bs)) in
-        rw (z, e) (standing-event (accepted rs) i c lim h (history.frame t k n) own)
+        let z : feed01 (accepted rs) c t (framing m x bs) ≡ Findings found = cc (every-answer rs (frame c t m x bs)) in
+        rw (z, holder-own rs i c lim h own, own, e) (standing-event (accepted rs) i c lim h (history.frame t k n) own)
 
 -- ---- a request about another post
 
@@ -140,8 +185,8 @@ module _ (s : Steps) (j : ℕ) where
   unfolding setUpSteps releaseSteps feedSteps
   steps-other (setUp i c lim) q = done-other (setUp01 s i c lim) _ (standing-setUp-other s i c lim j q)
   steps-other (release i) q = done-other (release01 s i) _ (standing-release-other s i j q)
-  steps-other (frame c time m x bs) q = found-other (feed01 s c time (arrivalOf (judgeOf m x bs))) _ (standing-event-other s c _ j q)
-  steps-other (tick c time) q = found-other (feed01 s c time Tick) _ (standing-event-other s c _ j q)
+  steps-other (frame c time m x bs) q = found-other (feed01 s c time (framing m x bs)) _ (standing-event-other s c _ j q)
+  steps-other (tick c time) q = found-other (feed01 s c time ticking) _ (standing-event-other s c _ j q)
 
 -- no request about one post changes another's history, channel or limits
 pub others-standing : (rs : List Request) (a : Request) (j : ℕ) → concerns (accepted rs) a j ≡ false → standing j (accepted (a ∷ rs)) ≡ standing j (accepted rs)
@@ -169,7 +214,7 @@ no-channel rs c q i h = go (holdsIn (standing i (accepted rs)) c) refl
         let range : InRange (held c (o .0) (o .1)) = subst InRange (o .2) (run-kept rs .ranges i h) in
         absurd (true≢false (sym (range .0) ∙ q))
 
-free-answer : (s : Steps) (c : ℕ) → Unheld s c → (t : ℕ) (a : Arrival) → feed01 s c t a ≡ Refused ChannelFree
+free-answer : (s : Steps) (c : ℕ) → Unheld s c → (t : ℕ) (a : Arriving) → feed01 s c t a ≡ Refused ChannelFree
 unfolding feed01
 free-answer s c unheld t a = go (isChannel c) (ltb (holder s c) postCount) refl
   where
@@ -188,8 +233,8 @@ nobody-holds rs c unheld a q = let z : reply (run rs) a ≡ fed (Refused Channel
     free : (x : Request) → arrivesOn c x ≡ true → reply01 (accepted rs) x ≡ fed (Refused ChannelFree)
     free (setUp i d lim) e = absurd (true≢false (sym e))
     free (release i) e = absurd (true≢false (sym e))
-    free (frame d time m x bs) e = rw (eqb-true d c e) (ap fed (free-answer (accepted rs) c unheld time (arrivalOf (judgeOf m x bs))))
-    free (tick d time) e = rw (eqb-true d c e) (ap fed (free-answer (accepted rs) c unheld time Tick))
+    free (frame d time m x bs) e = rw (eqb-true d c e) (ap fed (free-answer (accepted rs) c unheld time (framing m x bs)))
+    free (tick d time) e = rw (eqb-true d c e) (ap fed (free-answer (accepted rs) c unheld time ticking))
 
 -- ---- no channel is held twice
 
@@ -197,21 +242,21 @@ nobody-holds rs c unheld a q = let z : reply (run rs) a ≡ fed (Refused Channel
 pub one-holder : (rs : List Request) → Apart (accepted rs)
 one-holder rs = run-kept rs .apart
 
-used-holds : (p : Post) (c : ℕ) → p .used ≡ true → p .channel ≡ c → holds p c ≡ true
+used-holds : (p : Head) (c : ℕ) → isSet (p .used) ≡ true → p .channel ≡ c → holds p c ≡ true
 used-holds p c used on = rw (used, eq-eqb (p .channel) c on)
 
-holding : (rs : List Request) (i c : ℕ) → i < postCount → postIn (run rs) i .used ≡ true → postIn (run rs) i .channel ≡ c → holdsIn (standing i (accepted rs)) c ≡ true
+holding : (rs : List Request) (i c : ℕ) → i < postCount → isSet (postIn (run rs) i .head .used) ≡ true → postIn (run rs) i .head .channel ≡ c → holdsIn (standing i (accepted rs)) c ≡ true
 holding rs i c h used on =
     sym (holds-look (standing i (accepted rs)) c)
-    ∙ ap (λ (p : Post). holds p c) (sym (ap (λ (t : Table). postIn t i) (run-kept rs .table) ∙ post-at (accepted rs) i h))
-    ∙ used-holds (postIn (run rs) i) c used on
+    ∙ ap (λ (p : Post). holds (p .head) c) (sym (ap (λ (ps : List Post). getD ps i noPost) (run-kept rs .posts) ∙ post-at (accepted rs) i h))
+    ∙ used-holds (postIn (run rs) i .head) c used on
 
 -- the same of the table itself
-pub one-place : (rs : List Request) (i j : ℕ) → i < postCount → j < postCount → postIn (run rs) i .used ≡ true → postIn (run rs) j .used ≡ true
-    → postIn (run rs) i .channel ≡ postIn (run rs) j .channel → i ≡ j
+pub one-place : (rs : List Request) (i j : ℕ) → i < postCount → j < postCount → isSet (postIn (run rs) i .head .used) ≡ true → isSet (postIn (run rs) j .head .used) ≡ true
+    → postIn (run rs) i .head .channel ≡ postIn (run rs) j .head .channel → i ≡ j
 unfolding Apart
 one-place rs i j hi hj used used′ same =
-    one-holder rs i j (postIn (run rs) j .channel) hi hj (holding rs i (postIn (run rs) j .channel) hi used same) (holding rs j (postIn (run rs) j .channel) hj used′ refl)
+    one-holder rs i j (postIn (run rs) j .head .channel) hi hj (holding rs i (postIn (run rs) j .head .channel) hi used same) (holding rs j (postIn (run rs) j .head .channel) hj used′ refl)
 
 -- ---- independence: "Of the answers about a post only a set-up's refusal may depend on other posts, and only on the channels they hold"
 
@@ -233,7 +278,7 @@ module _ (rs qs : List Request) (i : ℕ) (same : standing i (accepted rs) ≡ s
   pub alike-arrival : i < postCount → (c : ℕ) → holdsIn (standing i (accepted rs)) c ≡ true → (a : Request) → arrivesOn c a ≡ true → reply (run rs) a ≡ reply (run qs) a
   alike-arrival low c q a e = go (held-on (standing i (accepted rs)) c q) a e
     where
-      answers : (o : (lim : PlainLimits) × (h : History) × (standing i (accepted rs) ≡ held c lim h)) (t : ℕ) (x : Arrival)
+      answers : (o : (lim : PlainLimits) × (h : History) × (standing i (accepted rs) ≡ held c lim h)) (t : ℕ) (x : Arriving)
           → feed01 (accepted rs) c t x ≡ feed01 (accepted qs) c t x
       answers o t x = feed-own rs i c (o .0) (o .1) low (o .2) t x ∙ sym (feed-own qs i c (o .0) (o .1) low (sym same ∙ o .2) t x)
 
@@ -241,9 +286,9 @@ module _ (rs qs : List Request) (i : ℕ) (same : standing i (accepted rs) ≡ s
       go o (setUp k d lim) e′ = absurd (true≢false (sym e′))
       go o (release k) e′ = absurd (true≢false (sym e′))
       go o (frame d time m x bs) e′ =
-          rw (eqb-true d c e′) (both rs qs (frame c time m x bs) (ap fed (answers o time (arrivalOf (judgeOf m x bs)))))
+          rw (eqb-true d c e′) (both rs qs (frame c time m x bs) (ap fed (answers o time (framing m x bs))))
       go o (tick d time) e′ =
-          rw (eqb-true d c e′) (both rs qs (tick c time) (ap fed (answers o time Tick)))
+          rw (eqb-true d c e′) (both rs qs (tick c time) (ap fed (answers o time ticking)))
 
 setUp-alike : (s z : Steps) (i c : ℕ) (lim : PlainLimits) → otherHolds s i c 0 postCount ≡ otherHolds z i c 0 postCount → setUp01 s i c lim ≡ setUp01 z i c lim
 unfolding setUp01

@@ -19,7 +19,7 @@ use Rattle.rules.specs.History.{History, sinceFinished, opening, inSession, ear
 use Rattle.rules.specs.History as history
 use Rattle.rule_asks.specs.Judgements.{lowersBadly, outside, leaking, badInsulation, differs}
 use Rattle.rules.specs.Rules.{sessionStatus, sessionControl, limitOf, f1, f2, f3, f4, f5, f6, f7, f8, f9, f10, f11, findings01}
-use Rattle.rules.specs.Record.{recordOf}
+use Rattle.rules.specs.Record.{recordAt, recordOf}
 use Rattle.watch_rules.specs.declared.Answer.the-variants.{Findings, Refused}
 use Rattle.watch_rules.specs.declared.Setting.the-variants as setting
 use Rattle.watch_rules.specs.Table.{postCount, lookUpOf}

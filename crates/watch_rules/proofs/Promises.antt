@@ -6,13 +6,12 @@ use Rattle.watch_rules.specs.declared.Table.{Table}
 use Rattle.watch_rules.specs.declared.Fed.{Fed}
 use Rattle.watch_rules.specs.declared.Settled.{Settled}
 use Rattle.watch_rules.specs.declared.LookedUp.{LookedUp}
-use Rattle.watch_rules.specs.declared.Arrival.{Arrival}
-use Rattle.watch_rules.specs.Table.{feedOf, setUpOf, releaseOf, lookUpOf}
+use Rattle.watch_rules.specs.Table.{Arriving, feedOf, setUpOf, releaseOf, lookUpOf}
 use Rattle.watch_rules.specs.Steps.{Steps, lookUp01, Kept, FeedRight, SetUpRight, ReleaseRight}
 use Rattle.watch_rules.proofs.Right.{feed-right, setUp-right, release-right, lookUp-right}
 
 module _ (t : Table) where
-  pub fed-both : (c time : ℕ) (a : Arrival) {r : Fed} → r ≡ feedOf t c time a → (r ≡ feedOf t c time a) × ((s : Steps) → Kept t s → FeedRight s c time a r)
+  pub fed-both : (c time : ℕ) (a : Arriving) {r : Fed} → r ≡ feedOf t c time a → (r ≡ feedOf t c time a) × ((s : Steps) → Kept t s → FeedRight s c time a r)
   fed-both c time a e = (e, λ s kept. subst (FeedRight s c time a) (sym e) (feed-right t s c time a kept))
 
   pub set-both : (i c : ℕ) (lim : PlainLimits) {r : Settled} → r ≡ setUpOf t i c lim → (r ≡ setUpOf t i c lim) × ((s : Steps) → Kept t s → SetUpRight s i c lim r)

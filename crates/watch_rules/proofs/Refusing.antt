@@ -2,13 +2,14 @@
 use Prim.Native.Nat.{ℕ}
 use mathlib.Core.Path.{_≡_, refl, ap, sym}
 use mathlib.Core.List.{List}
-use mathlib.Core.Bool.{Bool, true, false, cond, true≢false}
-use lib.Dec.{leb}
-use lib.ListN.{getD}
+use mathlib.Core.Bool.{Bool, true, false, cond, _&&_, true≢false}
+use lib.Dec.{ltb}
 use lib.Seq.{set-getD}
-use Rattle.page_read.specs.Judge.{judgeOf}
+use Rattle.refusals.specs.declared.Refusal.{Refusal}
+use Rattle.refusals.specs.declared.Refusal.the-variants.{ChannelFree, Earlier}
 use Rattle.rule_limits.specs.declared.PlainLimits.{PlainLimits}
 use Rattle.rules.specs.declared.Post.{Post}
+use Rattle.rules.specs.Record.{isSet}
 use Rattle.rules.specs.Step.{isEarly}
 use Rattle.watch_rules.specs.declared.Table.{Table}
 use Rattle.watch_rules.specs.declared.Answer.{Answer}
@@ -20,7 +21,7 @@ use Rattle.watch_rules.specs.declared.Setting.the-variants as setting
 use Rattle.watch_rules.specs.declared.Settled.{Settled}
 use Rattle.watch_rules.specs.declared.Arrival.{Arrival}
 use Rattle.watch_rules.specs.declared.Arrival.the-variants.{Tick, Frame, Unread}
-use Rattle.watch_rules.specs.Table.{postCount, isChannel, placeOf, putIn, noPost, arrivalOf, judgedOf, heardOf, fedBy, feedAt, feedOf, isOther, isPost, setUpOf, releaseOf}
+use Rattle.watch_rules.specs.Table.{postCount, isChannel, holds, placeOf, noPost, postIn, Arriving, framing, ticking, turnedAway, judgedOf, heardOf, fedBy, feedAt, feedOf, isOther, isPost, setUpOf, releaseOf}
 use Rattle.rule_limits.specs.Limits.{limitsFit}
 use Rattle.watch_rules.specs.Steps.{Step, Steps, ifFound, ifDone, feed01, setUp01, release01, feedSteps, setUpSteps, releaseSteps}
 use Rattle.watch_rules.specs.Run.{Request, setUp, release, frame, tick, Reply, set, fed, reply, next, reply01, steps01, isRefusal}
@@ -39,26 +40,25 @@ module _ (t : Table) where
   FedStays r = isRefusal (fed (r .answer)) ≡ true → r .table ≡ t
 
   module _ (i : ℕ) where
-    abbrev there : Post
-    there = getD (t .posts) i noPost
+    -- what is turned away is stored back as it was
+    pub put-same : (w : Refusal) → fedBy t i (turnedAway (postIn t i .head) w) .table ≡ t
+    put-same w = ap (λ (l : List Post). record { posts = l }) (set-getD (t .posts) i noPost)
 
-    put-same : putIn t i there ≡ t
-    put-same = ap (λ (l : List Post). record { posts = l }) (set-getD (t .posts) i noPost)
-
-    heard-stays : (time : ℕ) (a : Arrival) → FedStays (fedBy t i (judgedOf there time a))
+    heard-stays : (time : ℕ) (a : Arrival) → FedStays (fedBy t i (judgedOf (postIn t i .head) time a))
     heard-stays time Tick = never
     heard-stays time (Frame k n) = never
-    heard-stays time (Unread w) = λ q. put-same
+    heard-stays time (Unread w) = λ q. put-same w
 
-    feedAt-stays : (time : ℕ) (a : Arrival) → FedStays (feedAt t i time a)
+    feedAt-stays : (c time : ℕ) (a : Arriving) → FedStays (feedAt t i c time a)
     unfolding feedAt heardOf
-    feedAt-stays time a =
-        either FedStays (leb postCount i) (λ q. refl)
-        (either (λ (h : Heard). FedStays (fedBy t i h)) (isEarly there time) (λ q. put-same) (heard-stays time a))
+    feedAt-stays c time a =
+        either (λ (h : Heard). FedStays (fedBy t i h)) (isChannel c && holds (postIn t i .head) c)
+        (either (λ (h : Heard). FedStays (fedBy t i h)) (isEarly (postIn t i .head) time) (λ q. put-same Earlier) (heard-stays time (a (postIn t i .head .limits))))
+        (λ q. put-same ChannelFree)
 
-  feed-stays : (c time : ℕ) (a : Arrival) → FedStays (feedOf t c time a)
+  feed-stays : (c time : ℕ) (a : Arriving) → FedStays (feedOf t c time a)
   unfolding feedOf
-  feed-stays c time a = either FedStays (isChannel c) (feedAt-stays (placeOf (t .posts) c) time a) (λ q. refl)
+  feed-stays c time a = either FedStays (isChannel c && ltb (placeOf (t .posts) c) postCount) (feedAt-stays (placeOf (t .posts) c) c time a) (λ q. refl)
 
   -- ---- set-ups and releases
 
@@ -78,14 +78,14 @@ module _ (t : Table) where
 
   release-stays : (i : ℕ) → SettledStays (releaseOf t i)
   unfolding releaseOf
-  release-stays i = either SettledStays (isPost i) (either SettledStays (getD (t .posts) i noPost .used) never (λ q. refl)) (λ q. refl)
+  release-stays i = either SettledStays (isPost i) (either SettledStays (isSet (postIn t i .head .used)) never (λ q. refl)) (λ q. refl)
 
   -- 01: "A refusal carries its number only; table, record .. stay as they were."
   pub refused-table : (a : Request) → isRefusal (reply t a) ≡ true → next t a ≡ t
   refused-table (setUp i c lim) = setUp-stays i c lim
   refused-table (release i) = release-stays i
-  refused-table (frame c time m x bs) = feed-stays c time (arrivalOf (judgeOf m x bs))
-  refused-table (tick c time) = feed-stays c time Tick
+  refused-table (frame c time m x bs) = feed-stays c time (framing m x bs)
+  refused-table (tick c time) = feed-stays c time ticking
 
 -- ---- the steps
 
@@ -102,5 +102,5 @@ pub refused-steps : (s : Steps) (a : Request) → isRefusal (reply01 s a) ≡ tr
 unfolding setUpSteps releaseSteps feedSteps
 refused-steps s (setUp i c lim) = done-stays (setUp01 s i c lim) _ s
 refused-steps s (release i) = done-stays (release01 s i) _ s
-refused-steps s (frame c time m x bs) = found-stays (feed01 s c time (arrivalOf (judgeOf m x bs))) _ s
-refused-steps s (tick c time) = found-stays (feed01 s c time Tick) _ s
+refused-steps s (frame c time m x bs) = found-stays (feed01 s c time (framing m x bs)) _ s
+refused-steps s (tick c time) = found-stays (feed01 s c time ticking) _ s

@@ -10,14 +10,11 @@ use Rattle.rules.specs.History.{Event}
 use Rattle.watch_rules.specs.declared.Table.{Table}
 use Rattle.watch_rules.specs.declared.Answer.{Answer}
 use Rattle.watch_rules.specs.declared.Answer.the-variants.{Findings, Refused}
-use Rattle.watch_rules.specs.declared.Fed.{Fed}
 use Rattle.watch_rules.specs.declared.Setting.{Setting}
 use Rattle.watch_rules.specs.declared.Setting.the-variants as setting
-use Rattle.watch_rules.specs.declared.Settled.{Settled}
-use Rattle.watch_rules.specs.declared.Arrival.{Arrival}
-use Rattle.watch_rules.specs.Table.{postCount, isChannel, feedOf, emptyTable, isPost, setUpOf, releaseOf, lookUpOf}
+use Rattle.watch_rules.specs.Table.{postCount, isChannel, Arriving, feedOf, emptyTable, isPost, setUpOf, releaseOf, lookUpOf}
 use Rattle.rule_limits.specs.Limits.{limitsFit}
-use Rattle.watch_rules.specs.Steps.{setUp, release, event, Steps, Standing, standing, holdsIn, otherHolds, feed01, setUp01, release01, lookUp01, eventIn, ifFound, feedSteps, ifDone, setUpSteps, releaseSteps, tableOf, Apart, InRange, Kept, FeedRight, SetUpRight, ReleaseRight}
+use Rattle.watch_rules.specs.Steps.{setUp, release, event, Steps, Standing, standing, holdsIn, holder, otherHolds, feed01, setUp01, release01, lookUp01, eventOn, ifFound, feedSteps, ifDone, setUpSteps, releaseSteps, postsOf, Apart, InRange, Kept, FeedRight, SetUpRight, ReleaseRight}
 use Rattle.watch_rules.proofs.Standings.{standing-none, over-setUp, over-release, over-event, others-none}
 use Rattle.watch_rules.proofs.Tables.{feed-look, setUp-look, release-look, lookUp-look, empty-look}
 
@@ -88,41 +85,35 @@ module _ (s : Steps) (sound : Sound s) where
 
 -- ---- the operations' second promise
 
-kept-sound : (t : Table) (s : Steps) → Sound s → t ≡ tableOf s → Kept t s
-kept-sound t s sound same = record { apart = sound .0; ranges = sound .1; table = same }
+kept-sound : (t : Table) (s : Steps) → Sound s → t .posts ≡ postsOf s → Kept t s
+kept-sound t s sound same = record { apart = sound .0; ranges = sound .1; posts = same }
 
 module _ (t : Table) (s : Steps) where
   sound-kept : Kept t s → Sound s
   sound-kept kept = (kept .apart, kept .ranges)
 
-  pub feed-right : (c time : ℕ) (a : Arrival) → Kept t s → FeedRight s c time a (feedOf t c time a)
+  pub feed-right : (c time : ℕ) (a : Arriving) → Kept t s → FeedRight s c time a (feedOf t c time a)
   unfolding feedSteps
   feed-right c time a kept =
-      let same = ap (λ (u : Table). feedOf u c time a) (kept .table) ∙ feed-look s (kept .apart) c time a in
+      let look = feed-look t s (kept .apart) (kept .posts) c time a in
       record {
-        answer = ap (λ (r : Fed). r .answer) same;
-        kept = kept-sound _ _ (sound-fed s (sound-kept kept) c (eventIn time a) (feed01 s c time a)) (ap (λ (r : Fed). r .table) same);
+        answer = look .0;
+        kept = kept-sound _ _ (sound-fed s (sound-kept kept) c (eventOn (standing (holder s c) s) time a) (feed01 s c time a)) (look .1);
       }
 
   pub setUp-right : (i c : ℕ) (lim : PlainLimits) → Kept t s → SetUpRight s i c lim (setUpOf t i c lim)
   setUp-right i c lim kept =
-      let same = ap (λ (u : Table). setUpOf u i c lim) (kept .table) ∙ setUp-look s (kept .apart) i c lim in
-      record {
-        answer = ap (λ (r : Settled). r .answer) same;
-        kept = kept-sound _ _ (sound-set s (sound-kept kept) i c lim) (ap (λ (r : Settled). r .table) same);
-      }
+      let look = setUp-look t s (kept .apart) (kept .posts) i c lim in
+      record { answer = look .0; kept = kept-sound _ _ (sound-set s (sound-kept kept) i c lim) (look .1) }
 
   pub release-right : (i : ℕ) → Kept t s → ReleaseRight s i (releaseOf t i)
   unfolding releaseSteps
   release-right i kept =
-      let same = ap (λ (u : Table). releaseOf u i) (kept .table) ∙ release-look s i in
-      record {
-        answer = ap (λ (r : Settled). r .answer) same;
-        kept = kept-sound _ _ (sound-released s (sound-kept kept) i (release01 s i)) (ap (λ (r : Settled). r .table) same);
-      }
+      let look = release-look t s (kept .posts) i in
+      record { answer = look .0; kept = kept-sound _ _ (sound-released s (sound-kept kept) i (release01 s i)) (look .1) }
 
   pub lookUp-right : (i : ℕ) → Kept t s → lookUpOf t i ≡ lookUp01 s i
-  lookUp-right i kept = ap (λ (u : Table). lookUpOf u i) (kept .table) ∙ lookUp-look s i
+  lookUp-right i kept = lookUp-look t s (kept .posts) i
 
 pub empty-kept : Kept emptyTable []
 empty-kept = kept-sound emptyTable [] sound-none empty-look

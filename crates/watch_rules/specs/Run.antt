@@ -4,17 +4,13 @@ use mathlib.Core.List.{List, [], _∷_}
 use mathlib.Core.Bool.{Bool, true, false}
 use mathlib.Core.Path.{_≡_}
 use lib.Dec.{eqb}
-use lib.ListN.{getD}
-use Rattle.page_read.specs.Judge.{judgeOf}
 use Rattle.rule_limits.specs.declared.PlainLimits.{PlainLimits}
-use Rattle.rules.specs.declared.Post.{Post}
 use Rattle.watch_rules.specs.declared.Table.{Table}
 use Rattle.watch_rules.specs.declared.Answer.{Answer}
 use Rattle.watch_rules.specs.declared.Answer.the-variants.{Findings, Refused}
 use Rattle.watch_rules.specs.declared.Setting.{Setting}
 use Rattle.watch_rules.specs.declared.Setting.the-variants as setting
-use Rattle.watch_rules.specs.declared.Arrival.the-variants.{Tick}
-use Rattle.watch_rules.specs.Table.{postCount, noPost, emptyTable, arrivalOf, feedOf, setUpOf, releaseOf}
+use Rattle.watch_rules.specs.Table.{postCount, emptyTable, framing, ticking, feedOf, setUpOf, releaseOf}
 use Rattle.watch_rules.specs.Steps.{Steps, standing, holdsIn, feed01, setUp01, release01, feedSteps, setUpSteps, releaseSteps}
 
 -- post, channel, limits; post; channel, time, identifier, extended or not, payload; channel, time
@@ -32,14 +28,14 @@ pub data Reply : Type 0 where
 abbrev pub reply : Table → Request → Reply
 reply t (setUp i c lim) = set (setUpOf t i c lim .answer)
 reply t (release i) = set (releaseOf t i .answer)
-reply t (frame c time m x bs) = fed (feedOf t c time (arrivalOf (judgeOf m x bs)) .answer)
-reply t (tick c time) = fed (feedOf t c time Tick .answer)
+reply t (frame c time m x bs) = fed (feedOf t c time (framing m x bs) .answer)
+reply t (tick c time) = fed (feedOf t c time ticking .answer)
 
 abbrev pub next : Table → Request → Table
 next t (setUp i c lim) = setUpOf t i c lim .table
 next t (release i) = releaseOf t i .table
-next t (frame c time m x bs) = feedOf t c time (arrivalOf (judgeOf m x bs)) .table
-next t (tick c time) = feedOf t c time Tick .table
+next t (frame c time m x bs) = feedOf t c time (framing m x bs) .table
+next t (tick c time) = feedOf t c time ticking .table
 
 -- the table after requests, newest first
 unfoldable pub run : List Request → Table
@@ -50,14 +46,14 @@ run (a ∷ earlier) = next (run earlier) a
 abbrev pub reply01 : Steps → Request → Reply
 reply01 s (setUp i c lim) = set (setUp01 s i c lim)
 reply01 s (release i) = set (release01 s i)
-reply01 s (frame c time m x bs) = fed (feed01 s c time (arrivalOf (judgeOf m x bs)))
-reply01 s (tick c time) = fed (feed01 s c time Tick)
+reply01 s (frame c time m x bs) = fed (feed01 s c time (framing m x bs))
+reply01 s (tick c time) = fed (feed01 s c time ticking)
 
 abbrev pub steps01 : Steps → Request → Steps
 steps01 s (setUp i c lim) = setUpSteps s i c lim
 steps01 s (release i) = releaseSteps s i
-steps01 s (frame c time m x bs) = feedSteps s c time (arrivalOf (judgeOf m x bs))
-steps01 s (tick c time) = feedSteps s c time Tick
+steps01 s (frame c time m x bs) = feedSteps s c time (framing m x bs)
+steps01 s (tick c time) = feedSteps s c time ticking
 
 -- the requests that were accepted
 unfoldable pub accepted : List Request → Steps
@@ -89,9 +85,6 @@ arrivesOn c (setUp i d lim) = false
 arrivesOn c (release i) = false
 arrivesOn c (frame d time m x bs) = eqb d c
 arrivesOn c (tick d time) = eqb d c
-
-abbrev pub postIn : Table → ℕ → Post
-postIn t i = getD (t .posts) i noPost
 
 -- ---- requests in the order in which they arrive
 

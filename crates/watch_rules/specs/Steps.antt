@@ -9,7 +9,7 @@ use Rattle.refusals.specs.declared.Refusal.{Refusal}
 use Rattle.refusals.specs.declared.Refusal.the-variants.{ChannelFree, Earlier, NoSuchPost, NoSuchChannel, ChannelTaken, LimitOutside, NotSetUp}
 use Rattle.rule_limits.specs.declared.PlainLimits.{PlainLimits}
 use Rattle.rules.specs.declared.Post.{Post}
-use Rattle.rules.specs.History.{Event, frame, tick, History, newest, sinceNewest, earlierIn, countFrom}
+use Rattle.rules.specs.History.{Event, frame, tick, History, newest, sinceNewest, stampOf, earlierIn, countFrom}
 use Rattle.rules.specs.Rules.{findings01}
 use Rattle.rules.specs.Record.{recordOf, postOf}
 use Rattle.rules.specs.Step.{freePost}
@@ -23,7 +23,7 @@ use Rattle.watch_rules.specs.declared.Settled.{Settled}
 use Rattle.watch_rules.specs.declared.LookedUp.{LookedUp}
 use Rattle.watch_rules.specs.declared.Arrival.{Arrival}
 use Rattle.watch_rules.specs.declared.Arrival.the-variants.{Tick, Frame, Unread}
-use Rattle.watch_rules.specs.Table.{postCount, isChannel, isPost, notFound}
+use Rattle.watch_rules.specs.Table.{postCount, isChannel, Arriving, isPost, notFound}
 use Rattle.rule_limits.specs.Limits.{limitsFit}
 
 -- ---- accepted steps
@@ -87,16 +87,16 @@ otherHolds s i c k (suc n) = cond (not (eqb k i) && holdsIn (standing k s) c) tr
 
 -- the findings, or the reader's refusal
 abbrev pub found01 : PlainLimits → History → ℕ → Arrival → Answer
-found01 lim h t Tick = Findings (findings01 lim h (tick t))
-found01 lim h t (Frame k n) = Findings (findings01 lim h (frame t k n))
+found01 lim h t Tick = Findings (findings01 lim h (tick (stampOf h t)))
+found01 lim h t (Frame k n) = Findings (findings01 lim h (frame (stampOf h t) k n))
 found01 lim h t (Unread w) = Refused w
 
-abbrev pub answerIn : Standing → ℕ → Arrival → Answer
+abbrev pub answerIn : Standing → ℕ → Arriving → Answer
 answerIn free t a = Refused ChannelFree
-answerIn (held c lim h) t a = cond (earlierIn h t) (Refused Earlier) (found01 lim h t a)
+answerIn (held c lim h) t a = cond (earlierIn h t) (Refused Earlier) (found01 lim h t (a lim))
 
 -- 01: "1: channel above 31, or held by no post", then 2, then the reader's 3 to 6
-unfoldable pub feed01 : Steps → ℕ → ℕ → Arrival → Answer
+unfoldable pub feed01 : Steps → ℕ → ℕ → Arriving → Answer
 feed01 s c t a = cond (isChannel c && ltb (holder s c) postCount) (answerIn (standing (holder s c) s) t a) (Refused ChannelFree)
 
 -- 9, 10, 11, 12
@@ -118,26 +118,30 @@ isHeld (held c lim h) = true
 unfoldable pub release01 : Steps → ℕ → Setting
 release01 s i = cond (isPost i) (cond (isHeld (standing i s)) setting.Done (setting.Refused NotSetUp)) (setting.Refused NoSuchPost)
 
-abbrev pub recordIn : Standing → LookedUp
-recordIn free = notFound NotSetUp
-recordIn (held c lim h) = record { answer = setting.Done; shown = recordOf c lim h }
+abbrev pub shownIn : Standing → LookedUp
+shownIn free = notFound NotSetUp
+shownIn (held c lim h) = record { answer = setting.Done; shown = recordOf c lim h }
 
 unfoldable pub lookUp01 : Steps → ℕ → LookedUp
-lookUp01 s i = cond (isPost i) (recordIn (standing i s)) (notFound NoSuchPost)
+lookUp01 s i = cond (isPost i) (shownIn (standing i s)) (notFound NoSuchPost)
 
 -- ---- the steps afterwards: an accepted one is added, a refused one is part of no history
 
-abbrev pub eventIn : ℕ → Arrival → Event
-eventIn t Tick = tick t
-eventIn t (Frame k n) = frame t k n
-eventIn t (Unread w) = tick t
+abbrev pub eventIn : History → ℕ → Arrival → Event
+eventIn h t Tick = tick (stampOf h t)
+eventIn h t (Frame k n) = frame (stampOf h t) k n
+eventIn h t (Unread w) = tick (stampOf h t)
+
+abbrev pub eventOn : Standing → ℕ → Arriving → Event
+eventOn free t a = tick t
+eventOn (held c lim h) t a = eventIn h t (a lim)
 
 abbrev pub ifFound : Answer → Step → Steps → Steps
 ifFound (Findings n) x s = x ∷ s
 ifFound (Refused w) x s = s
 
-unfoldable pub feedSteps : Steps → ℕ → ℕ → Arrival → Steps
-feedSteps s c t a = ifFound (feed01 s c t a) (event c (eventIn t a)) s
+unfoldable pub feedSteps : Steps → ℕ → ℕ → Arriving → Steps
+feedSteps s c t a = ifFound (feed01 s c t a) (event c (eventOn (standing (holder s c) s) t a)) s
 
 abbrev pub ifDone : Setting → Step → Steps → Steps
 ifDone setting.Done x s = x ∷ s
@@ -149,14 +153,14 @@ setUpSteps s i c lim = ifDone (setUp01 s i c lim) (setUp i c lim) s
 unfoldable pub releaseSteps : Steps → ℕ → Steps
 releaseSteps s i = ifDone (release01 s i) (release i) s
 
--- ---- the table that steps leave
+-- ---- the posts that steps leave
 
 abbrev pub keptPost : Standing → Post
 keptPost free = freePost
 keptPost (held c lim h) = postOf c lim h
 
-unfoldable pub tableOf : Steps → Table
-tableOf s = record { posts = map (λ i. keptPost (standing i s)) (countFrom 0 postCount) }
+unfoldable pub postsOf : Steps → List Post
+postsOf s = map (λ i. keptPost (standing i s)) (countFrom 0 postCount)
 
 -- 01: "No channel is ever held by two posts."
 unfoldable pub Apart : Steps → Type 0
@@ -171,11 +175,11 @@ InRange (held c lim h) = (isChannel c ≡ true) × (limitsFit lim ≡ true)
 pub record Kept (t : Table) (s : Steps) : Type 0 where
   pub apart : Apart s
   pub ranges : (i : ℕ) → i < postCount → InRange (standing i s)
-  pub table : t ≡ tableOf s
+  pub posts : t .posts ≡ postsOf s
 
 -- ---- an operation is right
 
-pub record FeedRight (s : Steps) (c t : ℕ) (a : Arrival) (r : Fed) : Type 0 where
+pub record FeedRight (s : Steps) (c t : ℕ) (a : Arriving) (r : Fed) : Type 0 where
   pub answer : r .answer ≡ feed01 s c t a
   pub kept : Kept (r .table) (feedSteps s c t a)
 

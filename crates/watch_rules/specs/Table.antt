@@ -1,20 +1,23 @@
 -- Each operation's answer and table, for every table. What they are for a table that accepted steps left stands in Steps.
 use Prim.Native.Nat.{ℕ, suc}
 use mathlib.Core.List.{List, [], _∷_}
-use mathlib.Core.Bool.{Bool, true, false, cond, not, _&&_}
+use mathlib.Core.Bool.{Bool, cond, not, _&&_}
 use lib.Dec.{ltb, leb, eqb}
 use lib.ListN.{getD, set, replicate}
 use Rattle.refusals.specs.declared.Refusal.{Refusal}
 use Rattle.refusals.specs.declared.Refusal.the-variants.{ChannelFree, Earlier, NoSuchPost, NoSuchChannel, ChannelTaken, LimitOutside, NotSetUp}
 use Rattle.page_read.specs.declared.Judged.{Judged}
 use Rattle.page_read.specs.declared.Judged.the-variants as judged
+use Rattle.page_read.specs.Judge.{judgeOf}
 use Rattle.rule_limits.specs.declared.PlainLimits.{PlainLimits}
 use Rattle.rule_limits.specs.Limits.{limitsFit}
+use Rattle.rules.specs.declared.Session.{Session}
+use Rattle.rules.specs.declared.Head.{Head}
 use Rattle.rules.specs.declared.Post.{Post}
 use Rattle.rules.specs.declared.Stepped.{Stepped}
 use Rattle.rules.specs.declared.Record.{Record}
-use Rattle.rules.specs.Record.{closedSession}
-use Rattle.rules.specs.Step.{isEarly, tickStep, frameStep, noLimits, freePost, freshPost, recordIn}
+use Rattle.rules.specs.Record.{kindCount, isSet, unknown}
+use Rattle.rules.specs.Step.{isEarly, tickStep, frameStep, stored, noLimits, freePost, freshPost, recordIn}
 use Rattle.watch_rules.specs.declared.Table.{Table}
 use Rattle.watch_rules.specs.declared.Answer.{Answer}
 use Rattle.watch_rules.specs.declared.Answer.the-variants.{Findings, Refused}
@@ -36,20 +39,29 @@ isChannel c = leb c 31
 
 -- ---- who holds a channel
 
-abbrev pub holds : Post → ℕ → Bool
-holds p c = p .used && eqb (p .channel) c
+abbrev pub holds : Head → ℕ → Bool
+holds p c = isSet (p .used) && eqb (p .channel) c
 
 -- the place of the first post that holds the channel, and the length where none does
 unfoldable pub placeOf : List Post → ℕ → ℕ
 placeOf [] c = 0
-placeOf (p ∷ ps) c = cond (holds p c) 0 (suc (placeOf ps c))
+placeOf (p ∷ ps) c = cond (holds (p .head) c) 0 (suc (placeOf ps c))
 
 abbrev pub putIn : Table → ℕ → Post → Table
 putIn t i p = record { posts = set (t .posts) i p }
 
 -- what `getD` answers past the posts: no numbers, no elements
+abbrev pub noSession : Session
+noSession = record { opened = 0; since = 0; first = 0; kept = [] }
+
+abbrev pub noHead : Head
+noHead = record { used = 0; channel = 0; limits = noLimits; heard = 0; time = 0; controller = unknown; parameters = unknown; session = noSession }
+
 abbrev pub noPost : Post
-noPost = record { used = false; channel = 0; limits = noLimits; heard = false; time = 0; latest = []; session = closedSession }
+noPost = record { head = noHead; latest = [] }
+
+abbrev pub postIn : Table → ℕ → Post
+postIn t i = getD (t .posts) i noPost
 
 -- ---- frames and ticks
 
@@ -57,28 +69,56 @@ abbrev pub arrivalOf : Judged → Arrival
 arrivalOf (judged.Frame k n) = Frame k n
 arrivalOf (judged.Refused w) = Unread w
 
-abbrev pub heardBy : Stepped → Heard
-heardBy r = record { post = r .post; answer = Findings (r .findings) }
+-- what comes to a post is read by the limits that it was set up with
+abbrev pub Arriving : Type 0
+Arriving = PlainLimits → Arrival
 
-abbrev pub judgedOf : Post → ℕ → Arrival → Heard
+abbrev pub arrivalFor : PlainLimits → ℕ → Bool → List ℕ → Arrival
+arrivalFor lim m x bs = arrivalOf (judgeOf m x bs)
+
+abbrev pub framing : ℕ → Bool → List ℕ → Arriving
+framing m x bs lim = arrivalFor lim m x bs
+
+abbrev pub ticking : Arriving
+ticking lim = Tick
+
+-- a refused event leaves the head as it was and fills no slot
+abbrev pub turnedAway : Head → Refusal → Heard
+turnedAway p w = record { head = p; slot = unknown; at = kindCount; answer = Refused w }
+
+abbrev pub heardBy : Stepped → Heard
+heardBy r = record { head = r .head; slot = r .slot; at = r .at; answer = Findings (r .findings) }
+
+abbrev pub judgedOf : Head → ℕ → Arrival → Heard
 judgedOf p t Tick = heardBy (tickStep p t)
 judgedOf p t (Frame k n) = heardBy (frameStep p t k n)
-judgedOf p t (Unread w) = record { post = p; answer = Refused w }
+judgedOf p t (Unread w) = turnedAway p w
 
-unfoldable pub heardOf : Post → ℕ → Arrival → Heard
-heardOf p t a = cond (isEarly p t) (record { post = p; answer = Refused Earlier }) (judgedOf p t a)
+-- 1 where the post does not hold the channel, then 2, then the reader's 3 to 6
+unfoldable pub heardOf : Head → ℕ → ℕ → Arrival → Heard
+heardOf p c t a =
+    cond (isChannel c && holds p c)
+    (cond (isEarly p t) (turnedAway p Earlier) (judgedOf p t a))
+    (turnedAway p ChannelFree)
 
 abbrev pub refused : Table → Refusal → Fed
 refused t w = record { table = t; answer = Refused w }
 
+-- the table with what the post at i heard
 abbrev pub fedBy : Table → ℕ → Heard → Fed
-fedBy t i r = record { table = putIn t i (r .post); answer = r .answer }
+fedBy t i r = record { table = putIn t i (stored (postIn t i) (r .head) (r .at) (r .slot)); answer = r .answer }
 
-unfoldable pub feedAt : Table → ℕ → ℕ → Arrival → Fed
-feedAt t i time a = cond (leb postCount i) (refused t ChannelFree) (fedBy t i (heardOf (getD (t .posts) i noPost) time a))
+-- what comes to the post at i
+unfoldable pub feedAt : Table → ℕ → ℕ → ℕ → Arriving → Fed
+feedAt t i c time a = fedBy t i (heardOf (postIn t i .head) c time (a (postIn t i .head .limits)))
 
-unfoldable pub feedOf : Table → ℕ → ℕ → Arrival → Fed
-feedOf t c time a = cond (isChannel c) (feedAt t (placeOf (t .posts) c) time a) (refused t ChannelFree)
+unfoldable pub feedOf : Table → ℕ → ℕ → Arriving → Fed
+feedOf t c time a =
+    cond (isChannel c && ltb (placeOf (t .posts) c) postCount) (feedAt t (placeOf (t .posts) c) c time a) (refused t ChannelFree)
+
+-- Inner step: the place of the post that holds the channel, and 0 where none does: a place of the table in any case. What comes to it is `feedOf` (`feed-same`, proofs/Same.antt).
+unfoldable pub somePlace : List Post → ℕ → ℕ
+somePlace ps c = cond (ltb (placeOf ps c) postCount) (placeOf ps c) 0
 
 -- ---- set-up, release, look-up
 
@@ -111,7 +151,7 @@ setUpOf t i c lim =
 unfoldable pub releaseOf : Table → ℕ → Settled
 releaseOf t i =
     cond (isPost i)
-    (cond (getD (t .posts) i noPost .used) (settled (putIn t i freePost)) (unsettled t NotSetUp))
+    (cond (isSet (postIn t i .head .used)) (settled (putIn t i freePost)) (unsettled t NotSetUp))
     (unsettled t NoSuchPost)
 
 abbrev pub noRecord : Record
@@ -123,7 +163,7 @@ notFound w = record { answer = setting.Refused w; shown = noRecord }
 unfoldable pub lookUpOf : Table → ℕ → LookedUp
 lookUpOf t i =
     cond (isPost i)
-    (cond (getD (t .posts) i noPost .used)
-    (record { answer = setting.Done; shown = recordIn (getD (t .posts) i noPost) })
+    (cond (isSet (postIn t i .head .used))
+    (record { answer = setting.Done; shown = recordIn (postIn t i) })
     (notFound NotSetUp))
     (notFound NoSuchPost)

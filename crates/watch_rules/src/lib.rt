@@ -5,14 +5,16 @@
 //   specs/Readings.antt   01's readings from both sides of each edge
 // proofs/Right.antt makes the two one, proofs/Demand.antt has demand 3, proofs/Night.antt its theorems on a night. For every crate that holds a table.
 use refusals::Refusal;
+use rules::Head;
 use rules::Post;
 use rules::Record;
+use rules::Slot;
 
 pub const POSTS: usize = 8;
 
 #[repr(C)]
 pub struct Table {
-    pub posts: [Post; 8],
+    pub posts: [Post; POSTS],
 }
 
 // The findings of an accepted frame or tick, finding k in bit k - 1, or the refusal.
@@ -49,8 +51,10 @@ pub enum Arrival {
     Unread(Refusal),
 }
 
-// A post after an arrival, and the answer.
+// A post's head after an arrival, the slot that the arrival fills and its kind (KINDS where it fills none), and the answer.
 pub struct Heard {
-    pub post: Post,
+    pub head: Head,
+    pub slot: Slot,
+    pub at: usize,
     pub answer: Answer,
 }

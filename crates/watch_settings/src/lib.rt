@@ -5,9 +5,11 @@ ghost use Rattle.rule_limits.specs.Sensor.{plainOf};
 ghost use Rattle.watch_rules.specs.Steps.{Steps, Kept, SetUpRight, ReleaseRight};
 ghost use Rattle.watch_rules.specs.Table.{emptyTable, isOther, setUpOf, releaseOf};
 use refusals::Refusal;
+use rule_asks::is_set;
 use rule_limits::Limits;
 use rule_limits::PlainLimits;
 use rule_limits::limits_fit;
+use watch_places::is_post;
 use watch_places::place;
 use watch_places::put;
 use watch_rules::POSTS;
@@ -21,7 +23,7 @@ pub fn empty() -> Table
     ensures by_history { λ r. ⌜ Kept r [] ⌝ }
 {
     let p = post::free_post();
-    Table { posts: [p; 8] }
+    Table { posts: [p; POSTS] }
 }
 
 // Whether a place is a post's, and another's than the post i.
@@ -40,7 +42,7 @@ pub fn set_up_plain(t: Table, post: u32, channel: u32, limits: PlainLimits) -> S
     ensures by_record { λ r. ⌜ r ≡ setUpOf t post channel limits ⌝ }
     ensures by_history { λ r. ⌜ ((s : Steps) → Kept t s → SetUpRight s post channel limits r) ⌝ }
 {
-    if 7 < post {
+    if !is_post(post) {
         return Settled {
             table: t,
             answer: Setting::Refused(Refusal::NoSuchPost),
@@ -85,7 +87,7 @@ pub fn release(t: Table, post: u32) -> Settled
     ensures by_record { λ r. ⌜ r ≡ releaseOf t post ⌝ }
     ensures by_history { λ r. ⌜ ((s : Steps) → Kept t s → ReleaseRight s post r) ⌝ }
 {
-    if 7 < post {
+    if !is_post(post) {
         return Settled {
             table: t,
             answer: Setting::Refused(Refusal::NoSuchPost),
@@ -93,7 +95,8 @@ pub fn release(t: Table, post: u32) -> Settled
     }
     let i = post as usize;
     let p = t.posts[i];
-    if !p.used {
+    let h = p.head;
+    if !is_set(h.used as u64) {
         return Settled {
             table: t,
             answer: Setting::Refused(Refusal::NotSetUp),

@@ -1,12 +1,10 @@
 -- `lent_numbers::looked` meets its contract: 9, 14, 8, or the post's numbers stored.
 use borrow.Author.Needs.{needs}
-use borrow.Author.Tests.{not-true, not-false, le-leb, lt-leb}
-use native.Mathlib.Omega.{arith}
-use mathlib.Core.Path.{ap, _∙_}
+use borrow.Author.Tests.{ltb-true, not-true, not-false, le-leb, lt-leb}
+use mathlib.Core.Path.{ap, sym, _∙_}
 use mathlib.Core.List.{List, _++_}
 use Prim.Native.Nat.{ℕ}
-use lib.ListN.{drop, getD}
-use Rattle.watch_rules.specs.Table.{noPost}
+use lib.ListN.{drop}
 use Rattle.lent_numbers.specs.LookUp.{numberCount}
 use Rattle.lent_look.proofs.Asked.{no-post, not-set-up, set-up}
 use Rattle.lent_numbers.proofs.ByCase.{looked-by}
@@ -15,23 +13,30 @@ use Rattle.lent_numbers.proofs.looked.Tie as tie
 
 returns : tie.Need-returns
 returns c =
-    let a = c .before .before .before .args in
-    let e = looked-by (a .t1) (a .post) (a .numbers .now) (no-post (a .t1) (a .post) (omega arith)) in
+    let post = c .before in
+    let a = post .before .before .before .args in
+    let e = looked-by (a .t1) (a .post) (a .numbers .now) (no-post (a .t1) (a .post) (sym (post .before .is-post .ensures) ∙ not-true _ (post .if1 .taken))) in
     (c .refusal-word .ensures ∙ e .0, e .1)
+
+element-copy-out-p : tie.Need-element-copy-out-p
+element-copy-out-p c = ltb-true _ _ (sym (c .before .is-post .ensures) ∙ not-false _ (c .if1 .left))
 
 returns-2 : tie.Need-returns-2
 returns-2 c =
-    let a = c .before .before .before .before .before .before .args in
-    let p = getD (a .t1 .posts) (a .post) noPost in
-    let e = looked-by (a .t1) (a .post) (a .numbers .now) (not-set-up (a .t1) (a .post) (omega arith) (not-true (p .used) (c .before .if2 .taken))) in
+    let used = c .before in
+    let post = used .before .before .before .before .before in
+    let a = post .before .before .before .args in
+    let e = looked-by (a .t1) (a .post) (a .numbers .now)
+    (not-set-up (a .t1) (a .post) (sym (post .before .is-post .ensures) ∙ not-false _ (post .if1 .left)) (sym (used .before .is-set .ensures) ∙ not-true _ (used .if2 .taken))) in
     (c .refusal-word2 .ensures ∙ e .0, e .1)
 
 returns-3 : tie.Need-returns-3
 returns-3 c =
-    let s = c .before .before in
-    let a = s .before .before .before .before .before .args in
-    let p = getD (a .t1 .posts) (a .post) noPost in
-    let e = looked-by (a .t1) (a .post) (a .numbers .now) (set-up (a .t1) (a .post) (omega arith) (not-false (p .used) (s .if2 .left))) in
+    let used = c .before .before in
+    let post = used .before .before .before .before .before in
+    let a = post .before .before .before .args in
+    let e = looked-by (a .t1) (a .post) (a .numbers .now)
+    (set-up (a .t1) (a .post) (sym (post .before .is-post .ensures) ∙ not-false _ (post .if1 .left)) (sym (used .before .is-set .ensures) ∙ not-false _ (used .if2 .left))) in
     let f = rw (lt-leb _ _ (c .before .if3 .taken)) at e in
     (c .refusal-word3 .ensures ∙ f .0, f .1)
 
@@ -40,10 +45,11 @@ returns-4 c =
     let w = c .before .before in
     let n = w .before in
     let room = n .before .before in
-    let s = room .before in
-    let a = s .before .before .before .before .before .args in
-    let p = getD (a .t1 .posts) (a .post) noPost in
-    let e = looked-by (a .t1) (a .post) (a .numbers .now) (set-up (a .t1) (a .post) (omega arith) (not-false (p .used) (s .if2 .left))) in
+    let used = room .before in
+    let post = used .before .before .before .before .before in
+    let a = post .before .before .before .args in
+    let e = looked-by (a .t1) (a .post) (a .numbers .now)
+    (set-up (a .t1) (a .post) (sym (post .before .is-post .ensures) ∙ not-false _ (post .if1 .left)) (sym (used .before .is-set .ensures) ∙ not-false _ (used .if2 .left))) in
     let f = rw (le-leb _ _ (room .if3 .left)) at e in
     (f .0, w .store-numbers .ensures ∙ ap (λ (ns : List ℕ). ns ++ drop numberCount (a .numbers .now)) (n .numbers-of .ensures) ∙ f .1)
 
@@ -52,9 +58,12 @@ looked-spec =
     tie.close
     (tie.spec
     (λ c κs. search needs)
+    (λ c κs. search needs)
     returns
     (λ c. search needs)
+    element-copy-out-p
     (λ c. search needs)
+    (λ c κs. search needs)
     (λ c κs. search needs)
     returns-2
     (λ c κs. search needs)

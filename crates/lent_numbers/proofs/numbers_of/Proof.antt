@@ -6,7 +6,10 @@ use mathlib.Core.List.{List, [], _∷_}
 use Prim.Native.Nat.{ℕ}
 use Rattle.message_types.specs.Labels.{protocolNumber, plugNumber}
 use Rattle.message_parts.specs.Parts.{sessionIn}
+use Rattle.rules.specs.declared.Head.{Head}
 use Rattle.rules.specs.declared.Post.{Post}
+use Rattle.rules.specs.History.{receivedOf}
+use Rattle.rules.specs.Record.{isSet}
 use Rattle.rule_limits.specs.Sensor.{sensorNumber, sensorOf}
 use Rattle.rules.specs.Step.{recordIn}
 use Rattle.lent_numbers.specs.LookUp.{numbersOf}
@@ -14,20 +17,20 @@ use Rattle.lent_numbers.proofs.numbers_of.Statement.{statement}
 use Rattle.lent_numbers.proofs.numbers_of.Tie as tie
 
 -- the numbers as they are stored
-abbrev fields : Post → List ℕ
-fields p =
-    p .channel ∷ p .limits .voltage ∷ p .limits .charge ∷ p .limits .discharge ∷ p .limits .silence ∷ sensorNumber (sensorOf (p .limits .sensor))
-    ∷ cond (p .heard) 1 0 ∷ cond (p .heard) (p .time) 0
-    ∷ cond (p .session .opened) 1 0 ∷ cond (p .session .opened) (p .session .since) 0
-    ∷ cond (p .session .opened) (protocolNumber (sessionIn (p .session .first) .protocol)) 0
-    ∷ cond (p .session .opened) (plugNumber (sessionIn (p .session .first) .plug)) 0 ∷ []
+abbrev fields : Head → List ℕ
+fields h =
+    h .channel ∷ h .limits .voltage ∷ h .limits .charge ∷ h .limits .discharge ∷ h .limits .silence ∷ sensorNumber (sensorOf (h .limits .sensor))
+    ∷ cond (isSet (h .heard)) 1 0 ∷ cond (isSet (h .heard)) (receivedOf (h .time)) 0
+    ∷ cond (isSet (h .session .opened)) 1 0 ∷ cond (isSet (h .session .opened)) (receivedOf (h .session .since)) 0
+    ∷ cond (isSet (h .session .opened)) (protocolNumber (sessionIn (h .session .first) .protocol)) 0
+    ∷ cond (isSet (h .session .opened)) (plugNumber (sessionIn (h .session .first) .plug)) 0 ∷ []
 
 -- by whether anything was heard and whether a session is open
-spelled : (p : Post) → numbersOf (recordIn p) ≡ fields p
+spelled : (p : Post) → numbersOf (recordIn p) ≡ fields (p .head)
 unfolding numbersOf recordIn
-spelled p = go (p .heard) (p .session .opened) refl refl
+spelled p = go (isSet (p .head .heard)) (isSet (p .head .session .opened)) refl refl
   where
-    go : (a b : Bool) → p .heard ≡ a → p .session .opened ≡ b → numbersOf (recordIn p) ≡ fields p
+    go : (a b : Bool) → isSet (p .head .heard) ≡ a → isSet (p .head .session .opened) ≡ b → numbersOf (recordIn p) ≡ fields (p .head)
     go true true e f = rw (e, f)
     go true false e f = rw (e, f)
     go false true e f = rw (e, f)
@@ -38,28 +41,38 @@ returns c =
     let plug = c .before in
     let protocol = plug .before .before in
     let since = protocol .before in
-    let time = since .before .before in
-    let kind = time .before .before in
+    let time = since .before .before .before in
+    let kind = time .before .before .before in
     let read = kind .before in
-    let sensor = read .before .before in
+    let opened = read .before in
+    let sensor = opened .before .before .before .before in
     rw (
       c .where-set4 .ensures,
       plug .plug-number .ensures,
       plug .before .where-set3 .ensures,
       protocol .protocol-number .ensures,
       since .where-set2 .ensures,
-      since .before .flag2 .ensures,
+      since .before .received2 .ensures,
+      since .before .before .flag2 .ensures,
       time .where-set .ensures,
-      time .before .flag .ensures,
+      time .before .received .ensures,
+      time .before .before .flag .ensures,
       kind .sensor-number .ensures,
       read .session-in .ensures,
+      opened .is-set2 .ensures,
+      opened .before .is-set .ensures,
       sensor .sensor-of .ensures,
-    ) (sym (spelled (sensor .before .before .args .p)))
+    ) (sym (spelled (sensor .before .before .before .args .p)))
 
 pub numbers-of-spec : {M : Type 1} → statement M
 numbers-of-spec =
     tie.close
     (tie.spec
+    (λ c κs. search needs)
+    (λ c. search needs)
+    (λ c κs. search needs)
+    (λ c κs. search needs)
+    (λ c κs. search needs)
     (λ c κs. search needs)
     (λ c κs. search needs)
     (λ c κs. search needs)

@@ -2,8 +2,7 @@
 use mathlib.Core.Path.{ap, _∙_}
 use mathlib.Core.List.{List}
 use Prim.Native.Nat.{ℕ}
-use Rattle.page_read.specs.Judge.{judgeOf}
-use Rattle.watch_rules.specs.Table.{arrivalOf, feedOf}
+use Rattle.watch_rules.specs.Table.{framing, feedOf}
 use Rattle.playing_nights.proofs.Entries.{fed-tick, fed-frame}
 use borrow.Author.Needs.{needs}
 use Rattle.playing_calls.proofs.fed.Statement.{statement}
@@ -28,7 +27,7 @@ returns-2 c =
     let a = c .before .before .before .before .args in
     let e = a .e in
     c .frame .ensures .0
-    ∙ ap (λ (bs : List ℕ). feedOf (a .t) (e .channel) (e .time) (arrivalOf (judgeOf (e .id) (e .extended) bs))) (c .before .payload .ensures)
+    ∙ ap (λ (bs : List ℕ). feedOf (a .t) (e .channel) (e .time) (framing (e .id) (e .extended) bs)) (c .before .payload .ensures)
     ∙ fed-frame (a .t) (a .log .now) e (c .before .before .if1 .left) (c .before .before .before .before .pre)
 
 pub fed-spec : {M : Type 1} → statement M

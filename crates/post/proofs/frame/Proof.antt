@@ -1,8 +1,11 @@
--- `post::frame` meets its contract: the post is aged, judged there, and then given the frame.
+-- `post::frame` meets its contract: the head is aged, judged there, and then given the frame.
 use borrow.Author.Needs.{needs}
-use Rattle.rules.specs.Step.{frameStep}
+use Rattle.rules.specs.Step.{frameStep, agedTo}
 use Rattle.post.proofs.frame.Statement.{statement}
 use Rattle.post.proofs.frame.Tie as tie
+
+stamp-requires : tie.Need-stamp-requires
+stamp-requires c κs = search needs
 
 aged-requires : tie.Need-aged-requires
 aged-requires c κs = search needs
@@ -16,26 +19,35 @@ message-findings-requires c κs = search needs
 add-findings : tie.Need-add-findings
 add-findings c = search needs
 
+slot-at-requires : tie.Need-slot-at-requires
+slot-at-requires c κs = search needs
+
 with-frame-requires : tie.Need-with-frame-requires
 with-frame-requires c κs = search needs
 
 returns : tie.Need-returns
-unfolding frameStep
+unfolding frameStep agedTo
 returns c =
+    let slot = c .before in
+    let found = slot .before in
     rw (
       c .with-frame .ensures,
-      c .before .before .any-findings .ensures .0,
-      c .before .message-findings .ensures .0,
-      c .before .before .before .aged .ensures,
+      slot .slot-at .ensures,
+      found .before .any-findings .ensures .0,
+      found .message-findings .ensures .0,
+      found .before .before .aged .ensures,
+      found .before .before .before .stamp .ensures,
     )
 
 pub frame-spec : {M : Type 1} → statement M
 frame-spec =
     tie.close
     (tie.spec
+    stamp-requires
     aged-requires
     any-findings-requires
     message-findings-requires
     add-findings
+    slot-at-requires
     with-frame-requires
     returns)

@@ -5,11 +5,11 @@ use Rattle.rules.specs.Step.{controlFindings}
 use Rattle.post_findings.proofs.control_findings.Statement.{statement}
 use Rattle.post_findings.proofs.control_findings.Tie as tie
 
+is-set-requires : tie.Need-is-set-requires
+is-set-requires c κs = search needs
+
 negated-requires : tie.Need-negated-requires
 negated-requires c κs = search needs
-
-element-copy-out-l : tie.Need-element-copy-out-l
-element-copy-out-l c = search needs
 
 voltage-limit-requires : tie.Need-voltage-limit-requires
 voltage-limit-requires c κs = search needs
@@ -87,6 +87,7 @@ returns c =
     let v = f1 .before .before .before .before in (
       search (
         needs,
+        v .before .before .before .is-set .ensures,
         v .before .before .negated .ensures,
         v .voltage-limit .ensures,
         f1 .before .before .close .ensures,
@@ -113,8 +114,8 @@ pub control-findings-spec : {M : Type 1} → statement M
 control-findings-spec =
     tie.close
     (tie.spec
+    is-set-requires
     negated-requires
-    element-copy-out-l
     voltage-limit-requires
     cast-above
     close-requires

@@ -5,6 +5,9 @@ use Rattle.rules.specs.Step.{finishedFindings}
 use Rattle.post_findings.proofs.finished_findings.Statement.{statement}
 use Rattle.post_findings.proofs.finished_findings.Tie as tie
 
+is-set-requires : tie.Need-is-set-requires
+is-set-requires c κs = search needs
+
 negated-requires : tie.Need-negated-requires
 negated-requires c κs = search needs
 
@@ -16,4 +19,5 @@ unfolding finishedFindings
 returns c = (cc, omega arith)
 
 pub finished-findings-spec : {M : Type 1} → statement M
-finished-findings-spec = tie.close (tie.spec negated-requires flag-requires returns)
+finished-findings-spec =
+    tie.close (tie.spec is-set-requires negated-requires flag-requires returns)

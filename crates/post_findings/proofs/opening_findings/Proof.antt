@@ -5,6 +5,9 @@ use Rattle.rules.specs.Step.{openingFindings}
 use Rattle.post_findings.proofs.opening_findings.Statement.{statement}
 use Rattle.post_findings.proofs.opening_findings.Tie as tie
 
+is-set-requires : tie.Need-is-set-requires
+is-set-requires c κs = search needs
+
 session-in-requires : tie.Need-session-in-requires
 session-in-requires c κs = search needs
 
@@ -23,4 +26,11 @@ returns c = (cc, omega arith)
 
 pub opening-findings-spec : {M : Type 1} → statement M
 opening-findings-spec =
-    tie.close (tie.spec session-in-requires do-differ-requires both-requires flag-requires returns)
+    tie.close
+    (tie.spec
+    is-set-requires
+    session-in-requires
+    do-differ-requires
+    both-requires
+    flag-requires
+    returns)

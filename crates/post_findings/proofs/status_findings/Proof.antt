@@ -5,9 +5,6 @@ use Rattle.rules.specs.Step.{statusFindings}
 use Rattle.post_findings.proofs.status_findings.Statement.{statement}
 use Rattle.post_findings.proofs.status_findings.Tie as tie
 
-element-copy-out-l : tie.Need-element-copy-out-l
-element-copy-out-l c = search needs
-
 charge-limit-requires : tie.Need-charge-limit-requires
 charge-limit-requires c κs = search needs
 
@@ -16,6 +13,9 @@ discharge-limit-requires c κs = search needs
 
 sensor-of-requires : tie.Need-sensor-of-requires
 sensor-of-requires c κs = search needs
+
+is-set-requires : tie.Need-is-set-requires
+is-set-requires c κs = search needs
 
 is-outside-requires : tie.Need-is-outside-requires
 is-outside-requires c κs = search needs
@@ -47,7 +47,7 @@ returns c =
     let l = c .before .before in
     let g = l .before .before in
     let o = g .before .before in
-    let k = o .before .before in
+    let k = o .before .before .before in
     let d = k .before in (
       search (
         needs,
@@ -58,6 +58,7 @@ returns c =
         g .flag .ensures .0,
         g .before .both .ensures,
         o .is-outside .ensures,
+        o .before .before .is-set .ensures,
         k .sensor-of .ensures,
         d .discharge-limit .ensures,
         d .before .charge-limit .ensures,
@@ -69,10 +70,10 @@ pub status-findings-spec : {M : Type 1} → statement M
 status-findings-spec =
     tie.close
     (tie.spec
-    element-copy-out-l
     charge-limit-requires
     discharge-limit-requires
     sensor-of-requires
+    is-set-requires
     is-outside-requires
     both-requires
     flag-requires

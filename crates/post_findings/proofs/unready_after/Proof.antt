@@ -1,7 +1,11 @@
 -- `post_findings::unready_after` meets its contract: with a frame the answer is what the calls ensure of its System_Enable, and with none true.
+use mathlib.Core.Path.{sym, _∙_}
 use borrow.Author.Needs.{needs}
 use Rattle.post_findings.proofs.unready_after.Statement.{statement}
 use Rattle.post_findings.proofs.unready_after.Tie as tie
+
+is-set-requires : tie.Need-is-set-requires
+is-set-requires c κs = search needs
 
 status-in-requires : tie.Need-status-in-requires
 status-in-requires c κs = search needs
@@ -13,11 +17,20 @@ negated-requires : tie.Need-negated-requires
 negated-requires c κs = search needs
 
 returns : tie.Need-returns
-returns c = search (needs, c .before .before .before .if1 .taken, c .negated .ensures, c .before .allowed .ensures, c .before .before .status-in .ensures)
+returns c =
+    let known = c .before .before .before in
+    rw (sym (known .before .is-set .ensures) ∙ known .if1 .taken, c .negated .ensures, c .before .allowed .ensures, c .before .before .status-in .ensures)
 
 returns-2 : tie.Need-returns-2
-returns-2 c = search needs
+returns-2 c = rw (sym (c .before .is-set .ensures) ∙ c .if1 .left)
 
 pub unready-after-spec : {M : Type 1} → statement M
 unready-after-spec =
-    tie.close (tie.spec status-in-requires allowed-requires negated-requires returns returns-2)
+    tie.close
+    (tie.spec
+    is-set-requires
+    status-in-requires
+    allowed-requires
+    negated-requires
+    returns
+    returns-2)

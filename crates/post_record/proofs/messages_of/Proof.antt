@@ -15,17 +15,17 @@ use Rattle.post_record.proofs.Filled.{filledTo, filled-next, filled-all
 use Rattle.post_record.proofs.messages_of.Statement.{statement}
 use Rattle.post_record.proofs.messages_of.Tie as tie
 
-abbrev shownIn : List Slot → ℕ → Latest
-shownIn slots k = record { message = datedIn k (getD slots k unknown) }
+abbrev shownIn : ℕ → List Slot → ℕ → Latest
+shownIn now slots k = record { message = datedIn now k (getD slots k unknown) }
 
 abbrev nothing : Latest
 nothing = record { message = dated.Nothing }
 
 abbrev Inv-loop : tie.InvT-loop
-Inv-loop slots latest₀ k₀ latest k = (k ≤ kindCount) × (latest ≡ map (filledTo (shownIn slots) nothing k) (countFrom 0 kindCount))
+Inv-loop now slots latest₀ k₀ latest k = (k ≤ kindCount) × (latest ≡ map (filledTo (shownIn now slots) nothing k) (countFrom 0 kindCount))
 
 abbrev μ-loop : tie.MeasureT-loop
-μ-loop slots latest₀ k₀ latest k = kindCount - k
+μ-loop now slots latest₀ k₀ latest k = kindCount - k
 
 loop-holds : tie.Need-loop-holds Inv-loop μ-loop
 loop-holds c = search needs
@@ -54,12 +54,12 @@ loop-less c = search needs
 loop-again : tie.Need-loop-again Inv-loop μ-loop
 loop-again c =
     let a = c .before .before .before in
-    (search needs, rw (a .loop .inv .1, c .dated .ensures) (filled-next (shownIn (a .before .args .t1)) nothing (a .loop .k) kindCount))
+    (search needs, rw (a .loop .inv .1, c .dated .ensures) (filled-next (shownIn (a .before .args .now) (a .before .args .t2)) nothing (a .loop .k) kindCount))
 
 returns : tie.Need-returns Inv-loop μ-loop
 returns c =
     let a = c .before in
-    rw (a .loop .inv .1) (filled-all (shownIn (a .before .args .t1)) nothing (a .loop .k) kindCount (search needs))
+    rw (a .loop .inv .1) (filled-all (shownIn (a .before .args .now) (a .before .args .t2)) nothing (a .loop .k) kindCount (search needs))
 
 pub messages-of-spec : {M : Type 1} → statement M
 messages-of-spec =

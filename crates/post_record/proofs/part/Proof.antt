@@ -1,11 +1,21 @@
 -- `post_record::part` meets its contract, with a session open and with none.
-use borrow.Author.Needs.{needs}
+use mathlib.Core.Path.{sym, _∙_}
 use borrow.Author.Tests.{not-true, not-false}
+use borrow.Author.Needs.{needs}
 use Rattle.post_record.proofs.part.Statement.{statement}
 use Rattle.post_record.proofs.part.Tie as tie
 
+is-set-requires : tie.Need-is-set-requires
+is-set-requires c κs = search needs
+
 returns : tie.Need-returns
-returns c = rw (not-true (c .before .before .args .s .opened) (c .if1 .taken))
+returns c = rw (sym (c .before .is-set .ensures) ∙ not-true _ (c .if1 .taken))
+
+element-copy-out-st : tie.Need-element-copy-out-st
+element-copy-out-st c = search needs
+
+element-copy-out-ct : tie.Need-element-copy-out-ct
+element-copy-out-ct c = search needs
 
 session-in-requires : tie.Need-session-in-requires
 session-in-requires c κs = search needs
@@ -16,12 +26,32 @@ dated-requires c κs = search needs
 dated-requires-2 : tie.Need-dated-requires-2
 dated-requires-2 c κs = search needs
 
+received-requires : tie.Need-received-requires
+received-requires c κs = search needs
+
 returns-2 : tie.Need-returns-2
 returns-2 c =
-    let n = c .before .before in
+    let d = c .before .before in
+    let n = d .before in
     let o = n .before .before .before in
-    rw (not-false (o .before .before .args .s .opened) (o .if1 .left), n .session-in .ensures, c .before .dated .ensures, c .dated2 .ensures)
+    rw (
+      sym (o .before .is-set .ensures) ∙ not-false _ (o .if1 .left),
+      n .session-in .ensures,
+      d .dated .ensures,
+      c .before .dated2 .ensures,
+      c .received .ensures,
+    )
 
 pub part-spec : {M : Type 1} → statement M
 part-spec =
-    tie.close (tie.spec returns session-in-requires dated-requires dated-requires-2 returns-2)
+    tie.close
+    (tie.spec
+    is-set-requires
+    returns
+    element-copy-out-st
+    element-copy-out-ct
+    session-in-requires
+    dated-requires
+    dated-requires-2
+    received-requires
+    returns-2)

@@ -5,9 +5,6 @@ use Rattle.rules.specs.Step.{anyFindings}
 use Rattle.post_times.proofs.any_findings.Statement.{statement}
 use Rattle.post_times.proofs.any_findings.Tie as tie
 
-element-copy-out-l : tie.Need-element-copy-out-l
-element-copy-out-l c = search needs
-
 silent-requires : tie.Need-silent-requires
 silent-requires c κs = search needs
 
@@ -30,11 +27,4 @@ returns c = (cc, omega arith)
 pub any-findings-spec : {M : Type 1} → statement M
 any-findings-spec =
     tie.close
-    (tie.spec
-    element-copy-out-l
-    silent-requires
-    flag-requires
-    late-requires
-    flag-requires-2
-    add-result
-    returns)
+    (tie.spec silent-requires flag-requires late-requires flag-requires-2 add-result returns)

@@ -37,9 +37,9 @@ loop-less c = search needs
 
 loop-again : tie.Need-loop-again Inv-loop μ-loop
 loop-again c =
-    let a = c .before .before .before .before .before .args in
+    let a = c .before .before .before .before .before .before .args in
     let n : length (a .t1 .posts) ≡ postCount = search unmapped in
-    let at = c .before .before .before .before .loop in
+    let at = c .before .before .before .before .before .loop in
     (omega arith, place-on (a .t1 .posts) (at .i) (a .channel) (at .inv .1) (omega arith) (sym (c .before .holds-channel .ensures) ∙ c .if2 .left))
 
 returns : tie.Need-returns Inv-loop μ-loop
@@ -51,9 +51,9 @@ returns c =
 
 returns-2 : tie.Need-returns-2 Inv-loop μ-loop
 returns-2 c =
-    let a = c .before .before .before .before .before .args in
+    let a = c .before .before .before .before .before .before .args in
     let n : length (a .t1 .posts) ≡ postCount = search unmapped in
-    let at = c .before .before .before .before .loop in
+    let at = c .before .before .before .before .before .loop in
     (sym (place-here (a .t1 .posts) (at .i) (a .channel) (at .inv .1) (omega arith) (sym (c .before .holds-channel .ensures) ∙ c .if2 .taken)), omega arith)
 
 pub place-spec : {M : Type 1} → statement M

@@ -22,7 +22,7 @@ returns-2 : tie.Need-returns-2
 returns-2 c =
     let a = c .before .args in
     let n : length (a .t .posts) ≡ postCount = search unmapped in
-    rw (set-out (a .t .posts) (a .i) (a .p) (omega arith))
+    rw (set-out (a .t .posts) (a .at) (a .p) (omega arith))
 
 pub put-spec : {M : Type 1} → statement M
 put-spec = tie.close (tie.spec mul-p element-set-from-p returns returns-2)

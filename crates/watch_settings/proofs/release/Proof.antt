@@ -1,30 +1,40 @@
 -- `watch_settings::release` meets its contract: no such post, a post that is not set up, or the table without it.
-use native.Mathlib.Omega.{arith}
-use borrow.Author.Tests.{not-true, not-false, lt-ltb, le-ltb}
+use mathlib.Core.Path.{sym, _∙_}
+use borrow.Author.Tests.{ltb-true, not-true, not-false}
 use borrow.Author.Needs.{needs}
-use Rattle.watch_rules.specs.Table.{postCount, releaseOf}
-use Rattle.watch_rules.specs.Run.{postIn}
+use Rattle.watch_rules.specs.Table.{releaseOf}
 use Rattle.watch_rules.proofs.Promises.{released-both}
 use Rattle.watch_settings.proofs.release.Statement.{statement}
 use Rattle.watch_settings.proofs.release.Tie as tie
 
+is-post-requires : tie.Need-is-post-requires
+is-post-requires c κs = search needs
+
 returns : tie.Need-returns
 unfolding releaseOf
 returns c =
-    let a = c .before .args in
-    released-both (a .t1) (a .post) (rw (le-ltb _ _ (c .if1 .taken)))
+    let a = c .before .before .args in
+    released-both (a .t1) (a .post) (rw (sym (c .before .is-post .ensures) ∙ not-true _ (c .if1 .taken)))
 
 mul-p : tie.Need-mul-p
 mul-p c = search needs
 
 element-copy-out-p : tie.Need-element-copy-out-p
-element-copy-out-p c = search needs
+element-copy-out-p c = ltb-true _ _ (sym (c .before .is-post .ensures) ∙ not-false _ (c .if1 .left))
+
+cast-is-set : tie.Need-cast-is-set
+cast-is-set c = search needs
+
+is-set-requires : tie.Need-is-set-requires
+is-set-requires c κs = search needs
 
 returns-2 : tie.Need-returns-2
 unfolding releaseOf
 returns-2 c =
-    let a = c .before .before .before .before .args in
-    released-both (a .t1) (a .post) (rw (lt-ltb (a .post) postCount (omega arith), not-true (postIn (a .t1) (a .post) .used) (c .if2 .taken)))
+    let post = c .before .before .before .before .before in
+    let a = post .before .before .args in
+    released-both (a .t1) (a .post)
+    (rw (sym (post .before .is-post .ensures) ∙ not-false _ (post .if1 .left), sym (c .before .is-set .ensures) ∙ not-true _ (c .if2 .taken)))
 
 free-post-requires : tie.Need-free-post-requires
 free-post-requires c κs = search needs
@@ -36,11 +46,12 @@ returns-3 : tie.Need-returns-3
 unfolding releaseOf
 returns-3 c =
     let used = c .before .before in
-    let a = used .before .before .before .before .args in
+    let post = used .before .before .before .before .before in
+    let a = post .before .before .args in
     released-both (a .t1) (a .post)
     (rw (
-      lt-ltb (a .post) postCount (omega arith),
-      not-false (postIn (a .t1) (a .post) .used) (used .if2 .left),
+      sym (post .before .is-post .ensures) ∙ not-false _ (post .if1 .left),
+      sym (used .before .is-set .ensures) ∙ not-false _ (used .if2 .left),
       ← c .before .free-post .ensures,
       ← c .put .ensures,
     ))
@@ -48,4 +59,14 @@ returns-3 c =
 pub release-spec : {M : Type 1} → statement M
 release-spec =
     tie.close
-    (tie.spec returns mul-p element-copy-out-p returns-2 free-post-requires put-requires returns-3)
+    (tie.spec
+    is-post-requires
+    returns
+    mul-p
+    element-copy-out-p
+    cast-is-set
+    is-set-requires
+    returns-2
+    free-post-requires
+    put-requires
+    returns-3)

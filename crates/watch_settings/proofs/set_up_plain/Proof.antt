@@ -1,24 +1,27 @@
 -- `watch_settings::set_up_plain` meets its contract: the tests fall in the order of 01's refusals, and the post is stored where all pass.
-use native.Mathlib.Omega.{arith}
 use mathlib.Core.Path.{sym, _∙_}
-use borrow.Author.Tests.{not-true, not-false, lt-ltb, le-ltb, le-leb, lt-leb}
+use borrow.Author.Tests.{not-true, not-false, le-leb, lt-leb}
 use borrow.Author.Needs.{needs}
-use Rattle.watch_rules.specs.Table.{postCount, setUpOf}
+use Rattle.watch_rules.specs.Table.{setUpOf}
 use Rattle.watch_rules.proofs.Promises.{set-both}
 use Rattle.watch_settings.proofs.set_up_plain.Statement.{statement}
 use Rattle.watch_settings.proofs.set_up_plain.Tie as tie
 
+is-post-requires : tie.Need-is-post-requires
+is-post-requires c κs = search needs
+
 returns : tie.Need-returns
 unfolding setUpOf
 returns c =
-    let a = c .before .args in
-    set-both (a .t) (a .post) (a .channel) (a .limits) (rw (le-ltb _ _ (c .if1 .taken)))
+    let a = c .before .before .args in
+    set-both (a .t) (a .post) (a .channel) (a .limits) (rw (sym (c .before .is-post .ensures) ∙ not-true _ (c .if1 .taken)))
 
 returns-2 : tie.Need-returns-2
 unfolding setUpOf
 returns-2 c =
-    let a = c .before .before .args in
-    set-both (a .t) (a .post) (a .channel) (a .limits) (rw (lt-ltb (a .post) postCount (omega arith), lt-leb _ _ (c .if2 .taken)))
+    let post = c .before in
+    let a = post .before .before .args in
+    set-both (a .t) (a .post) (a .channel) (a .limits) (rw (sym (post .before .is-post .ensures) ∙ not-false _ (post .if1 .left), lt-leb _ _ (c .if2 .taken)))
 
 place-requires : tie.Need-place-requires
 place-requires c κs = search needs
@@ -30,10 +33,11 @@ returns-3 : tie.Need-returns-3
 unfolding setUpOf
 returns-3 c =
     let on = c .before .before .before in
-    let a = on .before .before .args in
+    let post = on .before in
+    let a = post .before .before .args in
     set-both (a .t) (a .post) (a .channel) (a .limits)
     (rw (
-      lt-ltb (a .post) postCount (omega arith),
+      sym (post .before .is-post .ensures) ∙ not-false _ (post .if1 .left),
       le-leb _ _ (on .if2 .left),
       ← c .before .before .place .ensures .0,
       sym (c .before .other .ensures) ∙ c .if3 .taken,
@@ -47,10 +51,11 @@ unfolding setUpOf
 returns-4 c =
     let free = c .before .before in
     let on = free .before .before .before in
-    let a = on .before .before .args in
+    let post = on .before in
+    let a = post .before .before .args in
     set-both (a .t) (a .post) (a .channel) (a .limits)
     (rw (
-      lt-ltb (a .post) postCount (omega arith),
+      sym (post .before .is-post .ensures) ∙ not-false _ (post .if1 .left),
       le-leb _ _ (on .if2 .left),
       ← free .before .before .place .ensures .0,
       sym (free .before .other .ensures) ∙ free .if3 .left,
@@ -69,10 +74,11 @@ returns-5 c =
     let fit = c .before .before in
     let free = fit .before .before in
     let on = free .before .before .before in
-    let a = on .before .before .args in
+    let post = on .before in
+    let a = post .before .before .args in
     set-both (a .t) (a .post) (a .channel) (a .limits)
     (rw (
-      lt-ltb (a .post) postCount (omega arith),
+      sym (post .before .is-post .ensures) ∙ not-false _ (post .if1 .left),
       le-leb _ _ (on .if2 .left),
       ← free .before .before .place .ensures .0,
       sym (free .before .other .ensures) ∙ free .if3 .left,
@@ -85,6 +91,7 @@ pub set-up-plain-spec : {M : Type 1} → statement M
 set-up-plain-spec =
     tie.close
     (tie.spec
+    is-post-requires
     returns
     returns-2
     place-requires

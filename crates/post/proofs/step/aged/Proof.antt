@@ -1,4 +1,4 @@
--- `post::step::aged` meets its contract: only whether the post was heard, and its time, are new.
+-- `post::step::aged` meets its contract: only whether the head was heard, and its time, are new.
 use mathlib.Core.Path.{refl}
 use Rattle.rules.specs.Step.{agedTo}
 use Rattle.post.proofs.step.aged.Statement.{statement}

@@ -5,12 +5,12 @@ use Rattle.rules.specs.Step.{sessionAfter}
 use Rattle.post.proofs.step.session_after.Statement.{statement}
 use Rattle.post.proofs.step.session_after.Tie as tie
 
-status-put-requires : tie.Need-status-put-requires
-status-put-requires c κs = search needs
+kept-put-requires : tie.Need-kept-put-requires
+kept-put-requires c κs = search needs
 
 returns : tie.Need-returns
 unfolding sessionAfter
-returns c = rw (eq-eqb _ _ (c .before .if1 .taken)) (c .status-put .ensures)
+returns c = rw (eq-eqb _ _ (c .before .if1 .taken)) (c .kept-put .ensures)
 
 opened-by-requires : tie.Need-opened-by-requires
 opened-by-requires c κs = search needs
@@ -19,14 +19,14 @@ returns-2 : tie.Need-returns-2
 unfolding sessionAfter
 returns-2 c = rw (ne-eqb _ _ (c .before .before .if1 .left), eq-eqb _ _ (c .before .if2 .taken)) (c .opened-by .ensures)
 
-control-put-requires : tie.Need-control-put-requires
-control-put-requires c κs = search needs
+kept-put-requires-2 : tie.Need-kept-put-requires-2
+kept-put-requires-2 c κs = search needs
 
 returns-3 : tie.Need-returns-3
 unfolding sessionAfter
 returns-3 c =
     let k = c .before in
-    rw (ne-eqb _ _ (k .before .before .if1 .left), ne-eqb _ _ (k .before .if2 .left), eq-eqb _ _ (k .if3 .taken)) (c .control-put .ensures)
+    rw (ne-eqb _ _ (k .before .before .if1 .left), ne-eqb _ _ (k .before .if2 .left), eq-eqb _ _ (k .if3 .taken)) (c .kept-put2 .ensures)
 
 no-session-requires : tie.Need-no-session-requires
 no-session-requires c κs = search needs
@@ -46,11 +46,11 @@ pub session-after-spec : {M : Type 1} → statement M
 session-after-spec =
     tie.close
     (tie.spec
-    status-put-requires
+    kept-put-requires
     returns
     opened-by-requires
     returns-2
-    control-put-requires
+    kept-put-requires-2
     returns-3
     no-session-requires
     returns-4

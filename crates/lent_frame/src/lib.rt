@@ -1,0 +1,46 @@
+// A frame in place: one head is copied out and stepped by value; it is stored back, and the frame in its kind's slot. Its answer and the table are exactly what `watch::frame` gives.
+// It stands alone, since the compiler builds a step into its entry only where the step has one caller. For C, and through `gateway` for Rattle.
+ghost use mathlib.Core.Path.{_≡_};
+ghost use Rattle.lent_step.specs.Fed.{frameWord};
+use lent_step::frame_on;
+use lent_words::Lent;
+use rules::KINDS;
+use watch_places::some_place;
+use watch_rules::Table;
+
+#[no_mangle]
+pub extern "C" fn rokemaipu_frame(
+    t: &mut Table,
+    channel: u32,
+    time: u32,
+    id: u32,
+    extended: bool,
+    payload: &[u8],
+) -> u32
+    ensures { λ r. ⌜ (r ≡ frameWord (now (t .entry)) channel time id extended (now (payload .entry)) .answer) × (now (t .exit) ≡ frameWord (now (t .entry)) channel time id extended (now (payload .entry)) .table) ⌝ }
+{
+    let i = some_place(*t, channel);
+    let h = t.posts[i].head;
+    let r = frame_on(h, channel, time, id, extended, payload);
+    t.posts[i].head = r.head;
+    let at = r.at;
+    if at < KINDS {
+        t.posts[i].latest[at] = r.slot;
+    }
+    r.answer
+}
+
+// By value over the entry, for callers in Rattle, through `gateway`: they make no reference to a table themselves.
+pub fn lend_frame(
+    mut t: Table,
+    channel: u32,
+    time: u32,
+    id: u32,
+    extended: bool,
+    payload: &[u8],
+) -> Lent
+    ensures { λ r. ⌜ r ≡ frameWord t channel time id extended (now (payload .entry)) ⌝ }
+{
+    let answer = rokemaipu_frame(&mut t, channel, time, id, extended, payload);
+    Lent { table: t, answer }
+}

@@ -1,0 +1,31 @@
+// A tick in place, as a frame is in `lent_frame`: its answer and the table are exactly what `watch::tick` gives. For C, and through `gateway` for Rattle.
+ghost use mathlib.Core.Path.{_≡_};
+ghost use Rattle.lent_step.specs.Fed.{tickWord};
+use lent_step::tick_on;
+use lent_words::Lent;
+use rules::KINDS;
+use watch_places::some_place;
+use watch_rules::Table;
+
+#[no_mangle]
+pub extern "C" fn rokemaipu_tick(t: &mut Table, channel: u32, time: u32) -> u32
+    ensures { λ r. ⌜ (r ≡ tickWord (now (t .entry)) channel time .answer) × (now (t .exit) ≡ tickWord (now (t .entry)) channel time .table) ⌝ }
+{
+    let i = some_place(*t, channel);
+    let h = t.posts[i].head;
+    let r = tick_on(h, channel, time);
+    t.posts[i].head = r.head;
+    let at = r.at;
+    if at < KINDS {
+        t.posts[i].latest[at] = r.slot;
+    }
+    r.answer
+}
+
+// By value over the entry, for callers in Rattle, through `gateway`: they make no reference to a table themselves.
+pub fn lend_tick(mut t: Table, channel: u32, time: u32) -> Lent
+    ensures { λ r. ⌜ r ≡ tickWord t channel time ⌝ }
+{
+    let answer = rokemaipu_tick(&mut t, channel, time);
+    Lent { table: t, answer }
+}
