@@ -4,7 +4,7 @@
  * lend is read or written, no memory is kept after a call, and nothing is allocated. What you owe, since C cannot be proved:
  *
  *   - a pointer points to the memory that its type and length say (NULL with length 0 is an empty slice);
- *   - a bool is 0 or 1, in the table too;
+ *   - a bool is 0 or 1;
  *   - two slices of one call do not overlap, and no slice lies in the table;
  *   - the table is zeroed memory, or was started, or came out of these functions. Any other table is answered as well, but then its
  *     answers are those of the numbers that you put there.
@@ -131,12 +131,12 @@ enum rokemaipu_entry {
 
 /* ---- the table that you lend: read it as you like, change it through the functions below ----
  *
- * A frame's payload stands in it as a number, byte 0 lowest, as it came; a safety controller's with byte 0 highest. Padding bytes may hold
- * anything after a call: compare tables field by field. */
+ * A frame's payload stands in it as a number, byte 0 lowest, as it came; a safety controller's with byte 0 highest. Flags are 0 or 1, and there is
+ * no padding: two tables can be compared byte by byte. */
 
-typedef struct rokemaipu_slot { /* 16 bytes: the latest frame of a kind, all 0 where none was accepted */
-    bool known;
-    uint32_t time; /* ms, as received */
+typedef struct rokemaipu_slot { /* 24 bytes: the latest frame of a kind, all 0 where none was accepted */
+    uint64_t known;
+    uint64_t time; /* ms, as received */
     uint64_t raw;
 } rokemaipu_slot;
 
@@ -148,25 +148,37 @@ typedef struct rokemaipu_limits {
     uint32_t sensor;    /* of rokemaipu_sensor */
 } rokemaipu_limits;
 
-typedef struct rokemaipu_session { /* 48 bytes, all 0 where no session is open */
-    bool opened;
-    uint32_t since;
-    uint64_t first;         /* the New_Charge_Session that opened it: protocol in byte 0, plug in byte 1 */
-    rokemaipu_slot status;  /* the latest Power_Modules_Status accepted in it */
-    rokemaipu_slot control; /* the latest DC_Power_Control accepted in it */
+/* What a session keeps: the latest of these accepted in it. */
+enum rokemaipu_kept {
+    ROKEMAIPU_KEPT_STATUS = 0,  /* Power_Modules_Status */
+    ROKEMAIPU_KEPT_CONTROL = 1, /* DC_Power_Control */
+    ROKEMAIPU_KEPT = 2          /* how many they are */
+};
+
+typedef struct rokemaipu_session { /* 72 bytes, all 0 where no session is open */
+    uint64_t opened;
+    uint64_t since;
+    uint64_t first; /* the New_Charge_Session that opened it: protocol in byte 0, plug in byte 1 */
+    rokemaipu_slot kept[ROKEMAIPU_KEPT];
 } rokemaipu_session;
 
-typedef struct rokemaipu_post { /* 280 bytes */
-    bool used; /* set up */
+typedef struct rokemaipu_head { /* 160 bytes: what the findings are read from */
+    uint32_t used; /* set up */
     uint32_t channel;
     rokemaipu_limits limits;
-    bool heard; /* a frame or tick was accepted since set-up */
-    uint32_t time;
-    rokemaipu_slot latest[ROKEMAIPU_KINDS];
+    uint32_t heard; /* a frame or tick was accepted since set-up */
+    uint64_t time;
+    rokemaipu_slot controller; /* the latest Advantics_Controller_Status, as in latest */
+    rokemaipu_slot parameters; /* the latest DC_Power_Parameters, as in latest */
     rokemaipu_session session;
+} rokemaipu_head;
+
+typedef struct rokemaipu_post { /* 448 bytes */
+    rokemaipu_head head;
+    rokemaipu_slot latest[ROKEMAIPU_KINDS];
 } rokemaipu_post;
 
-typedef struct rokemaipu_table { /* 2,240 bytes; zeroed memory is the empty table */
+typedef struct rokemaipu_table { /* 3,584 bytes; zeroed memory is the empty table */
     rokemaipu_post posts[ROKEMAIPU_POSTS];
 } rokemaipu_table;
 

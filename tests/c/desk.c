@@ -129,7 +129,7 @@ static void put_slot(const char *name, uint32_t kind, size_t n, const rokemaipu_
         return;
     }
     for (size_t i = 0; i < n; i++) payload[i] = (uint8_t)(s->raw >> (8 * i));
-    put_dated(kind, payload, n, s->time);
+    put_dated(kind, payload, n, (uint32_t)s->time);
 }
 
 static void record(uint32_t post) {
@@ -147,8 +147,8 @@ static void record(uint32_t post) {
     else printf(" last=-");
     if (n[ROKEMAIPU_OPENED]) {
         printf(" open=1 since=%" PRIu32 " first=%" PRIu32 ",%" PRIu32, n[ROKEMAIPU_SINCE], n[ROKEMAIPU_PROTOCOL], n[ROKEMAIPU_PLUG]);
-        put_slot("spms", ROKEMAIPU_POWER_MODULES_STATUS, 8, &table.posts[post].session.status);
-        put_slot("sdpc", ROKEMAIPU_DC_POWER_CONTROL, 7, &table.posts[post].session.control);
+        put_slot("spms", ROKEMAIPU_POWER_MODULES_STATUS, 8, &table.posts[post].head.session.kept[ROKEMAIPU_KEPT_STATUS]);
+        put_slot("sdpc", ROKEMAIPU_DC_POWER_CONTROL, 7, &table.posts[post].head.session.kept[ROKEMAIPU_KEPT_CONTROL]);
     } else
         printf(" open=0 since=- first=- spms=- sdpc=-");
     printf(" latest=");

@@ -6,7 +6,7 @@
 
 static size_t holder(const rokemaipu_table *table, uint64_t channel) {
     size_t post = 0;
-    while (post < ROKEMAIPU_POSTS && !(table->posts[post].used && table->posts[post].channel == channel)) post++;
+    while (post < ROKEMAIPU_POSTS && !(table->posts[post].head.used && table->posts[post].head.channel == channel)) post++;
     return post;
 }
 

@@ -3,65 +3,64 @@
 #include "fence.h"
 #include "peer.h"
 
-/* ---- tables, field by field */
+/* ---- tables have no padding */
 
-static bool same_slot(const rokemaipu_slot *a, const rokemaipu_slot *b) { return a->known == b->known && a->time == b->time && a->raw == b->raw; }
+static bool same_post(const rokemaipu_post *p, const rokemaipu_post *q) { return !memcmp(p, q, sizeof *p); }
 
-static bool same_post(const rokemaipu_post *p, const rokemaipu_post *q) {
-    bool r = p->used == q->used && p->channel == q->channel && !memcmp(&p->limits, &q->limits, sizeof p->limits) && p->heard == q->heard && p->time == q->time
-        && p->session.opened == q->session.opened && p->session.since == q->session.since && p->session.first == q->session.first
-        && same_slot(&p->session.status, &q->session.status) && same_slot(&p->session.control, &q->session.control);
-    for (int k = 0; k < ROKEMAIPU_KINDS; k++) r = r && same_slot(&p->latest[k], &q->latest[k]);
-    return r;
-}
-
-static bool same_table(const rokemaipu_table *a, const rokemaipu_table *b) {
-    for (int i = 0; i < ROKEMAIPU_POSTS; i++)
-        if (!same_post(&a->posts[i], &b->posts[i])) return false;
-    return true;
-}
+static bool same_table(const rokemaipu_table *a, const rokemaipu_table *b) { return !memcmp(a, b, sizeof *a); }
 
 /* ---- the layout that the archive has */
 
 static void layout(void) {
-    IS(sizeof(rokemaipu_slot), 16);
+    IS(sizeof(rokemaipu_slot), 24);
     IS(sizeof(rokemaipu_limits), 20);
-    IS(sizeof(rokemaipu_session), 48);
-    IS(sizeof(rokemaipu_post), 280);
-    IS(sizeof(rokemaipu_table), 2240);
-    IS(offsetof(rokemaipu_slot, raw), 8);
+    IS(sizeof(rokemaipu_session), 72);
+    IS(sizeof(rokemaipu_head), 160);
+    IS(sizeof(rokemaipu_post), 448);
+    IS(sizeof(rokemaipu_table), 3584);
+    IS(offsetof(rokemaipu_slot, time), 8);
+    IS(offsetof(rokemaipu_slot, raw), 16);
     IS(offsetof(rokemaipu_limits, sensor), 16);
-    IS(offsetof(rokemaipu_session, status), 16);
-    IS(offsetof(rokemaipu_session, control), 32);
-    IS(offsetof(rokemaipu_post, channel), 4);
-    IS(offsetof(rokemaipu_post, limits), 8);
-    IS(offsetof(rokemaipu_post, heard), 28);
-    IS(offsetof(rokemaipu_post, time), 32);
-    IS(offsetof(rokemaipu_post, latest), 40);
-    IS(offsetof(rokemaipu_post, session), 232);
+    IS(offsetof(rokemaipu_session, since), 8);
+    IS(offsetof(rokemaipu_session, first), 16);
+    IS(offsetof(rokemaipu_session, kept), 24);
+    IS(offsetof(rokemaipu_head, channel), 4);
+    IS(offsetof(rokemaipu_head, limits), 8);
+    IS(offsetof(rokemaipu_head, heard), 28);
+    IS(offsetof(rokemaipu_head, time), 32);
+    IS(offsetof(rokemaipu_head, controller), 40);
+    IS(offsetof(rokemaipu_head, parameters), 64);
+    IS(offsetof(rokemaipu_head, session), 88);
+    IS(offsetof(rokemaipu_post, latest), 160);
     rokemaipu_table t, zero;
     memset(&t, 0, sizeof t);
     memset(&zero, 0, sizeof zero);
     IS(rokemaipu_set_up(&t, 7, 31, 1, 2, 3, 100, ROKEMAIPU_YES_NO), 0);
-    IS(t.posts[7].used, 1);
-    IS(t.posts[7].channel, 31);
-    IS(t.posts[7].limits.voltage, 1);
-    IS(t.posts[7].limits.charge, 2);
-    IS(t.posts[7].limits.discharge, 3);
-    IS(t.posts[7].limits.silence, 100);
-    IS(t.posts[7].limits.sensor, 1);
+    IS(t.posts[7].head.used, 1);
+    IS(t.posts[7].head.channel, 31);
+    IS(t.posts[7].head.limits.voltage, 1);
+    IS(t.posts[7].head.limits.charge, 2);
+    IS(t.posts[7].head.limits.discharge, 3);
+    IS(t.posts[7].head.limits.silence, 100);
+    IS(t.posts[7].head.limits.sensor, 1);
     IS(rokemaipu_frame(&t, 31, 9, 0x6b001, true, (const uint8_t[]){2, 1}, 2), 0);
     IS(rokemaipu_frame(&t, 31, 10, 0x63000, true, (const uint8_t[]){1, 2, 3, 4, 5, 6, 1, 8}, 8), ROKEMAIPU_F(8)); /* 0x0403 tenths of an ampere, above 2 */
-    IS(t.posts[7].heard, 1);
-    IS(t.posts[7].time, 10);
+    IS(t.posts[7].head.heard, 1);
+    IS(t.posts[7].head.time, 10);
     IS(t.posts[7].latest[ROKEMAIPU_POWER_MODULES_STATUS].known, 1);
     IS(t.posts[7].latest[ROKEMAIPU_POWER_MODULES_STATUS].time, 10);
     IS(t.posts[7].latest[ROKEMAIPU_POWER_MODULES_STATUS].raw, 0x0801060504030201u);
-    IS(t.posts[7].session.opened, 1);
-    IS(t.posts[7].session.since, 9);
-    IS(t.posts[7].session.first, 0x0102);
-    IS(t.posts[7].session.status.raw, 0x0801060504030201u);
-    IS(t.posts[7].session.control.known, 0);
+    IS(t.posts[7].head.session.opened, 1);
+    IS(t.posts[7].head.session.since, 9);
+    IS(t.posts[7].head.session.first, 0x0102);
+    IS(t.posts[7].head.session.kept[ROKEMAIPU_KEPT_STATUS].raw, 0x0801060504030201u);
+    IS(t.posts[7].head.session.kept[ROKEMAIPU_KEPT_CONTROL].known, 0);
+    IS(rokemaipu_frame(&t, 31, 11, 0x6b000, true, (const uint8_t[]){7}, 1), 0);
+    IS(rokemaipu_frame(&t, 31, 11, 0x63001, true, (const uint8_t[]){1, 2, 3, 4, 5, 6, 7, 8}, 8), 0);
+    IS(t.posts[7].head.controller.raw, 7);
+    IS(t.posts[7].head.parameters.raw, 0x0807060504030201u);
+    IS(memcmp(&t.posts[7].head.controller, &t.posts[7].latest[ROKEMAIPU_CONTROLLER_STATUS], sizeof(rokemaipu_slot)), 0);
+    IS(memcmp(&t.posts[7].head.parameters, &t.posts[7].latest[ROKEMAIPU_DC_POWER_PARAMETERS], sizeof(rokemaipu_slot)), 0);
     IS(rokemaipu_frame(&t, 31, 11, 8, false, (const uint8_t[]){1, 2, 3, 4, 5, 6, 7, 8}, 8), 0);
     IS(t.posts[7].latest[ROKEMAIPU_PT1000_STATE].raw, 0x0102030405060708u); /* byte 0 highest */
     IS(rokemaipu_start(&t), 0);
@@ -139,7 +138,7 @@ static void refused_frames(void) {
     REFUSES(rokemaipu_frame(&t, 4, 0, 0x6b001, true, (const uint8_t[]){7, 5}, 2), 5, 8);
     REFUSES(rokemaipu_frame(&t, 4, 0, 0x6b001, true, (const uint8_t[]){8, 5, 0}, 3), 15, 0);
     REFUSES(rokemaipu_frame(&t, 5, 0, 0x6b001, true, (const uint8_t[]){8, 5}, 2), 1, 0);
-    IS(t.posts[0].heard, 0);
+    IS(t.posts[0].head.heard, 0);
     for (uint32_t answer = 0; answer < ROKEMAIPU_REFUSED; answer++)
         if (rokemaipu_refusal(answer) || rokemaipu_start_bit(answer)) IS(answer, 0); /* findings are no refusal */
     puts("refused frames: E2, E3, E16; too long; two signals without a label");
@@ -262,7 +261,7 @@ static void posts(void) {
     IS(rokemaipu_frame(&t, 4, 0, 0x6b003, true, d, 7), ROKEMAIPU_F(3) | ROKEMAIPU_F(4));
     IS(rokemaipu_set_up(&t, 1, 4, 5000, 1000, 500, 500, 0), R(11)); /* E12 */
     IS(rokemaipu_set_up(&t, 0, 4, 5000, 1000, 500, 500, 0), 0);
-    IS(t.posts[0].heard, 0);
+    IS(t.posts[0].head.heard, 0);
     IS(rokemaipu_set_up(&t, 8, 5, 5000, 1000, 500, 500, 0), R(9));
     IS(rokemaipu_set_up(&t, 1, 32, 5000, 1000, 500, 500, 0), R(10));
     IS(rokemaipu_set_up(&t, 1, 5, 5000, 1000, 500, 99, 0), R(12));
@@ -381,18 +380,27 @@ static void looks(void) {
 /* a table that the functions did not make may hold any number; all but 1 count as measuring */
 static uint32_t some_sensor(void) { return below(4) ? below(3) : (uint32_t)next(); }
 
-static void random_slot(rokemaipu_slot *s) { s->known = below(2), s->time = (uint32_t)next(), s->raw = next(); }
+/* of flags all but 1 count as 0 */
+static uint32_t some_flag(void) { return below(8) ? below(2) : (uint32_t)next(); }
+
+static uint64_t some_time(void) { return below(8) ? (uint32_t)next() : next(); }
+
+static void random_slot(rokemaipu_slot *s) { s->known = some_flag(), s->time = some_time(), s->raw = next(); }
+
+static void random_head(rokemaipu_head *h) {
+    h->used = some_flag(), h->channel = below(40), h->heard = some_flag(), h->time = some_time();
+    h->limits.voltage = (uint32_t)next(), h->limits.charge = (uint32_t)next(), h->limits.discharge = (uint32_t)next(), h->limits.silence = (uint32_t)next();
+    h->limits.sensor = some_sensor();
+    random_slot(&h->controller);
+    random_slot(&h->parameters);
+    h->session.opened = some_flag(), h->session.since = some_time(), h->session.first = next();
+    for (int k = 0; k < ROKEMAIPU_KEPT; k++) random_slot(&h->session.kept[k]);
+}
 
 static void random_table(rokemaipu_table *t) {
     for (int i = 0; i < ROKEMAIPU_POSTS; i++) {
-        rokemaipu_post *p = &t->posts[i];
-        p->used = below(2), p->channel = below(40), p->heard = below(2), p->time = (uint32_t)next();
-        p->limits.voltage = (uint32_t)next(), p->limits.charge = (uint32_t)next(), p->limits.discharge = (uint32_t)next(), p->limits.silence = (uint32_t)next();
-        p->limits.sensor = some_sensor();
-        for (int k = 0; k < ROKEMAIPU_KINDS; k++) random_slot(&p->latest[k]);
-        p->session.opened = below(2), p->session.since = (uint32_t)next(), p->session.first = next();
-        random_slot(&p->session.status);
-        random_slot(&p->session.control);
+        random_head(&t->posts[i].head);
+        for (int k = 0; k < ROKEMAIPU_KINDS; k++) random_slot(&t->posts[i].latest[k]);
     }
 }
 
@@ -412,7 +420,7 @@ static void anything(void) {
         size_t length = below(12);
         uint8_t *payload = end - length; /* ends at the fence */
         for (size_t i = 0; i < length; i++) payload[i] = below(3) ? (uint8_t)below(6) : (uint8_t)next();
-        uint32_t channel = below(40), time = below(2) ? (uint32_t)next() : t->posts[below(8)].time, which = below(IDS), r;
+        uint32_t channel = below(40), time = below(2) ? (uint32_t)next() : (uint32_t)t->posts[below(8)].head.time, which = below(IDS), r;
         switch (below(4)) {
         case 0: r = rokemaipu_frame(t, channel, time, ids[which], some_form(which), payload, length); break;
         case 1: r = rokemaipu_tick(t, channel, time); break;
@@ -451,11 +459,11 @@ static void any_frame(void) {
         seen[rokemaipu_refusal(word)]++;
         if (rokemaipu_refusal(word) == 5) starts[rokemaipu_start_bit(word)]++;
         time += below(20);
-        if (turn % 50 == 0) ours.posts[0].limits.sensor = plain.posts[0].limits.sensor = some_sensor();
+        if (turn % 50 == 0) ours.posts[0].head.limits.sensor = plain.posts[0].head.limits.sensor = some_sensor();
         word = peer_frame(&plain, 4, time, id, extended, payload, length);
         IS(rokemaipu_frame(&ours, 4, time, id, extended, payload, length), word);
         if (!same_table(&ours, &plain)) IS(turn, -1);
-        if (!rokemaipu_refusal(word) && (word & ROKEMAIPU_F(9))) low[plain.posts[0].limits.sensor == ROKEMAIPU_YES_NO][!payload[0] && !payload[1]]++;
+        if (!rokemaipu_refusal(word) && (word & ROKEMAIPU_F(9))) low[plain.posts[0].head.limits.sensor == ROKEMAIPU_YES_NO][!payload[0] && !payload[1]]++;
     }
     IS(seen[0] && seen[3] && seen[4] && seen[6] && seen[15], true);
     IS(starts[0] && starts[8] && starts[48], true);
@@ -496,15 +504,17 @@ static void any_look(void) {
     for (int turn = 0; turn < 300; turn++) {
         if (mprotect(t, page, PROT_READ | PROT_WRITE)) exit(1);
         random_table(t);
-        for (int i = 0; turn % 3 && i < ROKEMAIPU_POSTS; i++) t->posts[i].used = 1;
+        for (int i = 0; turn % 3 && i < ROKEMAIPU_POSTS; i++) t->posts[i].head.used = 1;
         if (mprotect(t, page, PROT_READ)) exit(1);
         for (uint32_t post = 0; post < 10; post++) {
             const rokemaipu_post *p = &t->posts[post % 8];
-            const rokemaipu_session *s = &p->session;
-            uint32_t refused = post > 7 ? R(9) : !p->used ? R(14) : 0;
-            const uint32_t want[ROKEMAIPU_NUMBERS] = {p->channel, p->limits.voltage, p->limits.charge, p->limits.discharge, p->limits.silence,
-                p->limits.sensor == ROKEMAIPU_YES_NO, p->heard, p->heard ? p->time : 0,
-                s->opened, s->opened ? s->since : 0, s->opened ? least(s->first & 0xff, 7) : 0, s->opened ? least(s->first >> 8 & 0xff, 4) : 0}; /* without a label: the last one */
+            const rokemaipu_head *h = &p->head;
+            const rokemaipu_session *s = &h->session;
+            bool heard = h->heard == 1, opened = s->opened == 1;
+            uint32_t refused = post > 7 ? R(9) : h->used != 1 ? R(14) : 0;
+            const uint32_t want[ROKEMAIPU_NUMBERS] = {h->channel, h->limits.voltage, h->limits.charge, h->limits.discharge, h->limits.silence,
+                h->limits.sensor == ROKEMAIPU_YES_NO, heard, heard ? (uint32_t)h->time : 0,
+                opened, opened ? (uint32_t)s->since : 0, opened ? least(s->first & 0xff, 7) : 0, opened ? least(s->first >> 8 & 0xff, 4) : 0}; /* without a label: the last one */
             for (size_t places = 0; places <= MOST; places++) {
                 uint32_t answer = refused ? refused : places < ROKEMAIPU_NUMBERS ? R(8) : 0;
                 lend(&numbers, places);
@@ -515,13 +525,14 @@ static void any_look(void) {
                 for (size_t places = 0; places < 3; places++)
                     for (size_t room = 0; room <= 10; room++) {
                         const rokemaipu_slot *l = &p->latest[kind % ROKEMAIPU_KINDS];
-                        uint32_t length = lengths_of[kind % ROKEMAIPU_KINDS], answer = refused ? refused : kind >= ROKEMAIPU_KINDS ? R(3) : !l->known ? 0 : !places || room < length ? R(8) : length;
+                        uint32_t length = lengths_of[kind % ROKEMAIPU_KINDS], answer = refused ? refused : kind >= ROKEMAIPU_KINDS ? R(3) : l->known != 1 ? 0 : !places || room < length ? R(8) : length;
                         bool out = answer && !rokemaipu_refusal(answer);
                         uint8_t bytes[8];
+                        uint32_t received = (uint32_t)l->time;
                         for (int i = 0; i < 8; i++) bytes[i] = (uint8_t)(l->raw >> 8 * (is_standard(kind) ? 7 - i : i));
                         lend(&time, places), lend(&buf, room);
                         IS(rokemaipu_latest(t, post, kind, (uint32_t *)time.at, places, buf.at, room), answer);
-                        lent_is(__LINE__, &time, &l->time, out);
+                        lent_is(__LINE__, &time, &received, out);
                         lent_is(__LINE__, &buf, bytes, out ? length : 0);
                     }
             if (bad) return;
@@ -529,7 +540,7 @@ static void any_look(void) {
         uint32_t far = below(2) ? 0xffffffff : 8 + below(1000); /* any number */
         IS(rokemaipu_look_up(t, far, NULL, 0), R(9));
         IS(rokemaipu_latest(t, far, far, NULL, 0, NULL, 0), R(9));
-        if (t->posts[0].used) IS(rokemaipu_latest(t, 0, 0x80000000u + below(9), NULL, 0, NULL, 0), R(3));
+        if (t->posts[0].head.used == 1) IS(rokemaipu_latest(t, 0, 0x80000000u + below(9), NULL, 0, NULL, 0), R(3));
     }
     puts("any table looked up, with lent memory of every length: answered; the table only read, no other place written");
 }
