@@ -35,12 +35,15 @@ bench: lib replay
 	@mkdir -p target/bench
 	@. tests/machine; set -e; \
 	[ -z "$(BEFORE)" ] || bench/before $(BEFORE); \
+	bench/larger; \
 	$$cc -O2 -Wall -Wextra $(if $(BEFORE),-DBEFORE) -Itarget/lib -Ibench bench/bench.c bench/peer.c bench/peer_log.c target/lib/librokemaipu.a $(if $(BEFORE),target/before/libbefore.a) -o target/lib/bench; \
+	$$cc -O2 -Wall -Wextra -Itarget/lib -Ibench bench/larger.c target/lib/librokemaipu.a target/larger/liblarger.a -o target/larger/larger; \
 	$$cc -O2 -Wall -Wextra -Itarget/lib -Wl,--wrap=memcpy,--wrap=memmove bench/copied.c target/lib/librokemaipu.a -o target/lib/copied; \
 	$$cc -O2 -Wall -Wextra -Itarget/lib -Ibench bench/peer_replay.c bench/peer.c bench/peer_log.c -o target/lib/peer_replay; \
 	$$cc -O2 -Wall -Wextra -Itarget/lib -Ibench bench/replay.c bench/peer_log.c -o target/lib/bench_replay; \
 	[ -z "$$run" ] || echo "emulated: times and ratios are the emulator's"; \
 	$$run target/lib/bench; \
+	$$run target/larger/larger; \
 	$$run target/lib/copied; \
 	$$run target/lib/bench_replay target/bench $(CURDIR)/target/bin/replay $(CURDIR)/target/lib/peer_replay $$run
 

@@ -17,7 +17,7 @@ typedef uint64_t work(const side *s, void *with);
 
 typedef struct { double took[SIDES]; } times;
 
-static times timed(const char *what, work *f, void *with, int turns, double calls, int again) {
+static times timed(const char *what, work *f, void *with, int turns, double calls, int again, bool table) {
     times best;
     uint64_t first = f(&sides[0], with);
     best.took[0] = 1e300;
@@ -27,6 +27,7 @@ static times timed(const char *what, work *f, void *with, int turns, double call
     }
     while (again-- > 0)
         for (int k = 0; k < SIDES; k++) {
+            if (sides[k].table_only && !table) continue;
             double from = now();
             for (int turn = 0; turn < turns; turn++) sum += f(&sides[k], with);
             double took = (now() - from) / (turns * calls);
@@ -37,12 +38,13 @@ static times timed(const char *what, work *f, void *with, int turns, double call
 
 static void told(const char *what, times t) {
     printf("%-26s %7.1f ns", what, t.took[0]);
-    for (int k = 1; k < SIDES; k++) printf("   %7.1f ns %s, %5.2f times", t.took[k], sides[k].name, t.took[0] / t.took[k]);
+    for (int k = 1; k < SIDES; k++)
+        if (t.took[k] < 1e299) printf("   %7.1f ns %s, %5.2f times", t.took[k], sides[k].name, t.took[0] / t.took[k]);
     printf("\n");
 }
 
 static times line(const char *what, work *f, void *with, int turns, double calls) {
-    times t = timed(what, f, with, turns, calls, AGAIN);
+    times t = timed(what, f, with, turns, calls, AGAIN, false);
     told(what, t);
     return t;
 }
@@ -172,7 +174,7 @@ static void bench_watch(const char *what, work *f, uint32_t posts, int turns, do
     times mean = {{0}};
     for (int place = 0; place < PLACES; place++) {
         set_up(&d, posts, (size_t)place * STEP);
-        times t = timed(what, f, &d, turns, calls, AGAIN / PLACES);
+        times t = timed(what, f, &d, turns, calls, AGAIN / PLACES, true);
         for (int k = 0; k < SIDES; k++) mean.took[k] += t.took[k] / PLACES;
     }
     told(what, mean);
@@ -204,7 +206,9 @@ static uint64_t read_log(const side *s, void *with) {
 
 static void speed(times t, double bytes) {
     printf("%26s", "");
-    for (int k = 0; k < SIDES; k++) printf(" %s %.1f million records/s, %.0f MB/s%s", sides[k].name, 1e3 / t.took[k], 1e3 * bytes / t.took[k], k < SIDES - 1 ? ";" : "\n");
+    for (int k = 0; k < SIDES; k++)
+        if (!sides[k].table_only) printf("%s %s %.1f million records/s, %.0f MB/s", k ? ";" : "", sides[k].name, 1e3 / t.took[k], 1e3 * bytes / t.took[k]);
+    printf("\n");
 }
 
 static void bench_log(void) {

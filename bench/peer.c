@@ -193,82 +193,61 @@ uint32_t peer_change(uint32_t id, bool extended, uint8_t *p, size_t n, uint32_t 
     return 0;
 }
 
-static rokemaipu_post *holder(rokemaipu_table *t, uint32_t channel) {
-    if (channel > 31) return NULL;
-    for (int i = 0; i < ROKEMAIPU_POSTS; i++)
-        if (t->posts[i].used && t->posts[i].channel == channel) return &t->posts[i];
-    return NULL;
-}
-
-static uint32_t since(uint32_t now, uint32_t from) { return from <= now ? now - from : 0; }
-
-static uint32_t always(const rokemaipu_post *p, uint32_t time) {
-    uint32_t f = 0;
-    const rokemaipu_session *s = &p->session;
-    if (s->opened) {
-        uint32_t from = s->since;
-        if (s->status.known && s->status.time > from) from = s->status.time;
-        if (since(time, from) > p->limits.silence) f |= 1;
-    }
-    if (p->latest[2].known && since(time, p->latest[2].time) > 200) f |= 2;
-    return f;
-}
-
-static uint32_t limit(const rokemaipu_post *p, uint32_t most, int shift) {
-    if (!p->latest[1].known) return most;
-    uint32_t got = (uint32_t)(p->latest[1].raw >> shift & 0xffff);
-    return got && got < most ? got : most;
-}
+static uint64_t since(uint64_t now, uint64_t from) { return from <= now ? now - from : 0; }
 
 static bool poor(uint32_t sensor, uint64_t r) { return sensor == ROKEMAIPU_YES_NO ? !(r >> 56) : (r >> 56) * 200 < (r & 0xffff); }
 
 static bool powered(uint64_t f) { return f == 2 || f == 4 || f == 8; }
 
-static uint32_t found(const rokemaipu_post *p, uint32_t kind, uint64_t r) {
-    const rokemaipu_session *s = &p->session;
-    uint32_t f = 0;
-    if (kind == 0) {
-        int64_t amps = s16(r >> 16);
-        if (s->opened && (amps > (int64_t)limit(p, p->limits.charge, 16) || amps < -(int64_t)limit(p, p->limits.discharge, 32))) f |= 128;
-        uint64_t g = s->control.raw >> 48 & 15;
-        if (s->opened && s->control.known && (g == 4 || g == 8) && poor(p->limits.sensor, r)) f |= 256;
-    } else if (kind == 3) {
-        if (s->opened && s->first != r) f |= 512;
-    } else if (kind == 5) {
-        uint64_t g = r >> 48 & 15;
-        if ((r >> 54 & 1) && !s->opened) f |= 4;
-        if (powered(g) && !s->opened) f |= 8;
-        if (powered(g) && s->opened && (!s->status.known || (s->status.raw >> 48 & 0xff) == 0)) f |= 16;
-        if ((r >> 55 & 1) && (g != 1 || (r & 0xffffffffffff))) f |= 32;
-        if (g && (r & 0xffff) > limit(p, p->limits.voltage, 0)) f |= 64;
-    } else if (kind == 6 && !s->opened) {
-        f |= 1024;
-    }
-    return f;
+/* ---- the watch, on the library's own table and on one that a C programmer would write */
+
+#define TABLE rokemaipu_table
+#define POST rokemaipu_post
+#define SESSION rokemaipu_session
+#define SLOT rokemaipu_slot
+#define HEAD(p) ((p)->head)
+#define STATUS(s) ((s)->kept[ROKEMAIPU_KEPT_STATUS])
+#define CONTROL(s) ((s)->kept[ROKEMAIPU_KEPT_CONTROL])
+#define CONTROLLER(p) ((p)->head.controller)
+#define PARAMETERS(p) ((p)->head.parameters)
+#define KEEP_IN_HEAD(p, kind, slot) do { if (kind == 2) (p)->head.controller = slot; if (kind == 1) (p)->head.parameters = slot; } while (0)
+#define SET(flag) ((flag) == 1)
+#define NAMED(name) peer_##name
+#include "peer_watch.h"
+
+#undef TABLE
+#undef POST
+#undef SESSION
+#undef SLOT
+#undef HEAD
+#undef STATUS
+#undef CONTROL
+#undef CONTROLLER
+#undef PARAMETERS
+#undef KEEP_IN_HEAD
+#undef SET
+#undef NAMED
+#define TABLE peer_table
+#define POST peer_post
+#define SESSION peer_session
+#define SLOT peer_slot
+#define HEAD(p) (*(p))
+#define STATUS(s) ((s)->status)
+#define CONTROL(s) ((s)->control)
+#define CONTROLLER(p) ((p)->latest[2])
+#define PARAMETERS(p) ((p)->latest[1])
+#define KEEP_IN_HEAD(p, kind, slot)
+#define SET(flag) (flag)
+#define NAMED(name) own_##name
+#include "peer_watch.h"
+
+uint32_t own_start(rokemaipu_table *memory) {
+    *(peer_table *)memory = (peer_table){0};
+    return 0;
 }
 
-uint32_t peer_frame(rokemaipu_table *t, uint32_t channel, uint32_t time, uint32_t id, bool extended, const uint8_t *bytes, size_t n) {
-    rokemaipu_post *p = holder(t, channel);
-    if (!p) return R(1);
-    if (p->heard && time < p->time) return R(2);
-    uint64_t r;
-    uint32_t kind = judge(id, extended, bytes, n, &r);
-    if (kind >= ROKEMAIPU_REFUSED) return kind;
-    uint32_t f = always(p, time) | found(p, kind, r);
-    rokemaipu_slot slot = {true, time, r};
-    rokemaipu_session *s = &p->session;
-    p->heard = true, p->time = time, p->latest[kind] = slot;
-    if (kind == 0 && s->opened) s->status = slot;
-    if (kind == 5 && s->opened) s->control = slot;
-    if (kind == 3 && !s->opened) *s = (rokemaipu_session){.opened = true, .since = time, .first = r};
-    if (kind == 6) *s = (rokemaipu_session){0};
-    return f;
-}
-
-uint32_t peer_tick(rokemaipu_table *t, uint32_t channel, uint32_t time) {
-    rokemaipu_post *p = holder(t, channel);
-    if (!p) return R(1);
-    if (p->heard && time < p->time) return R(2);
-    p->heard = true, p->time = time;
-    return always(p, time);
+/* Without set-up's refusals: nothing is timed here. */
+uint32_t own_set_up(rokemaipu_table *memory, uint32_t post, uint32_t channel, uint32_t voltage, uint32_t charge, uint32_t discharge, uint32_t silence, uint32_t sensor) {
+    ((peer_table *)memory)->posts[post] = (peer_post){.used = true, .channel = channel, .limits = {voltage, charge, discharge, silence, sensor}};
+    return 0;
 }

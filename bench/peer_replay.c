@@ -57,7 +57,7 @@ static void put_line(uint32_t post, uint32_t answer) {
 
 static uint32_t place(uint32_t channel) {
     uint32_t i = 0;
-    while (i < ROKEMAIPU_POSTS && !(table.posts[i].used && table.posts[i].channel == channel)) i++;
+    while (i < ROKEMAIPU_POSTS && !(table.posts[i].head.used && table.posts[i].head.channel == channel)) i++;
     return i;
 }
 
@@ -110,7 +110,7 @@ static void set_ups(const char *name) {
             fprintf(stderr, "%s: no set-up: %s", name, text);
             exit(1);
         }
-        table.posts[post] = (rokemaipu_post){.used = true, .channel = channel, .limits = l};
+        table.posts[post] = (rokemaipu_post){.head = {.used = 1, .channel = channel, .limits = l}};
     }
     fclose(file);
 }

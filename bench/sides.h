@@ -1,4 +1,4 @@
-/* The sides that bench.c compares: the library, plain C, and with BEFORE the library of an older revision (bench/before), whose symbols begin with before_. */
+/* The sides that bench.c compares: the library, plain C on the same table, plain C on a table of its own, which is timed where there is a table, and with BEFORE the library of an older revision (bench/before), whose symbols begin with before_. */
 #ifndef SIDES_H
 #define SIDES_H
 #include "peer.h"
@@ -15,11 +15,12 @@ typedef struct {
     uint32_t (*log_frame)(uint32_t time, uint32_t channel, uint32_t id, bool extended, const uint8_t *payload, size_t length, uint8_t *buffer, size_t room);
     uint32_t (*log_tick)(uint32_t time, uint32_t channel, uint8_t *buffer, size_t room);
     uint32_t (*log_record)(const uint8_t *log, size_t size, size_t at, uint64_t *numbers, size_t places);
+    bool table_only;
 } side;
 
 #define LIBRARY(name, prefix)                                                                                                                              \
     {name, prefix##rokemaipu_read, prefix##rokemaipu_write, prefix##rokemaipu_change, prefix##rokemaipu_start, prefix##rokemaipu_set_up, prefix##rokemaipu_frame, \
-     prefix##rokemaipu_tick, prefix##rokemaipu_log_frame, prefix##rokemaipu_log_tick, prefix##rokemaipu_log_record}
+     prefix##rokemaipu_tick, prefix##rokemaipu_log_frame, prefix##rokemaipu_log_tick, prefix##rokemaipu_log_record, false}
 
 #ifdef BEFORE
 extern __typeof__(rokemaipu_read) before_rokemaipu_read;
@@ -36,7 +37,8 @@ extern __typeof__(rokemaipu_log_record) before_rokemaipu_log_record;
 
 static const side sides[] = {
     LIBRARY("the library", ),
-    {"plain C", peer_read, peer_write, peer_change, rokemaipu_start, rokemaipu_set_up, peer_frame, peer_tick, peer_log_frame, peer_log_tick, peer_log_record},
+    {"plain C", peer_read, peer_write, peer_change, rokemaipu_start, rokemaipu_set_up, peer_frame, peer_tick, peer_log_frame, peer_log_tick, peer_log_record, false},
+    {"with a table of its own", peer_read, peer_write, peer_change, own_start, own_set_up, own_frame, own_tick, peer_log_frame, peer_log_tick, peer_log_record, true},
 #ifdef BEFORE
     LIBRARY("before", before_),
 #endif

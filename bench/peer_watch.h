@@ -1,0 +1,76 @@
+/* The session watch in plain C, over a table whose parts the macros name: peer.c takes it in once for each table. */
+
+static POST *NAMED(holder)(TABLE *t, uint32_t channel) {
+    if (channel > 31) return NULL;
+    for (int i = 0; i < ROKEMAIPU_POSTS; i++)
+        if (SET(HEAD(&t->posts[i]).used) && HEAD(&t->posts[i]).channel == channel) return &t->posts[i];
+    return NULL;
+}
+
+static uint32_t NAMED(always)(const POST *p, uint32_t time) {
+    uint32_t f = 0;
+    const SESSION *s = &HEAD(p).session;
+    if (SET(s->opened)) {
+        uint64_t from = s->since;
+        if (SET(STATUS(s).known) && STATUS(s).time > from) from = STATUS(s).time;
+        if (since(time, from) > HEAD(p).limits.silence) f |= 1;
+    }
+    if (SET(CONTROLLER(p).known) && since(time, CONTROLLER(p).time) > 200) f |= 2;
+    return f;
+}
+
+static uint32_t NAMED(limit)(const POST *p, uint32_t most, int shift) {
+    if (!SET(PARAMETERS(p).known)) return most;
+    uint32_t got = (uint32_t)(PARAMETERS(p).raw >> shift & 0xffff);
+    return got && got < most ? got : most;
+}
+
+static uint32_t NAMED(found)(const POST *p, uint32_t kind, uint64_t r) {
+    const SESSION *s = &HEAD(p).session;
+    uint32_t f = 0;
+    if (kind == 0) {
+        int64_t amps = s16(r >> 16);
+        if (SET(s->opened) && (amps > (int64_t)NAMED(limit)(p, HEAD(p).limits.charge, 16) || amps < -(int64_t)NAMED(limit)(p, HEAD(p).limits.discharge, 32))) f |= 128;
+        uint64_t g = CONTROL(s).raw >> 48 & 15;
+        if (SET(s->opened) && SET(CONTROL(s).known) && (g == 4 || g == 8) && poor(HEAD(p).limits.sensor, r)) f |= 256;
+    } else if (kind == 3) {
+        if (SET(s->opened) && s->first != r) f |= 512;
+    } else if (kind == 5) {
+        uint64_t g = r >> 48 & 15;
+        if ((r >> 54 & 1) && !SET(s->opened)) f |= 4;
+        if (powered(g) && !SET(s->opened)) f |= 8;
+        if (powered(g) && SET(s->opened) && (!SET(STATUS(s).known) || (STATUS(s).raw >> 48 & 0xff) == 0)) f |= 16;
+        if ((r >> 55 & 1) && (g != 1 || (r & 0xffffffffffff))) f |= 32;
+        if (g && (r & 0xffff) > NAMED(limit)(p, HEAD(p).limits.voltage, 0)) f |= 64;
+    } else if (kind == 6 && !SET(s->opened)) {
+        f |= 1024;
+    }
+    return f;
+}
+
+uint32_t NAMED(frame)(rokemaipu_table *memory, uint32_t channel, uint32_t time, uint32_t id, bool extended, const uint8_t *bytes, size_t n) {
+    POST *p = NAMED(holder)((TABLE *)memory, channel);
+    if (!p) return R(1);
+    if (SET(HEAD(p).heard) && time < HEAD(p).time) return R(2);
+    uint64_t r;
+    uint32_t kind = judge(id, extended, bytes, n, &r);
+    if (kind >= ROKEMAIPU_REFUSED) return kind;
+    uint32_t f = NAMED(always)(p, time) | NAMED(found)(p, kind, r);
+    SLOT slot = {true, time, r};
+    SESSION *s = &HEAD(p).session;
+    HEAD(p).heard = true, HEAD(p).time = time, p->latest[kind] = slot;
+    KEEP_IN_HEAD(p, kind, slot);
+    if (kind == 0 && SET(s->opened)) STATUS(s) = slot;
+    if (kind == 5 && SET(s->opened)) CONTROL(s) = slot;
+    if (kind == 3 && !SET(s->opened)) *s = (SESSION){.opened = true, .since = time, .first = r};
+    if (kind == 6) *s = (SESSION){0};
+    return f;
+}
+
+uint32_t NAMED(tick)(rokemaipu_table *memory, uint32_t channel, uint32_t time) {
+    POST *p = NAMED(holder)((TABLE *)memory, channel);
+    if (!p) return R(1);
+    if (SET(HEAD(p).heard) && time < HEAD(p).time) return R(2);
+    HEAD(p).heard = true, HEAD(p).time = time;
+    return NAMED(always)(p, time);
+}
