@@ -1,5 +1,7 @@
 // One post of the session watch, by value: a post that is set up, and its head stepped by a tick or a frame, with the event's findings. For the tables of posts.
+// A step has two promises: what it is for every head, and, for whatever history the head stands for, that its findings are 01's over that history and that the post with what it leaves stands for the longer one.
 ghost use mathlib.Core.Path.{_≡_};
+ghost use Rattle.rules.specs.Right.{tickAt, frameAt, StepRight};
 ghost use Rattle.rules.specs.Step.{tickStep, frameStep, newPost, freePost, freshPost};
 
 mod step; // step.rt: a head after one event more
@@ -55,7 +57,8 @@ pub fn fresh_post(channel: u32, limits: PlainLimits) -> Post
 
 // The head goes to the event's time first, and is judged there; then the frame is put in. A tick is the first half.
 pub fn tick(h: Head, time: u32) -> Stepped
-    ensures { λ r. ⌜ r ≡ tickStep h time ⌝ }
+    ensures by_record { λ r. ⌜ r ≡ tickStep h time ⌝ }
+    ensures by_history { λ r. ⌜ StepRight h (tickAt time) r ⌝ }
 {
     let g = step::aged(h, post_times::stamp(h, time));
     let slot = step::no_slot();
@@ -68,7 +71,8 @@ pub fn tick(h: Head, time: u32) -> Stepped
 }
 
 pub fn frame(h: Head, time: u32, kind: usize, raw: u64) -> Stepped
-    ensures { λ r. ⌜ r ≡ frameStep h time kind raw ⌝ }
+    ensures by_record { λ r. ⌜ r ≡ frameStep h time kind raw ⌝ }
+    ensures by_history { λ r. ⌜ StepRight h (frameAt time kind raw) r ⌝ }
 {
     let g = step::aged(h, post_times::stamp(h, time));
     let findings = post_times::any_findings(g) + post_findings::message_findings(g, kind, raw);

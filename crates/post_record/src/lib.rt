@@ -4,6 +4,7 @@ ghost use mathlib.Core.List.{map};
 ghost use mathlib.Core.Path.{_≡_};
 ghost use Rattle.rules.specs.History.{receivedOf, countFrom};
 ghost use Rattle.rules.specs.Record.{kindCount, unknown};
+ghost use Rattle.rules.specs.Right.{RecordRight};
 ghost use Rattle.rules.specs.Step.{datedIn, partIn, lastIn, recordIn};
 use message_types::CONTROL;
 use message_types::STATUS;
@@ -91,7 +92,8 @@ fn messages_of(now: u64, slots: [Slot; KINDS]) -> [Latest; KINDS]
 }
 
 pub fn record_in(p: Post) -> Record
-    ensures { λ r. ⌜ r ≡ recordIn p ⌝ }
+    ensures by_record { λ r. ⌜ r ≡ recordIn p ⌝ }
+    ensures by_history { λ r. ⌜ RecordRight p r ⌝ }
 {
     let slots = p.latest;
     let h = p.head;

@@ -5,4 +5,5 @@ pub mod Unasked
 pub mod SessionLook
 pub mod FindingsLook
 pub mod Look
+pub mod Right
 pub mod Excludes

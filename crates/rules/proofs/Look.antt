@@ -1,20 +1,19 @@
 -- The inner step is looking back over one event more: a head that stands for a history goes to the one that stands for the longer history, and its findings and its post's record are 01's.
 use Prim.Native.Nat.{ℕ, _<_}
 use native.Mathlib.Omega.{arith}
-use mathlib.Core.Path.{_≡_, refl, sym, ap}
+use mathlib.Core.Path.{_≡_, refl, sym}
 use mathlib.Core.List.{[], _∷_, map}
 use mathlib.Core.Bool.{Bool, true, false, cond}
 use mathlib.Core.Option.{Option, none, some}
 use borrow.Author.Tests.{eq-eqb, ne-eqb, ltb-false}
 use lib.Dec.{eqb, ltb}
 use lib.ListN.{set}
-use Rattle.message_parts.specs.Parts.{statusKind, controlKind, controllerKind, parametersKind}
+use Rattle.message_parts.specs.Parts.{controllerKind, parametersKind}
 use Rattle.rule_limits.specs.declared.PlainLimits.{PlainLimits}
 use Rattle.rules.specs.declared.Latest.{Latest}
-use Rattle.rules.specs.declared.Slot.{Slot}
-use Rattle.rules.specs.History.{Event, frame, tick, History, newest, ofKind, sinceFinished, opening, inSession, stampOf, earlierIn, countFrom}
+use Rattle.rules.specs.History.{frame, tick, History, newest, ofKind, sinceFinished, opening, inSession, stampOf, earlierIn, countFrom}
 use Rattle.rules.specs.Rules.{sessionStatus, sessionControl, findings01}
-use Rattle.rules.specs.Record.{kindCount, isSet, datedOf, lastOf, partOf, latestTime, recordAt, recordOf, unknown, slotAt, slotOf, keptOf, sessionOf, session01, headAt, headOf, latests, postOf}
+use Rattle.rules.specs.Record.{kindCount, datedOf, lastOf, partOf, latestTime, recordAt, recordOf, unknown, slotAt, slotOf, keptOf, sessionOf, session01, headAt, headOf, latests, postOf}
 use Rattle.rules.specs.Step.{putAt, agedTo, withFrame, isEarly, tickStep, frameStep, keepIn, stored, freshPost, latestIn, datedIn, partIn, lastIn, recordIn}
 use Rattle.rules.proofs.Counted.{count-at, count-same, count-set}
 use Rattle.rules.proofs.SessionLook.{session-stays, session-frame}

@@ -2,3 +2,4 @@ pub mod History
 pub mod Rules
 pub mod Record
 pub mod Step
+pub mod Right

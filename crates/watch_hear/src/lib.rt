@@ -1,5 +1,6 @@
 // One post hears what comes to it: 1 where it does not hold the channel, 2, then the reader's 3 to 6, then the findings. For every way to step a table of posts.
 ghost use mathlib.Core.Path.{_≡_};
+ghost use Rattle.watch_rules.specs.Steps.{HearRight};
 ghost use Rattle.watch_rules.specs.Table.{arrivalFor, turnedAway, heardOf};
 use page_read::Judged;
 use refusals::Refusal;
@@ -37,7 +38,8 @@ fn turned_away(h: Head, w: Refusal) -> Heard
 }
 
 pub fn hear(h: Head, channel: u32, time: u32, a: Arrival) -> Heard
-    ensures { λ r. ⌜ r ≡ heardOf h channel time a ⌝ }
+    ensures by_record { λ r. ⌜ r ≡ heardOf h channel time a ⌝ }
+    ensures by_history { λ r. ⌜ HearRight h channel time a r ⌝ }
 {
     if 31 < channel {
         return turned_away(h, Refusal::ChannelFree);

@@ -3,7 +3,7 @@ use Prim.Native.Nat.{ℕ, _<_}
 use mathlib.Core.Path.{_≡_, refl, ap, ap₂, sym, subst, _∙_}
 use mathlib.Core.List.{List, [], _∷_, reverse, reverseAux}
 use mathlib.Core.Bool.{Bool, true, false, cond, _&&_, true≢false}
-use lib.Dec.{eqb, ltb}
+use lib.Dec.{ltb}
 use lib.ListN.{getD}
 use borrow.Author.Tests.{eqb-true, eq-eqb, ltb-true, lt-ltb}
 use Rattle.refusals.specs.declared.Refusal.{Refusal}
@@ -25,7 +25,7 @@ use Rattle.watch_rules.specs.declared.Setting.the-variants as setting
 use Rattle.watch_rules.specs.Table.{postCount, isChannel, holds, noPost, postIn, Arriving, framing, ticking, emptyTable, isPost, lookUpOf}
 use Rattle.watch_rules.specs.Steps as step
 use Rattle.watch_rules.specs.Steps.{event, Step, Steps, Standing, free, held, standing, holdsIn, holder, otherHolds, answerIn, feed01, setUp01, release01, lookUp01, ifFound, feedSteps, ifDone, setUpSteps, releaseSteps, Apart, InRange, Kept}
-use Rattle.watch_rules.specs.Run.{Request, setUp, release, frame, tick, Reply, set, fed, reply, next, run, reply01, steps01, accepted, isRefusal, concerns, Unheld, arrivesOn, runFrom, repliesFrom, acceptedFrom, replies01From}
+use Rattle.watch_rules.specs.Run.{Request, setUp, release, frame, tick, set, fed, reply, next, run, reply01, steps01, accepted, isRefusal, concerns, Unheld, arrivesOn, runFrom, repliesFrom, acceptedFrom, replies01From}
 use Rattle.watch_rules.proofs.Standings.{standing-none, standing-setUp, standing-setUp-other, standing-release, standing-release-other, standing-event, standing-event-other, over-setUp, over-release, over-event, held-on, holder-holds, holder-is, others-alike}
 use Rattle.watch_rules.proofs.Tables.{holds-look, post-at}
 use Rattle.watch_rules.proofs.Right.{feed-right, setUp-right, release-right, lookUp-right, empty-kept}

@@ -1,8 +1,10 @@
 pub mod Standings
+pub mod Hears
 pub mod Tables
 pub mod Right
 pub mod Refusing
 pub mod Same
 pub mod Demand
+pub mod Own
 pub mod Promises
 pub mod Night

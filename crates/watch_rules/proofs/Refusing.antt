@@ -24,7 +24,7 @@ use Rattle.watch_rules.specs.declared.Arrival.the-variants.{Tick, Frame,
 use Rattle.watch_rules.specs.Table.{postCount, isChannel, holds, placeOf, noPost, postIn, Arriving, framing, ticking, turnedAway, judgedOf, heardOf, fedBy, feedAt, feedOf, isOther, isPost, setUpOf, releaseOf}
 use Rattle.rule_limits.specs.Limits.{limitsFit}
 use Rattle.watch_rules.specs.Steps.{Step, Steps, ifFound, ifDone, feed01, setUp01, release01, feedSteps, setUpSteps, releaseSteps}
-use Rattle.watch_rules.specs.Run.{Request, setUp, release, frame, tick, Reply, set, fed, reply, next, reply01, steps01, isRefusal}
+use Rattle.watch_rules.specs.Run.{Request, setUp, release, frame, tick, set, fed, reply, next, reply01, steps01, isRefusal}
 
 either : {A : Type 0} (P : A → Type 0) (b : Bool) {x y : A} → P x → P y → P (cond b x y)
 either P true p q = p

@@ -9,27 +9,26 @@ use lib.Dec.{eqb, ltb}
 use lib.ListN.{getD, set}
 use lib.Seq.{set-getD}
 use borrow.Author.Tests.{eqb-true, eqb-false, eq-eqb, ne-eqb, ltb-true}
-use Rattle.refusals.specs.declared.Refusal.the-variants.{Earlier, NotSetUp}
+use Rattle.refusals.specs.declared.Refusal.the-variants.{NotSetUp}
 use Rattle.rule_limits.specs.declared.PlainLimits.{PlainLimits}
 use Rattle.rule_limits.specs.Limits.{limitsFit}
 use Rattle.rules.specs.declared.Post.{Post}
-use Rattle.rules.specs.History.{Event, frame, tick, History, stampOf, earlierIn, countFrom}
-use Rattle.rules.specs.Record.{isSet, headOf, postOf}
-use Rattle.rules.specs.Step.{isEarly, stored, freePost, freshPost, recordIn}
+use Rattle.rules.specs.History.{Event, History, countFrom}
+use Rattle.rules.specs.Record.{isSet, postOf}
+use Rattle.rules.specs.Step.{stored, freePost, freshPost, recordIn}
 use Rattle.rules.proofs.Counted.{count-at, count-same, count-set}
-use Rattle.rules.proofs.Look.{used-look, channel-look, limits-look, fresh-look, early-look, tick-look, frame-look, stored-tick, stored-frame, stored-still, record-look}
+use Rattle.rules.proofs.Look.{used-look, channel-look, limits-look, fresh-look, record-look}
 use Rattle.watch_rules.specs.declared.Table.{Table}
 use Rattle.watch_rules.specs.declared.Answer.{Answer}
-use Rattle.watch_rules.specs.declared.Answer.the-variants.{Refused}
+use Rattle.watch_rules.specs.declared.Answer.the-variants.{Findings, Refused}
 use Rattle.watch_rules.specs.declared.Fed.{Fed}
 use Rattle.watch_rules.specs.declared.Heard.{Heard}
 use Rattle.watch_rules.specs.declared.Setting.{Setting}
 use Rattle.watch_rules.specs.declared.Setting.the-variants as setting
 use Rattle.watch_rules.specs.declared.Settled.{Settled}
-use Rattle.watch_rules.specs.declared.Arrival.{Arrival}
-use Rattle.watch_rules.specs.declared.Arrival.the-variants.{Tick, Frame, Unread}
-use Rattle.watch_rules.specs.Table.{postCount, isChannel, holds, placeOf, putIn, noPost, postIn, Arriving, turnedAway, judgedOf, heardOf, fedBy, feedAt, feedOf, emptyTable, isOther, isPost, setUpOf, releaseOf, notFound, lookUpOf}
-use Rattle.watch_rules.specs.Steps.{setUp, release, event, Steps, Standing, free, held, standing, holdsIn, findFrom, holder, otherHolds, found01, answerIn, feed01, setUp01, isHeld, release01, shownIn, lookUp01, eventIn, eventOn, ifFound, feedSteps, setUpSteps, releaseSteps, keptPost, postsOf, Apart}
+use Rattle.watch_rules.specs.Table.{postCount, isChannel, holds, placeOf, putIn, noPost, postIn, Arriving, feedAt, feedOf, emptyTable, isOther, isPost, setUpOf, releaseOf, notFound, lookUpOf}
+use Rattle.watch_rules.specs.Steps.{setUp, release, event, Steps, Standing, free, held, standing, holdsIn, findFrom, holder, otherHolds, answerIn, feed01, setUp01, isHeld, release01, shownIn, lookUp01, eventIn, eventOn, grown, Hears01, ifFound, feedSteps, setUpSteps, releaseSteps, keptPost, postsOf, Apart}
+use Rattle.watch_rules.proofs.Hears.{hear-look}
 use Rattle.watch_rules.proofs.Standings.{standing-setUp, standing-setUp-other, standing-release, standing-release-other, standing-event, standing-event-other, held-on, holder-holds, alone, other-look}
 
 -- ---- the posts of the table
@@ -110,25 +109,19 @@ module _ (t : Table) (s : Steps) (apart : Apart s) (same : t .posts ≡ postsOf 
     abbrev Heard01 : ℕ → Arriving → Fed → Type 0
     Heard01 time a = Fed01 (ifFound (answerIn (held c lim h) time a) (event c (eventOn (held c lim h) time a)) s) (answerIn (held c lim h) time a)
 
+    posts-grown : (e : Event) (w : Answer) → set (t .posts) i (postOf c lim (grown w e h)) ≡ postsOf (ifFound w (event c e) s)
+    posts-grown e (Findings n) = posts-event e
+    posts-grown e (Refused w) = posts-stay
+
     heard-look : (time : ℕ) (a : Arriving) → isChannel c ≡ true → Heard01 time a (feedAt t i c time a)
-    unfolding feedAt heardOf
-    heard-look time a channel = rw (there, channel, holding, ap a (limits-look c lim h)) (go (earlierIn h time) refl (a lim))
+    unfolding feedAt
+    heard-look time a channel = rw (there, ap a (limits-look c lim h)) (stands (hear-look c lim h c time (a lim)))
       where
-        holding : holds (headOf c lim h) c ≡ true
-        holding = rw (used-look c lim h, channel-look c lim h, eq-eqb c c refl)
-
-        -- the table with what a post of this history heard
-        after : Heard → Fed
-        after r = record { table = putIn t i (stored (postOf c lim h) (r .head) (r .at) (r .slot)); answer = r .answer }
-
-        go : (b : Bool) → earlierIn h time ≡ b → (x : Arrival)
-            → Fed01 (ifFound (cond (earlierIn h time) (Refused Earlier) (found01 lim h time x)) (event c (eventIn h time x)) s) (cond (earlierIn h time) (Refused Earlier) (found01 lim h time x))
-            (after (cond (isEarly (headOf c lim h) time) (turnedAway (headOf c lim h) Earlier) (judgedOf (headOf c lim h) time x)))
-        go true e x = rw (early-look c lim h time, e, stored-still c lim h) (refl, posts-stay)
-        go false e Tick = rw (early-look c lim h time, e, tick-look c lim h time, stored-tick c lim h (stampOf h time)) (refl, posts-event (tick (stampOf h time)))
-        go false e (Frame k n) =
-            rw (early-look c lim h time, e, frame-look c lim h time k n, stored-frame c lim h (stampOf h time) k n) (refl, posts-event (frame (stampOf h time) k n))
-        go false e (Unread w) = rw (early-look c lim h time, e, stored-still c lim h) (refl, posts-stay)
+        stands : {r : Heard} → Hears01 c lim h c time (a lim) r
+            → Heard01 time a (record { table = putIn t i (stored (postOf c lim h) (r .head) (r .at) (r .slot)); answer = r .answer })
+        stands {r} heard =
+            let answer : r .answer ≡ answerIn (held c lim h) time a = heard .answer ∙ rw (channel, eq-eqb c c refl) in
+            (answer, ap (set (t .posts) i) (heard .post) ∙ posts-grown (eventIn h time (a lim)) (r .answer) ∙ ap (λ (w : Answer). postsOf (ifFound w (event c (eventIn h time (a lim))) s)) answer)
 
   pub feed-look : (c time : ℕ) (a : Arriving) → Fed01 (feedSteps s c time a) (feed01 s c time a) (feedOf t c time a)
   unfolding feedOf feed01 feedSteps

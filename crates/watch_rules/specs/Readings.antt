@@ -1,7 +1,7 @@
 -- 01, "Readings from both sides of each edge": E1* to E13*, and 02, Req 02 to 04: one table under one statement, closed by computing the definitions. What the watch answers is read by looking back.
 use Prim.Native.Nat.{ℕ}
 use mathlib.Core.Path.{_≡_, refl}
-use mathlib.Core.Bool.{Bool, true, false}
+use mathlib.Core.Bool.{true, false}
 use mathlib.Core.List.{List, [], _∷_}
 use lib.IntN.{pos, negsuc}
 use lib.ListN.{getD}
@@ -24,16 +24,20 @@ use Rattle.rule_limits.specs.declared.Sensor.{Sensor}
 use Rattle.rule_limits.specs.declared.Sensor.the-variants.{Measuring, YesNo}
 use Rattle.rules.specs.declared.Dated.{Dated}
 use Rattle.rules.specs.declared.Dated.the-variants as dated
+use Rattle.rules.specs.declared.Latest.{Latest}
+use Rattle.rules.specs.declared.LastTime.the-variants as last
+use Rattle.rules.specs.declared.SessionPart.the-variants as part
+use Rattle.rules.specs.declared.Record.{Record}
 use Rattle.rules.specs.History.{sinceFinished, opening, inSession, earlierIn}
 use Rattle.rule_asks.specs.Judgements.{lowersBadly, outside, leaking, badInsulation, differs}
 use Rattle.rules.specs.Rules.{sessionStatus, sessionControl, limitOf, f1, f2, f3, f4, f5, f6, f7, f8, f9, f10, f11, findings01}
-use Rattle.rules.specs.Record.{recordAt, recordOf}
+use Rattle.rules.specs.Record.{recordAt}
 use Rattle.watch_rules.specs.declared.Answer.the-variants.{Findings, Refused}
 use Rattle.watch_rules.specs.declared.Setting.the-variants as setting
 use Rattle.watch_rules.specs.declared.LookedUp.{LookedUp}
 use Rattle.rule_limits.specs.Limits.{limitsFit}
 use Rattle.watch_rules.specs.Steps.{standing, findFrom, holder, otherHolds, feed01, setUp01, release01, lookUp01, feedSteps, setUpSteps, releaseSteps}
-use Rattle.watch_rules.specs.Run.{Request, setUp, release, frame, tick, Reply, set, fed, acceptedFrom, replies01From}
+use Rattle.watch_rules.specs.Run.{Request, setUp, frame, tick, Reply, set, fed, acceptedFrom, replies01From}
 
 -- a reading of frames and messages (E1 to E7); requests to the empty table in order of arrival, with their replies; such requests, and a post's record after them, or the sensor kind in it, or its latest message of a kind
 pub data Case : Type 0 where
@@ -60,6 +64,20 @@ limitsWith n = record { voltage = 5000; charge = 1000; discharge = 500; silence 
 
 abbrev limits : PlainLimits
 limits = limitsWith 0
+
+-- the record of a post that was just set up: never heard, no message of any of the twelve kinds, no session
+abbrev none : Latest
+none = record { message = dated.Nothing }
+
+abbrev emptyRecord : Record
+emptyRecord =
+    record {
+      channel = 4;
+      limits = record { voltage = 5000; charge = 1000; discharge = 500; silence = 500; sensor = Measuring };
+      last = last.Never;
+      latest = none ∷ none ∷ none ∷ none ∷ none ∷ none ∷ none ∷ none ∷ none ∷ none ∷ none ∷ none ∷ [];
+      session = part.Closed;
+    }
 
 abbrev done : Reply
 done = set setting.Done
@@ -118,7 +136,7 @@ e8to13 =
     ∷ answers (set-up ∷ control 0 0x88 0x13 0x48 ∷ []) (done ∷ found 12 ∷ [])
     -- E12: post 0 on channel 4: post 1 on 4 gets 11; post 0 on 4 again is accepted with an empty record
     ∷ answers (set-up ∷ tick 4 100 ∷ setUp 1 4 limits ∷ set-up ∷ []) (done ∷ found 0 ∷ set (setting.Refused ChannelTaken) ∷ done ∷ [])
-    ∷ shows (set-up ∷ tick 4 100 ∷ setUp 1 4 limits ∷ set-up ∷ []) 0 (record { answer = setting.Done; shown = recordOf 4 limits [] })
+    ∷ shows (set-up ∷ tick 4 100 ∷ setUp 1 4 limits ∷ set-up ∷ []) 0 (record { answer = setting.Done; shown = emptyRecord })
     -- E13: default 5000: Maximum_Voltage 0 or 6000 gives 5000, 4000 gives 4000; target 4001 then has F7 (standby, so that nothing else is found)
     ∷ answers (set-up ∷ parameters 0 0 0 ∷ control 1 0x88 0x13 1 ∷ control 2 0x89 0x13 1 ∷ []) (done ∷ found 0 ∷ found 0 ∷ found 64 ∷ [])
     ∷ answers (set-up ∷ parameters 0 0x70 0x17 ∷ control 1 0x88 0x13 1 ∷ control 2 0x89 0x13 1 ∷ []) (done ∷ found 0 ∷ found 0 ∷ found 64 ∷ [])

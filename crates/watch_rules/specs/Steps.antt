@@ -4,19 +4,20 @@ use mathlib.Core.Path.{_≡_}
 use mathlib.Core.List.{List, [], _∷_, map}
 use mathlib.Core.Bool.{Bool, true, false, cond, not, _&&_}
 use mathlib.Core.Option.{Option, none, some}
-use lib.Dec.{ltb, leb, eqb}
-use Rattle.refusals.specs.declared.Refusal.{Refusal}
+use lib.Dec.{ltb, eqb}
 use Rattle.refusals.specs.declared.Refusal.the-variants.{ChannelFree, Earlier, NoSuchPost, NoSuchChannel, ChannelTaken, LimitOutside, NotSetUp}
 use Rattle.rule_limits.specs.declared.PlainLimits.{PlainLimits}
+use Rattle.rules.specs.declared.Head.{Head}
 use Rattle.rules.specs.declared.Post.{Post}
 use Rattle.rules.specs.History.{Event, frame, tick, History, newest, sinceNewest, stampOf, earlierIn, countFrom}
 use Rattle.rules.specs.Rules.{findings01}
-use Rattle.rules.specs.Record.{recordOf, postOf}
-use Rattle.rules.specs.Step.{freePost}
+use Rattle.rules.specs.Record.{recordOf, headOf, postOf}
+use Rattle.rules.specs.Step.{stored, freePost}
 use Rattle.watch_rules.specs.declared.Table.{Table}
 use Rattle.watch_rules.specs.declared.Answer.{Answer}
 use Rattle.watch_rules.specs.declared.Answer.the-variants.{Findings, Refused}
 use Rattle.watch_rules.specs.declared.Fed.{Fed}
+use Rattle.watch_rules.specs.declared.Heard.{Heard}
 use Rattle.watch_rules.specs.declared.Setting.{Setting}
 use Rattle.watch_rules.specs.declared.Setting.the-variants as setting
 use Rattle.watch_rules.specs.declared.Settled.{Settled}
@@ -64,11 +65,18 @@ standingFrom (some (some p)) s = held (p .0) (p .1) (eventsOn (p .0) s)
 unfoldable pub standing : ℕ → Steps → Standing
 standing i s = standingFrom (newest (settingOf i) s) (sinceNewest (settingOf i) s)
 
--- ---- who holds a channel
-
 abbrev pub holdsIn : Standing → ℕ → Bool
 holdsIn free c = false
 holdsIn (held d lim h) c = eqb d c
+
+-- a post's own accepted steps: its set-ups and releases, and what came on the channel that it held
+abbrev pub ownOf : ℕ → Steps → Steps
+ownOf i [] = []
+ownOf i (setUp j c lim ∷ s) = cond (eqb j i) (setUp j c lim ∷ ownOf i s) (ownOf i s)
+ownOf i (release j ∷ s) = cond (eqb j i) (release j ∷ ownOf i s) (ownOf i s)
+ownOf i (event c e ∷ s) = cond (holdsIn (standing i s) c) (event c e ∷ ownOf i s) (ownOf i s)
+
+-- ---- who holds a channel
 
 -- the first of n numbers from k on that p holds of, and the next number where there is none
 unfoldable pub findFrom : (ℕ → Bool) → ℕ → ℕ → ℕ
@@ -176,6 +184,20 @@ pub record Kept (t : Table) (s : Steps) : Type 0 where
   pub apart : Apart s
   pub ranges : (i : ℕ) → i < postCount → InRange (standing i s)
   pub posts : t .posts ≡ postsOf s
+
+-- ---- a post hears right
+
+abbrev pub grown : Answer → Event → History → History
+grown (Findings n) e h = e ∷ h
+grown (Refused w) e h = h
+
+-- what comes on the channel c to a post that stands on the channel d for the history h: 1 on another channel, and the history grows by what is accepted
+pub record Hears01 (d : ℕ) (lim : PlainLimits) (h : History) (c t : ℕ) (a : Arrival) (r : Heard) : Type 0 where
+  pub answer : r .answer ≡ cond (isChannel c && eqb d c) (cond (earlierIn h t) (Refused Earlier) (found01 lim h t a)) (Refused ChannelFree)
+  pub post : stored (postOf d lim h) (r .head) (r .at) (r .slot) ≡ postOf d lim (grown (r .answer) (eventIn h t a) h)
+
+abbrev pub HearRight : Head → ℕ → ℕ → Arrival → Heard → Type 0
+HearRight p c t a r = (d : ℕ) (lim : PlainLimits) (h : History) → p ≡ headOf d lim h → Hears01 d lim h c t a r
 
 -- ---- an operation is right
 

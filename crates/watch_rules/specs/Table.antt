@@ -19,11 +19,9 @@ use Rattle.rules.specs.declared.Record.{Record}
 use Rattle.rules.specs.Record.{kindCount, isSet, unknown}
 use Rattle.rules.specs.Step.{isEarly, tickStep, frameStep, stored, noLimits, freePost, freshPost, recordIn}
 use Rattle.watch_rules.specs.declared.Table.{Table}
-use Rattle.watch_rules.specs.declared.Answer.{Answer}
 use Rattle.watch_rules.specs.declared.Answer.the-variants.{Findings, Refused}
 use Rattle.watch_rules.specs.declared.Fed.{Fed}
 use Rattle.watch_rules.specs.declared.Heard.{Heard}
-use Rattle.watch_rules.specs.declared.Setting.{Setting}
 use Rattle.watch_rules.specs.declared.Setting.the-variants as setting
 use Rattle.watch_rules.specs.declared.Settled.{Settled}
 use Rattle.watch_rules.specs.declared.LookedUp.{LookedUp}

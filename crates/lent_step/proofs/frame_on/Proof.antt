@@ -13,7 +13,7 @@ in-words-requires : tie.Need-in-words-requires
 in-words-requires c κs = search needs
 
 returns : tie.Need-returns
-returns c = rw (c .in-words .ensures, c .before .hear .ensures, c .before .before .arrival-for .ensures)
+returns c = rw (c .in-words .ensures, c .before .hear .ensures .0, c .before .before .arrival-for .ensures)
 
 pub frame-on-spec : {M : Type 1} → statement M
 frame-on-spec = tie.close (tie.spec arrival-for-requires hear-requires in-words-requires returns)

@@ -10,7 +10,7 @@ in-words-requires : tie.Need-in-words-requires
 in-words-requires c κs = search needs
 
 returns : tie.Need-returns
-returns c = rw (c .in-words .ensures, c .before .hear .ensures)
+returns c = rw (c .in-words .ensures, c .before .hear .ensures .0)
 
 pub tick-on-spec : {M : Type 1} → statement M
 tick-on-spec = tie.close (tie.spec hear-requires in-words-requires returns)

@@ -1,6 +1,7 @@
 -- `post::frame` meets its contract: the head is aged, judged there, and then given the frame.
 use borrow.Author.Needs.{needs}
 use Rattle.rules.specs.Step.{frameStep, agedTo}
+use Rattle.rules.proofs.Right.{frame-both}
 use Rattle.post.proofs.frame.Statement.{statement}
 use Rattle.post.proofs.frame.Tie as tie
 
@@ -30,14 +31,17 @@ unfolding frameStep agedTo
 returns c =
     let slot = c .before in
     let found = slot .before in
-    rw (
+    let stamped = found .before .before .before in
+    let a = stamped .before .args in
+    frame-both (a .h) (a .time) (a .kind) (a .raw)
+    (rw (
       c .with-frame .ensures,
       slot .slot-at .ensures,
       found .before .any-findings .ensures .0,
       found .message-findings .ensures .0,
       found .before .before .aged .ensures,
-      found .before .before .before .stamp .ensures,
-    )
+      stamped .stamp .ensures,
+    ))
 
 pub frame-spec : {M : Type 1} → statement M
 frame-spec =

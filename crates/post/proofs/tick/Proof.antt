@@ -1,6 +1,7 @@
 -- `post::tick` meets its contract: the head is aged, and judged there.
 use borrow.Author.Needs.{needs}
 use Rattle.rules.specs.Step.{tickStep}
+use Rattle.rules.proofs.Right.{tick-both}
 use Rattle.post.proofs.tick.Statement.{statement}
 use Rattle.post.proofs.tick.Tie as tie
 
@@ -18,7 +19,10 @@ any-findings-requires c κs = search needs
 
 returns : tie.Need-returns
 unfolding tickStep
-returns c = rw (c .any-findings .ensures .0, c .before .no-slot .ensures, c .before .before .aged .ensures, c .before .before .before .stamp .ensures)
+returns c =
+    let a = c .before .before .before .before .args in
+    tick-both (a .h) (a .time)
+    (rw (c .any-findings .ensures .0, c .before .no-slot .ensures, c .before .before .aged .ensures, c .before .before .before .stamp .ensures))
 
 pub tick-spec : {M : Type 1} → statement M
 tick-spec =

@@ -1,6 +1,7 @@
 -- `post_record::record_in` meets its contract, by what its parts ensure.
 use borrow.Author.Needs.{needs}
 use Rattle.rules.specs.Step.{recordIn}
+use Rattle.rules.proofs.Right.{record-both}
 use Rattle.post_record.proofs.record_in.Statement.{statement}
 use Rattle.post_record.proofs.record_in.Tie as tie
 
@@ -20,7 +21,9 @@ returns : tie.Need-returns
 unfolding recordIn
 returns c =
     let l = c .before .before .before in
-    rw (c .last-time .ensures, c .before .part .ensures, l .limits-in .ensures, l .before .before .messages-of .ensures)
+    let m = l .before .before in
+    record-both (m .before .before .before .args .p)
+    (rw (c .last-time .ensures, c .before .part .ensures, l .limits-in .ensures, m .messages-of .ensures))
 
 pub record-in-spec : {M : Type 1} → statement M
 record-in-spec =

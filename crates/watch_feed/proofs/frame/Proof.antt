@@ -32,7 +32,7 @@ returns c =
     let found = arrived .before .before .before .before in
     let a = found .before .before .args in
     fed-both (a .t1) (a .channel) (a .time) _
-    (rw (c .fed .ensures, heard .hear .ensures, arrived .arrival-for .ensures, found .some-place .ensures .0) (feed-same (a .t1) (a .channel) (a .time) (framing (a .id) (a .extended) _)))
+    (rw (c .fed .ensures, heard .hear .ensures .0, arrived .arrival-for .ensures, found .some-place .ensures .0) (feed-same (a .t1) (a .channel) (a .time) (framing (a .id) (a .extended) _)))
 
 pub frame-spec : {M : Type 1} → statement M
 frame-spec =

@@ -28,7 +28,7 @@ returns c =
     let found = heard .before .before .before in
     let a = found .before .args in
     fed-both (a .t1) (a .channel) (a .time) ticking
-    (rw (c .fed .ensures, heard .hear .ensures, found .some-place .ensures .0) (feed-same (a .t1) (a .channel) (a .time) ticking))
+    (rw (c .fed .ensures, heard .hear .ensures .0, found .some-place .ensures .0) (feed-same (a .t1) (a .channel) (a .time) ticking))
 
 pub tick-spec : {M : Type 1} → statement M
 tick-spec =

@@ -3,6 +3,7 @@ use mathlib.Core.Path.{sym, _∙_}
 use borrow.Author.Tests.{le-leb, lt-leb, not-true, not-false}
 use borrow.Author.Needs.{needs}
 use Rattle.watch_rules.specs.Table.{heardOf}
+use Rattle.watch_rules.proofs.Hears.{heard-both}
 use Rattle.watch_hear.proofs.hear.Statement.{statement}
 use Rattle.watch_hear.proofs.hear.Tie as tie
 
@@ -11,7 +12,7 @@ turned-away-requires c κs = search needs
 
 returns : tie.Need-returns
 unfolding heardOf
-returns c = rw (lt-leb _ _ (c .before .if1 .taken), c .turned-away .ensures)
+returns c = heard-both _ _ _ _ (rw (lt-leb _ _ (c .before .if1 .taken), c .turned-away .ensures))
 
 holds-channel-requires : tie.Need-holds-channel-requires
 holds-channel-requires c κs = search needs
@@ -23,7 +24,8 @@ returns-2 : tie.Need-returns-2
 unfolding heardOf
 returns-2 c =
     let asked = c .before .before in
-    rw (le-leb _ _ (asked .before .if1 .left), sym (asked .holds-channel .ensures) ∙ not-true _ (c .before .if2 .taken), c .turned-away2 .ensures)
+    heard-both _ _ _ _
+    (rw (le-leb _ _ (asked .before .if1 .left), sym (asked .holds-channel .ensures) ∙ not-true _ (c .before .if2 .taken), c .turned-away2 .ensures))
 
 is-early-requires : tie.Need-is-early-requires
 is-early-requires c κs = search needs
@@ -36,12 +38,13 @@ unfolding heardOf
 returns-3 c =
     let early = c .before .before in
     let asked = early .before .before in
-    rw (
+    heard-both _ _ _ _
+    (rw (
       le-leb _ _ (asked .before .if1 .left),
       sym (asked .holds-channel .ensures) ∙ not-false _ (early .before .if2 .left),
       sym (early .is-early .ensures) ∙ c .before .if3 .taken,
       c .turned-away3 .ensures,
-    )
+    ))
 
 enum-told : tie.Need-enum-told
 enum-told c = search needs
@@ -67,13 +70,14 @@ returns-4 c =
     let told = c .before .before .before in
     let late = told .before .before in
     let holding = late .before .before .before in
-    rw (
+    heard-both _ _ _ _
+    (rw (
       le-leb _ _ (holding .before .if1 .left),
       sym (holding .holds-channel .ensures) ∙ not-false _ (late .before .before .if2 .left),
       sym (late .before .is-early .ensures) ∙ late .if3 .left,
       told .enum-told .given .1,
-      c .before .before .tick .ensures,
-    )
+      c .before .before .tick .ensures .0,
+    ))
 
 returns-5 : tie.Need-returns-5
 unfolding heardOf
@@ -81,13 +85,14 @@ returns-5 c =
     let told = c .before .before .before .before in
     let late = told .before .before in
     let holding = late .before .before .before in
-    rw (
+    heard-both _ _ _ _
+    (rw (
       le-leb _ _ (holding .before .if1 .left),
       sym (holding .holds-channel .ensures) ∙ not-false _ (late .before .before .if2 .left),
       sym (late .before .is-early .ensures) ∙ late .if3 .left,
       told .a .given .1,
-      c .before .before .frame .ensures,
-    )
+      c .before .before .frame .ensures .0,
+    ))
 
 returns-6 : tie.Need-returns-6
 unfolding heardOf
@@ -95,13 +100,14 @@ returns-6 c =
     let told = c .before .before in
     let late = told .before .before in
     let holding = late .before .before .before in
-    rw (
+    heard-both _ _ _ _
+    (rw (
       le-leb _ _ (holding .before .if1 .left),
       sym (holding .holds-channel .ensures) ∙ not-false _ (late .before .before .if2 .left),
       sym (late .before .is-early .ensures) ∙ late .if3 .left,
       told .a2 .given .1,
       c .turned-away4 .ensures,
-    )
+    ))
 
 pub hear-spec : {M : Type 1} → statement M
 hear-spec =

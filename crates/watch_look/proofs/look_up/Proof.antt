@@ -61,7 +61,7 @@ returns-3 c =
     (rw (
       sym (post .before .is-post .ensures) ∙ not-false _ (post .if1 .left),
       sym (used .before .is-set .ensures) ∙ not-false _ (used .if2 .left),
-      c .record-in .ensures,
+      c .record-in .ensures .0,
     ))
 
 pub look-up-spec : {M : Type 1} → statement M

@@ -10,7 +10,7 @@ record-in-requires : tie.Need-record-in-requires
 record-in-requires c κs = search needs
 
 returns : tie.Need-returns
-returns c = rw (c .record-in .ensures, c .before .free-post .ensures)
+returns c = rw (c .record-in .ensures .0, c .before .free-post .ensures)
 
 pub no-record-spec : {M : Type 1} → statement M
 no-record-spec = tie.close (tie.spec free-post-requires record-in-requires returns)

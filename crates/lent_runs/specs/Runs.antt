@@ -1,0 +1,26 @@
+-- Requests through the entries in place, from any memory that was started.
+use Prim.Native.Nat.{ℕ}
+use mathlib.Core.List.{List, [], _∷_}
+use Rattle.watch_rules.specs.declared.Table.{Table}
+use Rattle.watch_rules.specs.Run.{Request, setUp, release, frame, tick, Reply, set, fed}
+use Rattle.lent_words.specs.declared.Lent.{Lent}
+use Rattle.lent_words.specs.Words.{answerWord, settingWord}
+use Rattle.lent_words.specs.Lent.{startOf, setUpWord, releaseWord}
+use Rattle.lent_step.specs.Fed.{frameWord, tickWord}
+
+-- what the entry's contract says of a request: the answer's word, and the table at exit
+abbrev pub lentBy : Table → Request → Lent
+lentBy t (setUp i c lim) = setUpWord t i c (lim .voltage) (lim .charge) (lim .discharge) (lim .silence) (lim .sensor)
+lentBy t (release i) = releaseWord t i
+lentBy t (frame c time m x bs) = frameWord t c time m x bs
+lentBy t (tick c time) = tickWord t c time
+
+-- the lent table after requests, newest first; whatever it held before it was started
+unfoldable pub lentRun : Table → List Request → Table
+lentRun t [] = startOf t .table
+lentRun t (a ∷ earlier) = lentBy (lentRun t earlier) a .table
+
+-- a reply as one word
+abbrev pub wordOf : Reply → ℕ
+wordOf (set r) = settingWord r
+wordOf (fed r) = answerWord r
