@@ -1,4 +1,4 @@
--- Inner step: a post's head after one event more, and the event's findings, as the code takes them. The promises do not speak of it: `frame-look` and `tick-look` turn it into looking back.
+-- Inner step: a post's head after one event more, and the event's findings, as the code takes them. The first promise of an operation, by_record, is in these words; the second, by_history, is in those of looking back: `frame-look` and `tick-look` make the two one.
 use Prim.Native.Nat.{ℕ, _+_, max}
 use mathlib.Core.List.{List, [], map}
 use mathlib.Core.Bool.{Bool, true, cond, not, _&&_}
