@@ -1,5 +1,6 @@
 #!/usr/bin/env python3
-"""Holds the tables of the crates to the maker's documents: every message and row of page_rows (the code's and the definitions'), and every label of messages.
+"""check.py [FOLDER]: holds the tables of the crates to the maker's documents: every message and row of page_rows (the code's and the definitions'), every label of
+messages, and which field of a message's type each signal is, in reading and in writing (the definitions', to which the code is proved equal).
 
 000.txt and 004.txt were extracted from documents 000 and 004 by extract.py. A table typed wrongly in src/ and specs/ alike is proved equal and is wrong: here
 it fails.
@@ -9,7 +10,7 @@ import sys
 from collections import namedtuple
 from pathlib import Path
 
-ROOT = Path(__file__).resolve().parents[2]
+ROOT = Path(sys.argv[1]) if len(sys.argv) > 1 else Path(__file__).resolve().parents[2]
 # a document: its messages in the order of their kinds (01, "Frames and signals"; 02, Req 04), the form of its identifiers (ours), and where its rows stand
 Document = namedtuple('Document', 'text, messages, extended, code, specs')
 DOCUMENTS = (
@@ -56,6 +57,31 @@ NAMES = {
     'Type1_Connected': 'Type1',
     'Type1_ConnectedButtonPressed': 'Type1Pressed',
 }
+# a message's type, and the field of each signal: the mapping is ours, since the document's names are longer
+FIELDS = {
+    'Power_Modules_Status': ('PowerModulesStatus', {'Present_Voltage': 'voltage', 'Present_Current': 'current', 'Power_Modules_Temperature': 'modules',
+                                                    'Enclosure_Temperature': 'enclosure', 'System_Enable': 'enable', 'Insulation_Resistance': 'insulation'}),
+    'DC_Power_Parameters': ('DcPowerParameters', {'Maximum_Voltage': 'voltage', 'Maximum_Charge_Current': 'charge', 'Maximum_Discharge_Current': 'discharge',
+                                                  'Range_Target_Current': 'target'}),
+    'Advantics_Controller_Status': ('ControllerStatus', {'State': 'state'}),
+    'New_Charge_Session': ('NewChargeSession', {'Communication_Protocol': 'protocol', 'Plug_and_pins': 'plug'}),
+    'Charge_Status_Change': ('ChargeStatusChange', {'Vehicle_Ready_for_Charging': 'status'}),
+    'DC_Power_Control': ('DcPowerControl', {'Target_Voltage': 'target', 'Current_Range_Max': 'max', 'Current_Range_Min': 'min', 'Power_Function': 'function',
+                                            'Reserved': 'reserved', 'Setpoints_Mode': 'mode', 'Output_Contactors': 'contactors', 'Lower_Output_Voltage': 'lowering'}),
+    'Charge_Session_Finished': ('ChargeSessionFinished', {'State': 'state'}),
+    'Emergency_Stop': ('EmergencyStop', {'Origin': 'origin'}),
+    'EV_ID_CCS_Part2_DIN': ('EvId', {f'Byte{n}': f'byte{n}' for n in range(6)}),
+    'ChargeControl1': ('ChargeControl1', {'CC_TargetDutyCycle': 'duty', 'CC_PWM_Active': 'pwm', 'CC_Contactor1State': 'contactor1', 'CC_Contactor2State': 'contactor2'}),
+    'ChargeState1': ('ChargeState1', {'CS_CurrentDutyCycle': 'duty', 'CS_PWM_Active': 'pwm', 'CS_CurrentCpState': 'cp', 'CS_CpShortCircuit': 'short', 'CS_DiodeFault': 'diode',
+                                      'CS_CurrentPpState': 'pp', 'CS_Contactor1State': 'contactor1', 'CS_Contactor2State': 'contactor2', 'CS_Contactor1Error': 'error1',
+                                      'CS_Contactor2Error': 'error2', 'CS_Estop1ChargingAbort': 'estop1', 'CS_Estop2ChargingAbort': 'estop2',
+                                      'CS_Estop3ChargingAbort': 'estop3', 'CS_ImdRcmChargingAbort': 'imdabort', 'CS_ImdRcmTestFailure': 'imdfailure'}),
+    'PT1000State': ('Pt1000State', {f'PT{n}_{word}': f'{field}{n}' for n in range(1, 5)
+                                    for word, field in (('Temperature', 'temperature'), ('ChargingStopped', 'stopped'), ('SelftestFailed', 'failed'))}),
+}
+# where the definitions of reading and writing stand
+READ = ['crates/message_parts/specs/Watched.antt', 'crates/message_charger/specs/Build.antt', 'crates/message_safety/specs/Build.antt']
+WRITE = ['crates/message_charger/specs/Take.antt', 'crates/message_safety/specs/Take.antt']
 faults = []
 
 
@@ -176,9 +202,31 @@ for document, signals in zip(DOCUMENTS, papers):
             fault(f'{message}.{signal}: the labels are {have}, the document says {wanted}')
         seen += len(have)
     rows += len(signals)
+
+# ---- the fields: a signal's place in its message is the number that its field is read from, and its place among the numbers that are written
+def defined(files, sort):
+    """The text of the one definition of that type."""
+    text = '\n'.join((ROOT / f).read_text() for f in files)
+    found = re.findall(rf'^abbrev pub (\w+) : {sort}\n((?:\1 .*|    .*|\n(?=    ))(?:\n(?:    .*))*)', text, re.M)
+    if len(found) != 1:
+        fault(f'{sort}: {len(found)} definitions')
+        return ''
+    return found[0][1]
+
+
+fields = 0
+for message in KINDS:
+    sort, named = FIELDS[message]
+    wanted = [named[signal] for signals in papers for m, signal, *_ in signals if m == message]
+    read = {int(k): field for field, k in re.findall(r'(\w+) = [^;={}]*\(f (\d+)\)', defined(READ, rf'\(ℕ → ℤ\) → {sort}'))}
+    held(f'{sort}, as it is read', [read.get(k) for k in range(len(wanted))], wanted)
+    held(f'{sort}, as it is written', re.findall(r'm \.(\w+)', defined(WRITE, rf'{sort} → List ℤ')), wanted)
+    fields += len(wanted)
+if fields != rows:
+    fault(f'{fields} fields were compared, not {rows}')
 if (len(KINDS), rows, seen) != (12, 61, 62):
     fault(f'{len(KINDS)} messages, {rows} signals and {seen} labels were compared, not 12, 61 and 62')
 
 if faults:
     sys.exit(f'pages: {len(faults)} faults')
-print(f'pages: {len(KINDS)} messages, {rows} signals and {seen} labels are those of the documents')
+print(f'pages: {len(KINDS)} messages, {rows} signals with their fields and {seen} labels are those of the documents')

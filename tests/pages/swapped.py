@@ -1,0 +1,36 @@
+#!/usr/bin/env python3
+"""A message with two fields in each other's place, in code and definitions alike, is proved equal and is wrong: check.py has to find it, in reading and in writing."""
+import shutil
+import subprocess
+import sys
+import tempfile
+from pathlib import Path
+
+HERE = Path(__file__).resolve().parent
+ROOT = HERE.parents[1]
+# a file, and the two words in it that change places
+SWAPS = (
+    ('crates/message_parts/specs/Watched.antt', 'modules = celsiusOf', 'enclosure = celsiusOf'),
+    ('crates/message_safety/specs/Build.antt', 'stopped3 = flagOf', 'failed3 = flagOf'),
+    ('crates/message_charger/specs/Take.antt', 'm .max', 'm .min'),
+)
+
+
+def checked(path, first, second):
+    """What check.py says of a copy of the definitions in which the two words changed places."""
+    with tempfile.TemporaryDirectory() as folder:
+        for crate in ('page_rows', 'message_types', 'message_parts', 'message_charger', 'message_safety'):
+            shutil.copytree(ROOT / 'crates' / crate, Path(folder, 'crates', crate))
+        file = Path(folder, path)
+        text = file.read_text()
+        if text.count(first) != 1 or text.count(second) != 1:
+            sys.exit(f'swapped.py: {path} has {first!r} or {second!r} not once')
+        file.write_text(text.replace(first, '\0').replace(second, first).replace('\0', second))
+        return subprocess.run([sys.executable, HERE / 'check.py', folder], capture_output=True, text=True)
+
+
+for path, first, second in SWAPS:
+    told = checked(path, first, second)
+    if told.returncode == 0 or 'the document says' not in told.stderr:
+        sys.exit(f'swapped.py: {first!r} and {second!r} in each other\'s place were not found: {told.stdout}{told.stderr}')
+print('pages: two fields in each other\'s place are found, in reading and in writing')
