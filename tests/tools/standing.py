@@ -1,5 +1,6 @@
 """tools/ with other programs in target/bin, which stand in for those that are proved: so that what passes through is held without them."""
 import shutil
+import signal
 import stat
 import subprocess
 import tempfile
@@ -12,6 +13,12 @@ PROGRAMS = Path(__file__).resolve().parents[1] / 'target/bin'
 def command(program):
     return [str(PROGRAMS / program)]
 '''
+
+
+def heeded():
+    """Signals as they are in a terminal: whoever runs the tests in the background has some of them ignored, and a wrapper leaves those ignored."""
+    for number in signal.SIGHUP, signal.SIGINT, signal.SIGQUIT, signal.SIGTERM:
+        signal.signal(number, signal.SIG_DFL)
 
 
 class Standing:
@@ -35,6 +42,7 @@ class Standing:
         path.chmod(path.stat().st_mode | stat.S_IXUSR)
 
     def start(self, name, *words, **more):
+        more.setdefault('preexec_fn', heeded)
         return subprocess.Popen([self.root / 'tools' / name, *words], bufsize=0, **more)
 
     def call(self, name, *words, told=b'', **more):
