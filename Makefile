@@ -3,7 +3,7 @@
 # make test   what .ci/run runs: the tables against the maker's documents, the layout of the files, the gate, the C tests, nightlog, replay and the desk
 #             against the second program, recordings of candump, exit statuses, the pages of the nights; its last line is 'N passed, 0 failed'
 # make check  the proofs and the programs, without the must-fail edits
-# make lib    target/lib/librokemaipu.a and target/lib/rokemaipu.h, for C and Rust
+# make lib    target/lib/librokemaipu.a, and rokemaipu.h and rokemaipu_pages.h beside it, for C and Rust
 # make bench  the library and the replay beside plain C in one run; BEFORE=REVISION, the library beside that revision of itself too
 # make report a night as a page, target/report/NAME.html: NIGHT and POSTS as above; PICTURE=FILE.png takes a picture of it too
 
@@ -36,7 +36,7 @@ bench: lib replay
 	@. tests/machine; set -e; \
 	[ -z "$(BEFORE)" ] || bench/before $(BEFORE); \
 	bench/larger; \
-	$$cc -O2 -Wall -Wextra $(if $(BEFORE),-DBEFORE) -Itarget/lib -Ibench bench/bench.c bench/peer.c bench/peer_log.c target/lib/librokemaipu.a $(if $(BEFORE),target/before/libbefore.a) -o target/lib/bench; \
+	$$cc -O2 -Wall -Wextra $(if $(BEFORE),-DBEFORE) -Itarget/lib -Ibench bench/bench.c bench/peer.c bench/peer_log.c bench/peer_batch.c target/lib/librokemaipu.a $(if $(BEFORE),target/before/libbefore.a) -o target/lib/bench; \
 	$$cc -O2 -Wall -Wextra -Itarget/lib -Ibench bench/larger.c target/lib/librokemaipu.a target/larger/liblarger.a -o target/larger/larger; \
 	$$cc -O2 -Wall -Wextra -Itarget/lib -Wl,--wrap=memcpy,--wrap=memmove bench/copied.c target/lib/librokemaipu.a -o target/lib/copied; \
 	$$cc -O2 -Wall -Wextra -Itarget/lib -Ibench bench/peer_replay.c bench/peer.c bench/peer_log.c -o target/lib/peer_replay; \

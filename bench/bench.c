@@ -4,6 +4,7 @@
 #include "bench.h"
 #include "sides.h"
 
+#include <inttypes.h>
 #include <string.h>
 
 enum { TURNS = 1000, AGAIN = 1500 };
@@ -220,6 +221,55 @@ static void bench_log(void) {
     speed(line("log, a record read", read_log, &logs[0], LOG_TURNS, RECORDS), bytes);
 }
 
+/* ---- a batch: as many records as 4,096 bytes hold, of the mix and a tick, going round 8 posts, beside plain C that does the same over one buffer, and
+ * beside single calls: each record is read from the same bytes and fed. All start from the same table, and leave the same. */
+
+typedef uint32_t batch(rokemaipu_table *t, const uint8_t *records, size_t length, uint32_t *answers, size_t places);
+
+static uint32_t single_calls(rokemaipu_table *t, const uint8_t *records, size_t length, uint32_t *answers, size_t places) {
+    uint64_t e[ROKEMAIPU_ENTRY_NUMBERS];
+    uint32_t n = 0;
+    for (size_t at = 0; n < places && rokemaipu_log_record(records, length, at, e, ROKEMAIPU_ENTRY_NUMBERS) == ROKEMAIPU_FOUND_RECORD; at = e[ROKEMAIPU_ENTRY_NEXT])
+        answers[n++] = e[ROKEMAIPU_ENTRY_TICK] ? rokemaipu_tick(t, (uint32_t)e[ROKEMAIPU_ENTRY_CHANNEL], (uint32_t)e[ROKEMAIPU_ENTRY_TIME])
+                                               : rokemaipu_frame(t, (uint32_t)e[ROKEMAIPU_ENTRY_CHANNEL], (uint32_t)e[ROKEMAIPU_ENTRY_TIME], (uint32_t)e[ROKEMAIPU_ENTRY_ID],
+                                                                 e[ROKEMAIPU_ENTRY_EXTENDED], records + e[ROKEMAIPU_ENTRY_START], e[ROKEMAIPU_ENTRY_LENGTH]);
+    return n;
+}
+
+static void bench_batch(void) {
+    enum { WAYS = 3, ONCE = 4 };
+    static batch *const ways[WAYS] = {rokemaipu_batch, peer_batch, single_calls};
+    static const char *const names[WAYS] = {"the library", "plain C", "single calls"};
+    static rokemaipu_table tables[WAYS];
+    static uint32_t answers[WAYS][ROKEMAIPU_BATCH_BYTES];
+    static uint8_t bytes[ROKEMAIPU_BATCH_BYTES];
+    size_t size = 0;
+    for (uint32_t k = 0;; k++) {
+        uint8_t record[ROKEMAIPU_RECORD_BYTES];
+        uint32_t i = k % (MIX + 1), channel = k / (MIX + 1) % ROKEMAIPU_POSTS;
+        uint32_t n = i < MIX ? peer_log_frame(2000, channel, mix[i].id, true, mix[i].bytes, mix[i].n, record, sizeof record) : peer_log_tick(2000, channel, record, sizeof record);
+        if (size + n > sizeof bytes) break;
+        memcpy(bytes + size, record, n), size += n;
+    }
+    double best[WAYS] = {1e300, 1e300, 1e300};
+    uint32_t count = 0;
+    for (int w = 0; w < WAYS; w++) {
+        for (uint32_t i = 0; i < ROKEMAIPU_POSTS; i++) rokemaipu_set_up(&tables[w], i, i, 5000, 1000, 500, 500, 0);
+        count = ways[w](&tables[w], bytes, size, answers[w], ROKEMAIPU_BATCH_BYTES);
+        if (memcmp(&tables[w], &tables[0], sizeof tables[0]) || memcmp(answers[w], answers[0], sizeof answers[0])) differ("batch");
+    }
+    for (int again = 0; again < AGAIN; again++)
+        for (int w = 0; w < WAYS; w++) {
+            double from = now();
+            for (int turn = 0; turn < ONCE; turn++) sum += ways[w](&tables[w], bytes, size, answers[w], ROKEMAIPU_BATCH_BYTES);
+            double took = (now() - from) / (ONCE * (double)count);
+            if (took < best[w]) best[w] = took;
+        }
+    printf("%-26s %7.1f ns", "batch, a record", best[0]);
+    for (int w = 1; w < WAYS; w++) printf("   %7.1f ns %s, %5.2f times", best[w], names[w], best[0] / best[w]);
+    printf("   (%" PRIu32 " records, %zu bytes)\n", count, size);
+}
+
 int main(void) {
     bench_codec();
     bench_changes();
@@ -228,5 +278,6 @@ int main(void) {
     bench_watch("tick in place, 1 post", tick, 1, 4 * TURNS, 1);
     bench_watch("tick in place, 8 posts", tick, 8, 4 * TURNS, 1);
     bench_log();
+    bench_batch();
     return sum == 42;
 }

@@ -1,4 +1,5 @@
-/* The sides that bench.c compares: the library, plain C on the same table, plain C on a table of its own, which is timed where there is a table, and with BEFORE the library of an older revision (bench/before), whose symbols begin with before_. */
+/* The sides that bench.c compares: the library, plain C on the same table, plain C on a table of its own, which is timed where there is a table, and with
+ * BEFORE the library of an older revision (bench/before), whose symbols begin with before_. */
 #ifndef SIDES_H
 #define SIDES_H
 #include "peer.h"

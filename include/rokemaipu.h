@@ -1,34 +1,26 @@
 /* Rokemaipu: the CAN messages of charge and safety controllers, the session watch over up to 8 posts, and the night log.
  *
+ *     static rokemaipu_table t;                                              a table is zeroed memory: zero it first
+ *     if (rokemaipu_layout() != ROKEMAIPU_LAYOUT) return 1;                  this header and the library that was linked are not of one version
+ *     rokemaipu_set_up(&t, 0, 4, 5000, 1000, 500, 500, ROKEMAIPU_MEASURING); post 0 on channel 4: 500.0 V, 100.0 A, 50.0 A, W 500 ms
+ *     uint32_t answer = rokemaipu_frame(&t, 4, time, id, extended, payload, length);
+ *     if (rokemaipu_refusal(answer)) ..                                      refused, and nothing was changed
+ *     else if (answer & ROKEMAIPU_F9_LOW_INSULATION) ..                      accepted, and found
+ *
  * Link librokemaipu.a (make lib). The functions are proved: each takes any input and answers; nothing outside the memory that you
  * lend is read or written, no memory is kept after a call, and nothing is allocated. What you owe, since C cannot be proved:
  *
  *   - a pointer points to the memory that its type and length say (NULL with length 0 is an empty slice);
  *   - a bool is 0 or 1;
  *   - two slices of one call do not overlap, and no slice lies in the table;
- *   - the table is zeroed memory, or was started, or came out of these functions. Any other table is answered as well, but then its
+ *   - the table is zeroed memory, or was started, or came out of these functions. Memory that is no table yet, from malloc or the
+ *     stack: zero it first. rokemaipu_start is for a table that is to be emptied. Any other table is answered as well, but then its
  *     answers are those of the numbers that you put there.
  *
  * Calls on one table come one after the other. Different tables are independent.
  *
- * ANSWERS are one word. Below 65,536 a call was accepted; from there on it is 65,536 plus the number of the refusal, and of refusal 5
- * plus 256 times the start bit of the signal, and nothing was changed: neither the table nor a lent buffer. rokemaipu_refusal gives the
- * number, rokemaipu_start_bit the start bit.
- *
- *    1  channel above 31, or held by no post          9  post above 7
- *    2  time earlier than the post's latest          10  channel above 31 at set-up
- *    3  unknown identifier in this form, or kind     11  channel held by another post
- *    4  frame too short                              12  a limit outside its range
- *    5  a number without a label                     13  no signal starts at that bit
- *    6  a bit that no signal covers is 1             14  post not set up
- *    7  a number does not fit its signal             15  frame too long
- *    8  lent buffer too short
- *
- *   of the night log:
- *   16  ill-formed number                            19  extended identifier above 29 bits
- *   17  channel above 31                             20  length above 9; in the writer above 8
- *   18  standard identifier above 2,047              21  length 9, and the identifier part is not 0
- */
+ * Here follow answers, refusals and findings; the table; the functions. rokemaipu_pages.h, which is included, tells what the raw numbers
+ * of each message are. */
 #ifndef ROKEMAIPU_H
 #define ROKEMAIPU_H
 
@@ -36,14 +28,25 @@
 #include <stddef.h>
 #include <stdint.h>
 
+#include "rokemaipu_pages.h"
+
 #ifdef __cplusplus
 extern "C" {
 #endif
+
+#define ROKEMAIPU_VERSION 100 /* 1.00: whatever compiles with one 1.xx compiles with each later one */
 
 #define ROKEMAIPU_POSTS 8
 #define ROKEMAIPU_KINDS 12
 #define ROKEMAIPU_SIGNALS 16 /* places of raw numbers; no message has more signals */
 #define ROKEMAIPU_RECORD_BYTES 20 /* no record of the night log is longer */
+#define ROKEMAIPU_BATCH_BYTES 4096 /* a batch has no more */
+#define ROKEMAIPU_LINE_BYTES 40 /* no line of a replay is longer */
+
+/* ---- answers
+ *
+ * An answer is one word. Below 65,536 a call was accepted; from there on it is 65,536 plus the number of the refusal, and of refusal 5
+ * plus 256 times the start bit of the signal, and nothing was changed: neither the table nor a lent buffer. */
 #define ROKEMAIPU_REFUSED 65536u
 
 /* The refusal's number of an answer, 0 where it was accepted. */
@@ -53,7 +56,69 @@ static inline uint32_t rokemaipu_refusal(uint32_t answer) { return answer < ROKE
  * lowest. 0 for any other answer. */
 static inline uint32_t rokemaipu_start_bit(uint32_t answer) { return answer < ROKEMAIPU_REFUSED ? 0 : answer / 256 % 256; }
 
-/* Kinds of messages, by the identifier of their extended frames; the last three are the safety controller's, standard frames. */
+/* Refusals, by their numbers. */
+enum rokemaipu_refused {
+    ROKEMAIPU_R1_CHANNEL_FREE = 1,       /* channel above 31, or held by no post */
+    ROKEMAIPU_R2_EARLIER = 2,            /* time earlier than that post's latest accepted frame or tick */
+    ROKEMAIPU_R3_UNKNOWN_IDENTIFIER = 3, /* identifier not in the table, in the frame's form; or a number that is no kind */
+    ROKEMAIPU_R4_TOO_SHORT = 4,          /* frame shorter than the table's length */
+    ROKEMAIPU_R5_NO_LABEL = 5,           /* a label signal holds a number without a label */
+    ROKEMAIPU_R6_UNCOVERED_BIT = 6,      /* a bit that no signal covers is 1 */
+    ROKEMAIPU_R7_NO_RAW_NUMBER = 7,      /* a raw number does not fit its signal */
+    ROKEMAIPU_R8_SHORT_BUFFER = 8,       /* lent buffer too short */
+    ROKEMAIPU_R9_NO_SUCH_POST = 9,       /* post number above 7 */
+    ROKEMAIPU_R10_NO_SUCH_CHANNEL = 10,  /* channel above 31 at set-up */
+    ROKEMAIPU_R11_CHANNEL_TAKEN = 11,    /* channel held by another post */
+    ROKEMAIPU_R12_LIMIT_OUTSIDE = 12,    /* a post limit outside its range */
+    ROKEMAIPU_R13_NO_SIGNAL = 13,        /* no signal of the message starts at that bit */
+    ROKEMAIPU_R14_NOT_SET_UP = 14,       /* post not set up */
+    ROKEMAIPU_R15_TOO_LONG = 15,         /* frame longer than the table's length */
+    /* of the night log */
+    ROKEMAIPU_R16_ILL_NUMBER = 16,       /* a number not in its shortest form, of more than five groups, or of more than 32 bits */
+    ROKEMAIPU_R17_LOG_CHANNEL = 17,      /* channel above 31 */
+    ROKEMAIPU_R18_LOG_STANDARD = 18,     /* standard identifier above 2,047 */
+    ROKEMAIPU_R19_LOG_EXTENDED = 19,     /* extended identifier above 29 bits */
+    ROKEMAIPU_R20_LOG_LENGTH = 20,       /* length above 9; in the writer above 8 */
+    ROKEMAIPU_R21_LOG_TICK = 21,         /* length 9, and the identifier part is not 0 */
+    /* of a batch */
+    ROKEMAIPU_R22_BATCH_BYTES = 22,      /* more than 4,096 bytes */
+    ROKEMAIPU_R23_BATCH_RECORD = 23,     /* a malformed or cut record */
+    ROKEMAIPU_R24_BATCH_ANSWERS = 24     /* fewer places for answers than records */
+};
+
+/* Findings of an accepted frame or tick: finding k is bit k - 1 of the answer. */
+#define ROKEMAIPU_F(k) (1u << ((k) - 1))
+
+enum rokemaipu_finding {
+    /* any event, session open: time minus the later of the opening and the latest Power_Modules_Status in this session is above W */
+    ROKEMAIPU_F1_POWER_MODULES_SILENT = 1,
+    /* any event, once a controller status was accepted: time minus its latest is above 200 ms */
+    ROKEMAIPU_F2_CONTROLLER_SILENT = 2,
+    /* DC_Power_Control: contactors Close, no session open */
+    ROKEMAIPU_F3_CLOSE_WITHOUT_SESSION = 4,
+    /* DC_Power_Control: insulation test, precharge or power transfer, no session open */
+    ROKEMAIPU_F4_POWER_WITHOUT_SESSION = 8,
+    /* the same functions, session open, and its latest Power_Modules_Status is none or Not_Allowed */
+    ROKEMAIPU_F5_POWER_NOT_ALLOWED = 16,
+    /* Lowering with a function other than standby, or with any DC_Power_Control signal in Volts or Amps not 0 */
+    ROKEMAIPU_F6_LOWERING_NOT_STANDBY = 32,
+    /* DC_Power_Control, function not off: Target_Voltage above the voltage limit */
+    ROKEMAIPU_F7_TARGET_ABOVE_LIMIT = 64,
+    /* Power_Modules_Status, session open: current above the charge limit, or below minus the discharge limit */
+    ROKEMAIPU_F8_CURRENT_OUTSIDE_LIMITS = 128,
+    /* Power_Modules_Status, session open whose latest DC_Power_Control is precharge or power transfer: under 100 Ohm per volt of the same
+     * message's voltage; with a yes/no sensor, raw insulation 0 */
+    ROKEMAIPU_F9_LOW_INSULATION = 256,
+    /* New_Charge_Session while open with another protocol or plug than the session's first */
+    ROKEMAIPU_F10_OTHER_PROTOCOL_OR_PLUG = 512,
+    /* Charge_Session_Finished with none open */
+    ROKEMAIPU_F11_FINISHED_WITHOUT_SESSION = 1024
+};
+
+/* ---- numbers that name things */
+
+/* Kinds of messages, by the identifier of their extended frames; the last three are the safety controller's, standard frames. What their raw
+ * numbers are stands in rokemaipu_pages.h. */
 enum rokemaipu_kind {
     ROKEMAIPU_POWER_MODULES_STATUS = 0,    /* 0x63000 */
     ROKEMAIPU_DC_POWER_PARAMETERS = 1,     /* 0x63001 */
@@ -68,20 +133,6 @@ enum rokemaipu_kind {
     ROKEMAIPU_CHARGE_STATE_1 = 10,         /* standard 7 */
     ROKEMAIPU_PT1000_STATE = 11            /* standard 8 */
 };
-
-/* The raw numbers of the safety controller's messages by their places, in the order of the maker's page. Where no numbers are named, it is a
- * flag, 0 or 1.
- *
- *   CHARGE_CONTROL_1  [0] target duty, tenths of a percent, 0 to 1,023; what is above 1,000 the safety controller takes as 1,000
- *                     [1] PWM active  [2] contactor 1  [3] contactor 2
- *   CHARGE_STATE_1    [0] current duty, likewise  [1] PWM active
- *                     [2] control pilot: 0 unknown, 1 A, 2 B, 3 C, 4 D, 5 E, 6 F, 7 invalid
- *                     [3] pilot's short circuit  [4] diode fault
- *                     [5] proximity pin: 0 no cable, 1 13 A, 2 20 A, 3 32 A, 4 63/70 A, 5 type 1, 6 type 1 with its button pressed, 7 error
- *                     [6] contactor 1  [7] contactor 2  [8] contactor 1's error  [9] contactor 2's error
- *                     charging aborted by [10] emergency stop 1  [11] 2  [12] 3  [13] IMD or RCM;  [14] the test of IMD or RCM failed
- *   PT1000_STATE      [0] probe 1, tenths of a degree Celsius, -8,192 to 8,191; 8,191 is a probe that is not used
- *                     [1] it stops charging  [2] its self-test failed;  [3] to [5], [6] to [8], [9] to [11] likewise probes 2, 3, 4 */
 
 /* Kinds of insulation sensors. In a table of your own making every other number counts as measuring. */
 enum rokemaipu_sensor {
@@ -125,9 +176,6 @@ enum rokemaipu_entry {
     ROKEMAIPU_ENTRY_NEXT = 7,     /* the next record's first byte */
     ROKEMAIPU_ENTRY_NUMBERS = 8   /* how many they are */
 };
-
-/* Findings of an accepted frame or tick: finding k is bit k - 1 of the answer. */
-#define ROKEMAIPU_F(k) (1u << ((k) - 1))
 
 /* ---- the table that you lend: read it as you like, change it through the functions below ----
  *
@@ -182,6 +230,14 @@ typedef struct rokemaipu_table { /* 3,584 bytes; zeroed memory is the empty tabl
     rokemaipu_post posts[ROKEMAIPU_POSTS];
 } rokemaipu_table;
 
+/* The table's layout as one word: its bytes in the low 32 bits, then its posts and its kinds of messages with 8 bits each, then the number of the
+ * layout, which is another one wherever a place in the table means something else. */
+#define ROKEMAIPU_LAYOUT ((uint64_t)sizeof(rokemaipu_table) + ((uint64_t)ROKEMAIPU_POSTS << 32) + ((uint64_t)ROKEMAIPU_KINDS << 40) + ((uint64_t)1 << 48))
+
+/* Answers the layout that the library has. Compare it with ROKEMAIPU_LAYOUT before the first call: with another one, no table of this
+ * header may be lent. */
+uint64_t rokemaipu_layout(void);
+
 /* ---- posts ---- */
 
 /* Makes the table empty. Answers 0. */
@@ -200,6 +256,9 @@ uint32_t rokemaipu_frame(rokemaipu_table *t, uint32_t channel, uint32_t time, ui
 /* Lets time pass on a channel. Answers the findings, or refuses with 1, 2. */
 uint32_t rokemaipu_tick(rokemaipu_table *t, uint32_t channel, uint32_t time);
 
+/* Answers the post that holds a channel, which is the one that frames and ticks on it go to. Refuses with 1. */
+uint32_t rokemaipu_holder(const rokemaipu_table *t, uint32_t channel);
+
 /* Looks a post up: puts its numbers into the first ROKEMAIPU_NUMBERS places of numbers, and leaves those behind them. Answers 0.
  * Refuses with 9, 14, then with 8 where numbers has fewer places. */
 uint32_t rokemaipu_look_up(const rokemaipu_table *t, uint32_t post, uint32_t *numbers, size_t places);
@@ -209,9 +268,13 @@ uint32_t rokemaipu_look_up(const rokemaipu_table *t, uint32_t post, uint32_t *nu
  * with 9, 14, with 3 for a kind above 11, then with 8 where time has no place or buffer is shorter than the frame. */
 uint32_t rokemaipu_latest(const rokemaipu_table *t, uint32_t post, uint32_t kind, uint32_t *time, size_t places, uint8_t *buffer, size_t room);
 
+/* Looks up likewise, by a number of rokemaipu_kept, the latest frame that was accepted in the open session. Answers as rokemaipu_latest does: 0
+ * also where no session is open. Refuses with 9, 14, with 3 for a number above 1, then with 8. */
+uint32_t rokemaipu_in_session(const rokemaipu_table *t, uint32_t post, uint32_t part, uint32_t *time, size_t places, uint8_t *buffer, size_t room);
+
 /* ---- frames ---- */
 
-/* Reads a frame. Answers its kind, and puts the raw whole numbers of its signals, in the order of the maker's page, into the first
+/* Reads a frame. Answers its kind, and puts the raw whole numbers of its signals, by the places of rokemaipu_pages.h, into the first
  * ROKEMAIPU_SIGNALS places of raws, with 0 behind them. Refuses with 3, 4 or 15, 5, 6, or with 8 where raws has fewer
  * places. */
 uint32_t rokemaipu_read(uint32_t id, bool extended, const uint8_t *payload, size_t length, int64_t *raws, size_t places);
@@ -275,6 +338,94 @@ uint32_t rokemaipu_log_tick(uint32_t time, uint32_t channel, uint8_t *buffer, si
  * ROKEMAIPU_FOUND_PIECE. Refuses with 16 to 21 by the earliest bad part, also where the log is cut after that part; then, for a record, with
  * 8 where numbers has fewer places. Every answer but the first leaves numbers as it was. */
 uint32_t rokemaipu_log_record(const uint8_t *log, size_t size, size_t at, uint64_t *numbers, size_t places);
+
+/* ---- a batch in one call ---- */
+
+/* Takes up to ROKEMAIPU_BATCH_BYTES bytes of whole log records and feeds each in order, as rokemaipu_frame and rokemaipu_tick would: the answer
+ * of record k, that of its single call, goes to answers[k]: its findings, or 65,536 plus the number of its refusal, and of 5 plus 256 times the
+ * start bit. Answers how many records there were; the places behind them stay as they were. No bytes are no records, and answer 0.
+ * Refuses the whole batch with 22 where there are more bytes, with 23 where a record is malformed or cut, with 24 where answers has fewer
+ * places than there are records, judged in this order; then neither the table nor answers is changed. That the watch refuses a record
+ * refuses no batch. A place for each byte is always enough: a record has four bytes at least. */
+uint32_t rokemaipu_batch(rokemaipu_table *t, const uint8_t *records, size_t length, uint32_t *answers, size_t places);
+
+/* ---- replay of a night log: a line for each record, one a call ----
+ *
+ *     static rokemaipu_replay r;
+ *     char line[ROKEMAIPU_LINE_BYTES];
+ *     uint64_t at = 0;
+ *     uint32_t n;
+ *     rokemaipu_replay_set_up(&r, 0, 2, 5000, 1000, 500, 500, ROKEMAIPU_MEASURING);
+ *     while ((n = rokemaipu_replay_line(&r, log, size, at, (uint8_t *)line, sizeof line, &at, 1)) >= 3 && !rokemaipu_refusal(n))
+ *         fwrite(line, 1, n, stdout);
+ *
+ * A line is the record's count from 1, the post that holds its channel (a dash for refusal 1), then A with the decimal finding number or R with the
+ * refusal, one space between; refusal 5 adds a space and the start bit; and a line feed: "1 0 A0", "2 - R1", "3 0 R5 48". */
+
+typedef struct rokemaipu_replay { /* 3,600 bytes; zeroed memory is a replay that was just started */
+    rokemaipu_table table; /* look posts up in it as you like */
+    uint64_t count;        /* of the records fed so far */
+    uint64_t course;       /* 0: set-ups may come; 1: records were fed; else a set-up was refused, with this word */
+} rokemaipu_replay;
+
+/* Starts anew, with no post set up and no record fed. Answers 0. */
+uint32_t rokemaipu_replay_start(rokemaipu_replay *r);
+
+/* Sets a post up, as rokemaipu_set_up does. A refused one ends the replay: it and every later call are refused with its number, 9 to 12.
+ * Answers 0; or 1 where a record was fed before, and nothing is changed. */
+uint32_t rokemaipu_replay_set_up(rokemaipu_replay *r, uint32_t post, uint32_t channel, uint32_t voltage, uint32_t charge, uint32_t discharge, uint32_t silence, uint32_t sensor);
+
+/* Feeds the record at byte at of a log to the table, puts its line into line, from index 0 on, and the next record's first byte into next[0]. Answers
+ * the line's number of bytes, 3 at least; 0 at the log's end; 1 where only a piece of a record is left. Refuses with 8 where line has fewer than
+ * ROKEMAIPU_LINE_BYTES or next no place, before anything else; then with the number of the set-up that ended the replay; then with 16 to 21
+ * where the record is malformed. Every answer but a line leaves the replay and the lent memory as they were. */
+uint32_t rokemaipu_replay_line(rokemaipu_replay *r, const uint8_t *log, size_t size, size_t at, uint8_t *line, size_t room, uint64_t *next, size_t places);
+
+/* ---- the layout that the library was proved and built with: a compiler that lays a table out otherwise refuses this header */
+
+#if defined __cplusplus
+#define ROKEMAIPU_IS(what, bytes) static_assert((what) == (bytes), #what " is not " #bytes)
+#elif defined __STDC_VERSION__ && __STDC_VERSION__ >= 201112L
+#define ROKEMAIPU_IS(what, bytes) _Static_assert((what) == (bytes), #what " is not " #bytes)
+#else
+#define ROKEMAIPU_IS(what, bytes) extern int rokemaipu_is[(what) == (bytes) ? 1 : -1]
+#endif
+
+ROKEMAIPU_IS(sizeof(bool), 1);
+ROKEMAIPU_IS(sizeof(size_t), 8);
+ROKEMAIPU_IS(sizeof(rokemaipu_slot), 24);
+ROKEMAIPU_IS(offsetof(rokemaipu_slot, known), 0);
+ROKEMAIPU_IS(offsetof(rokemaipu_slot, time), 8);
+ROKEMAIPU_IS(offsetof(rokemaipu_slot, raw), 16);
+ROKEMAIPU_IS(sizeof(rokemaipu_limits), 20);
+ROKEMAIPU_IS(offsetof(rokemaipu_limits, voltage), 0);
+ROKEMAIPU_IS(offsetof(rokemaipu_limits, charge), 4);
+ROKEMAIPU_IS(offsetof(rokemaipu_limits, discharge), 8);
+ROKEMAIPU_IS(offsetof(rokemaipu_limits, silence), 12);
+ROKEMAIPU_IS(offsetof(rokemaipu_limits, sensor), 16);
+ROKEMAIPU_IS(sizeof(rokemaipu_session), 72);
+ROKEMAIPU_IS(offsetof(rokemaipu_session, opened), 0);
+ROKEMAIPU_IS(offsetof(rokemaipu_session, since), 8);
+ROKEMAIPU_IS(offsetof(rokemaipu_session, first), 16);
+ROKEMAIPU_IS(offsetof(rokemaipu_session, kept), 24);
+ROKEMAIPU_IS(sizeof(rokemaipu_head), 160);
+ROKEMAIPU_IS(offsetof(rokemaipu_head, used), 0);
+ROKEMAIPU_IS(offsetof(rokemaipu_head, channel), 4);
+ROKEMAIPU_IS(offsetof(rokemaipu_head, limits), 8);
+ROKEMAIPU_IS(offsetof(rokemaipu_head, heard), 28);
+ROKEMAIPU_IS(offsetof(rokemaipu_head, time), 32);
+ROKEMAIPU_IS(offsetof(rokemaipu_head, controller), 40);
+ROKEMAIPU_IS(offsetof(rokemaipu_head, parameters), 64);
+ROKEMAIPU_IS(offsetof(rokemaipu_head, session), 88);
+ROKEMAIPU_IS(sizeof(rokemaipu_post), 448);
+ROKEMAIPU_IS(offsetof(rokemaipu_post, head), 0);
+ROKEMAIPU_IS(offsetof(rokemaipu_post, latest), 160);
+ROKEMAIPU_IS(sizeof(rokemaipu_table), 3584);
+ROKEMAIPU_IS(offsetof(rokemaipu_table, posts), 0);
+ROKEMAIPU_IS(sizeof(rokemaipu_replay), 3600);
+ROKEMAIPU_IS(offsetof(rokemaipu_replay, table), 0);
+ROKEMAIPU_IS(offsetof(rokemaipu_replay, count), 3584);
+ROKEMAIPU_IS(offsetof(rokemaipu_replay, course), 3592);
 
 #ifdef __cplusplus
 }

@@ -209,7 +209,9 @@ mod tests {
                         Some(("log", _)) => lines == 1 && bytes <= 40,
                         Some(("label", _)) => lines <= 2 && bytes <= 60,
                         Some(("sensor" | "safety", _)) => lines <= 5,
-                        Some(("replay", _)) => lines <= 2 && bytes <= 100,
+                        Some(("replay", _)) => lines <= 3 && bytes <= 100,
+                        // A batch of the largest size cannot be made smaller.
+                        Some(("batch", _)) => lines <= 4,
                         _ => lines <= 6,
                     };
                     assert!(few, "{name}: {lines} lines, {bytes} bytes");

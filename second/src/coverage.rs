@@ -3,14 +3,15 @@
 use std::collections::{BTreeMap, BTreeSet};
 use std::fmt;
 
+use crate::batch_coverage;
 use crate::posts::Table;
 use crate::replay_coverage;
 use crate::safety_coverage;
 use crate::sensor_coverage;
 
-const WORDS: [&[u8]; 14] = [
+const WORDS: [&[u8]; 15] = [
     b"setup", b"release", b"frame", b"tick", b"record", b"read", b"change", b"write", b"explain", b"logr", b"logw",
-    b"replay", b"probe", b"duty",
+    b"replay", b"batch", b"probe", b"duty",
 ];
 
 const REFUSALS: std::ops::RangeInclusive<u32> = 1..=15;
@@ -35,6 +36,7 @@ pub struct Coverage {
     sensors: BTreeMap<&'static str, u64>,
     safety: BTreeMap<String, u64>,
     replays: BTreeMap<String, u64>,
+    batches: BTreeMap<String, u64>,
     findings: [u64; 11],
     clean: u64,
     accepted: u64,
@@ -56,6 +58,9 @@ impl Coverage {
         }
         for shown in replay_coverage::shown(step, answer) {
             *self.replays.entry(shown).or_default() += 1;
+        }
+        for shown in batch_coverage::shown(step, answer) {
+            *self.batches.entry(shown).or_default() += 1;
         }
         match answer.split_first() {
             Some((b'?', _)) => self.no_step += 1,
@@ -98,6 +103,7 @@ impl Coverage {
         missing.extend(sensors.map(|shown| shown.to_string()));
         missing.extend(safety_coverage::wanted().into_iter().filter(|shown| !self.safety.contains_key(shown)));
         missing.extend(replay_coverage::wanted().filter(|shown| !self.replays.contains_key(shown)));
+        missing.extend(batch_coverage::wanted().filter(|shown| !self.batches.contains_key(shown)));
         missing.extend((self.no_step == 0).then(|| "?".to_string()));
         missing.extend((self.no_message == 0).then(|| "X".to_string()));
         missing
@@ -137,6 +143,10 @@ impl fmt::Display for Coverage {
         write!(out, "\nreplays: ")?;
         for shown in replay_coverage::wanted() {
             write!(out, " {} {},", shown.trim_start_matches("replay "), self.replays.get(&shown).unwrap_or(&0))?;
+        }
+        write!(out, "\nbatches: ")?;
+        for shown in batch_coverage::wanted() {
+            write!(out, " {} {},", shown.trim_start_matches("batch "), self.batches.get(&shown).unwrap_or(&0))?;
         }
         write!(out, "\nother:    accepted {} ? {} X {}", self.accepted, self.no_step, self.no_message)
     }

@@ -2,6 +2,7 @@
 
 use std::io::{self, BufRead, Write};
 
+use crate::batch::{self, Batcher};
 use crate::codec::{self, range, Changer, Reader, Refusal};
 use crate::explain;
 use crate::fields::{bytes, extended, hex, identifier, natural, number, values};
@@ -20,6 +21,10 @@ use crate::service::{self, Limiter, Probe, Prober};
 /// A longer line is no step.
 pub const LONGEST: usize = 65_535;
 
+/// What stands in the places for a batch's answers before the call, and how many places there can be.
+pub const UNTOUCHED: u32 = 3_735_928_559;
+pub const MOST_PLACES: u32 = 2048;
+
 /// What a script runs on.
 pub struct Desk {
     pub table: Table,
@@ -29,6 +34,7 @@ pub struct Desk {
     pub log_reader: log::Reader,
     pub replayer: Replayer,
     pub replay_line: Line,
+    pub batcher: Batcher,
     pub recorder: fn(&Post) -> String,
     pub prober: Prober,
     pub limiter: Limiter,
@@ -44,6 +50,7 @@ impl Desk {
             log_reader: log::read,
             replayer: replay::replay,
             replay_line: replay::line,
+            batcher: batch::batch,
             recorder: record::line,
             prober: service::probe,
             limiter: service::limited_duty,
@@ -86,6 +93,7 @@ fn step(desk: &mut Desk, line: &[u8]) -> Option<String> {
         b"logw" => log_write(desk.log_writer, &fields[1..]),
         b"logr" => log_read(desk.log_reader, &fields[1..]),
         b"replay" => replay(desk, &fields[1..]),
+        b"batch" => batch(desk, &fields[1..]),
         b"read" | b"change" | b"write" | b"explain" => message_step(desk, &fields),
         b"probe" | b"duty" => service_step(desk, &fields),
         b"record" => record(desk, &fields[1..]),
@@ -225,6 +233,19 @@ fn replay(desk: &mut Desk, fields: &[&[u8]]) -> Option<String> {
             let (log, set_ups) = (bytes(log)?, replay_setups::field(set_ups)?);
             let replay = (desk.replayer)(&mut desk.table, &set_ups, &log, desk.replay_line);
             Some(replay_line::answer(replay))
+        }
+        _ => None,
+    }
+}
+
+fn batch(desk: &mut Desk, fields: &[&[u8]]) -> Option<String> {
+    match *fields {
+        [records, places] => {
+            let (records, places) = (bytes(records)?, natural(places).filter(|places| *places <= MOST_PLACES)?);
+            let mut answers = vec![UNTOUCHED; places as usize];
+            let outcome = (desk.batcher)(&mut desk.table, &records, &mut answers);
+            let words: String = answers.iter().map(|word| format!(" {word}")).collect();
+            Some(said(outcome, |_| "A".to_string()) + &words)
         }
         _ => None,
     }

@@ -17,7 +17,7 @@ const FINDINGS: [&str; 11] = [
 /// An answer as one word has eight bits for a start.
 const LAST_START: u32 = 255;
 
-const REFUSALS: [&str; 21] = [
+const REFUSALS: [&str; 24] = [
     "channel above 31, or held by no post",
     "time earlier than the post's latest accepted frame or tick",
     "identifier not in the table, standard and extended ones told apart",
@@ -39,6 +39,9 @@ const REFUSALS: [&str; 21] = [
     "an extended identifier above 29 bits in a log record",
     "a length above 9 in a log record, or more than 8 payload bytes to be logged",
     "a tick's length, 9, with an identifier part other than 0",
+    "a batch of more than 4,096 bytes",
+    "a malformed or cut record in a batch",
+    "fewer places for answers than a batch has records",
 ];
 
 /// The words of each finding in the number; none where it has a bit that is no finding.

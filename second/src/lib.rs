@@ -1,6 +1,11 @@
 //! A second program for 01: answers desk scripts, makes them, and compares other programs by them.
 
 mod arguments;
+mod batch;
+mod batch_coverage;
+#[cfg(test)]
+mod batch_readings;
+mod batch_slips;
 mod check;
 mod codec;
 mod compare;

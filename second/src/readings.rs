@@ -395,7 +395,10 @@ fn explaining() {
          explain R19 => E R19 an extended identifier above 29 bits in a log record
          explain R20 => E R20 a length above 9 in a log record, or more than 8 payload bytes to be logged
          explain R21 => E R21 a tick's length, 9, with an identifier part other than 0
-         explain R22 => ?
+         explain R22 => E R22 a batch of more than 4,096 bytes
+         explain R23 => E R23 a malformed or cut record in a batch
+         explain R24 => E R24 fewer places for answers than a batch has records
+         explain R25 => ?
          explain R01 => ?
          explain r1 => ?
          explain R => ?

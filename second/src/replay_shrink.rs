@@ -1,4 +1,4 @@
-//! A replay step made smaller: fewer records and set-ups, and smaller numbers in them.
+//! A replay or batch step made smaller: fewer records and set-ups, and smaller numbers in them.
 
 use crate::fields::{bytes, hex, natural};
 use crate::log;
@@ -24,6 +24,42 @@ pub fn simpler(line: &[u8]) -> Vec<Line> {
     by_log.chain(set_ups.map(|set_ups| write(&night.log, &set_ups))).collect()
 }
 
+/// Simpler ones first; none where the line is no batch. The places for its answers are a field as any other.
+pub fn simpler_batch(line: &[u8]) -> Vec<Line> {
+    let Some((records, places)) = read_batch(line) else {
+        return Vec::new();
+    };
+    let logs = fewer(&pieces(&records)).into_iter().map(|pieces| pieces.concat()).chain(earlier(&records));
+    logs.map(|log| write_batch(&log, &places)).collect()
+}
+
+/// With another channel in place of one.
+pub fn batch_on_channel(line: &[u8], old: i64, new: i64) -> Option<Line> {
+    let (records, places) = read_batch(line)?;
+    Some(write_batch(&moved(&records, u32::try_from(old).ok()?, u32::try_from(new).ok()?), &places))
+}
+
+fn read_batch(line: &[u8]) -> Option<(Vec<u8>, Vec<u8>)> {
+    let fields: Vec<&[u8]> = line.split(|&byte| byte == b' ').collect();
+    match fields[..] {
+        [b"batch", records, places] => Some((bytes(records)?, places.to_vec())),
+        _ => None,
+    }
+}
+
+fn write_batch(records: &[u8], places: &[u8]) -> Line {
+    [b"batch ", hex(records).as_bytes(), b" ", places].concat()
+}
+
+/// The log with another channel in place of one.
+fn moved(bytes: &[u8], old: u32, new: u32) -> Vec<u8> {
+    let mut log = log::read(bytes);
+    for record in log.records.iter_mut().filter(|record| record.channel == old) {
+        record.channel = new;
+    }
+    [log.records.iter().flat_map(log::bytes).collect::<Vec<u8>>().as_slice(), &bytes[log.at..]].concat()
+}
+
 /// With another channel in place of one, in the set-ups and in the log.
 pub fn on_channel(line: &[u8], old: i64, new: i64) -> Option<Line> {
     let mut night = read(line)?;
@@ -32,13 +68,7 @@ pub fn on_channel(line: &[u8], old: i64, new: i64) -> Option<Line> {
     {
         *channel = new;
     }
-    let mut read = log::read(&night.log);
-    for record in read.records.iter_mut().filter(|record| record.channel == old) {
-        record.channel = new;
-    }
-    let log =
-        [read.records.iter().flat_map(log::bytes).collect::<Vec<u8>>().as_slice(), &night.log[read.at..]].concat();
-    Some(write(&log, &night.set_ups))
+    Some(write(&moved(&night.log, old, new), &night.set_ups))
 }
 
 fn read(line: &[u8]) -> Option<Night> {

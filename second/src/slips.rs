@@ -1,5 +1,6 @@
 //! Wrong readings of 01 and 02, kept to show that a comparison finds them.
 
+use crate::batch_slips;
 use crate::codec::Message;
 use crate::desk::Desk;
 use crate::history::{latest, latest_message, latest_time, session, Event};
@@ -38,7 +39,7 @@ const SHARED_CLOCK: &str = "clock";
 pub fn names() -> Vec<&'static str> {
     let rules = WRONG_RULES.iter().map(|(name, ..)| *name);
     let early = log_slips::names().chain(label_slips::names()).chain(sensor_slips::names());
-    let later = safety_slips::names().chain(replay_slips::names());
+    let later = safety_slips::names().chain(replay_slips::names()).chain(batch_slips::names());
     rules.chain([SHARED_CLOCK]).chain(early).chain(later).collect()
 }
 
@@ -56,6 +57,7 @@ pub fn desk(name: &str) -> Option<Desk> {
             sensor_slips::put_into,
             safety_slips::put_into,
             replay_slips::put_into,
+            batch_slips::put_into,
         ];
         put.iter().find_map(|put_into| put_into(&mut desk, name))?;
     }

@@ -9,7 +9,10 @@
 #include <stdlib.h>
 #include <string.h>
 
-enum { LONGEST = 65535, MOST = 64 };
+enum { LONGEST = 65535, MOST = 64, MOST_PLACES = 2048 };
+
+/* what stands in a place for a batch's answer before the call */
+#define UNTOUCHED 3735928559u
 
 static rokemaipu_table table;
 
@@ -298,18 +301,31 @@ static bool set_up_numbers(word w, uint32_t n[7]) {
 }
 
 static bool replay_step(void) {
-    static rokemaipu_table own;
+    static rokemaipu_replay own;
     uint32_t n[7], refused = 0;
     word w = words[2];
     bool none = w.n == 1 && *w.at == '-';
     if (!hex(words[1])) return false;
-    rokemaipu_start(&own);
+    rokemaipu_replay_start(&own);
     while (!none && w.at) {
         if (!set_up_numbers(cut(&w, ';'), n)) return false;
-        if (!refused) refused = rokemaipu_set_up(&own, n[0], n[1], n[2], n[3], n[4], n[5], n[6]);
+        refused = rokemaipu_replay_set_up(&own, n[0], n[1], n[2], n[3], n[4], n[5], n[6]); /* once refused, always */
     }
     if (refused) printf("SETUP "), put_refusal(refused);
     else put_replay(&own, bytes, size);
+    return putchar('\n'), true;
+}
+
+/* every place is shown afterwards, after a refusal too */
+static bool batch_step(void) {
+    static uint32_t answers[MOST_PLACES];
+    uint32_t places, word;
+    if (!hex(words[1]) || !u32(2, &places) || places > MOST_PLACES) return false;
+    for (uint32_t i = 0; i < places; i++) answers[i] = UNTOUCHED;
+    word = rokemaipu_batch(&table, bytes, size, answers, places);
+    if (word < ROKEMAIPU_REFUSED) putchar('A');
+    else put_refusal(word);
+    for (uint32_t i = 0; i < places; i++) printf(" %" PRIu32, answers[i]);
     return putchar('\n'), true;
 }
 
@@ -331,6 +347,7 @@ static bool step(void) {
     if (is("logw", 4) || is("logw", 7)) return log_write_step();
     if (is("logr", 1)) return log_read_step();
     if (is("replay", 2)) return replay_step();
+    if (is("batch", 2)) return batch_step();
     return false;
 }
 

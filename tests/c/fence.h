@@ -54,7 +54,7 @@ typedef struct lent {
     size_t width, places;
 } lent;
 
-static void lend(lent *l, size_t places) {
+static inline void lend(lent *l, size_t places) {
     l->places = places, l->at = l->end - places * l->width;
     uint8_t *from = l->at - BEFORE * l->width;
     for (uint8_t *p = from; p < l->end; p++) *p = (uint8_t)next();
@@ -62,7 +62,7 @@ static void lend(lent *l, size_t places) {
 }
 
 /* the first n places are those wanted, and all else is as it was lent */
-static void lent_is(int line, const lent *l, const void *want, size_t n) {
+static inline void lent_is(int line, const lent *l, const void *want, size_t n) {
     const uint8_t *was = l->copy + BEFORE * l->width;
     is(line, "what stands before the lent memory, changed", memcmp(l->at - BEFORE * l->width, l->copy, BEFORE * l->width) != 0, 0);
     is(line, "a place that was to be written, other", n && memcmp(l->at, want, n * l->width), 0);

@@ -5,7 +5,7 @@
 #include "rokemaipu.h"
 
 /* The lines of a log's records, each with a bar behind it, and the ending. */
-void put_replay(rokemaipu_table *table, const uint8_t *log, size_t size);
+void put_replay(rokemaipu_replay *replay, const uint8_t *log, size_t size);
 
 /* END, CUT@BYTE or BAD R<n>@BYTE, by what was found at that byte where no record is. */
 void put_ending(uint32_t found, size_t at);

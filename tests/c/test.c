@@ -2,6 +2,7 @@
  * Prints a line for each part and 'ok', or says what was wrong and where, and exits 1. */
 #include "fence.h"
 #include "peer.h"
+#include "tables.h"
 
 /* ---- tables have no padding */
 
@@ -12,26 +13,8 @@ static bool same_table(const rokemaipu_table *a, const rokemaipu_table *b) { ret
 /* ---- the layout that the archive has */
 
 static void layout(void) {
-    IS(sizeof(rokemaipu_slot), 24);
-    IS(sizeof(rokemaipu_limits), 20);
-    IS(sizeof(rokemaipu_session), 72);
-    IS(sizeof(rokemaipu_head), 160);
-    IS(sizeof(rokemaipu_post), 448);
-    IS(sizeof(rokemaipu_table), 3584);
-    IS(offsetof(rokemaipu_slot, time), 8);
-    IS(offsetof(rokemaipu_slot, raw), 16);
-    IS(offsetof(rokemaipu_limits, sensor), 16);
-    IS(offsetof(rokemaipu_session, since), 8);
-    IS(offsetof(rokemaipu_session, first), 16);
-    IS(offsetof(rokemaipu_session, kept), 24);
-    IS(offsetof(rokemaipu_head, channel), 4);
-    IS(offsetof(rokemaipu_head, limits), 8);
-    IS(offsetof(rokemaipu_head, heard), 28);
-    IS(offsetof(rokemaipu_head, time), 32);
-    IS(offsetof(rokemaipu_head, controller), 40);
-    IS(offsetof(rokemaipu_head, parameters), 64);
-    IS(offsetof(rokemaipu_head, session), 88);
-    IS(offsetof(rokemaipu_post, latest), 160);
+    IS(rokemaipu_layout(), ROKEMAIPU_LAYOUT);
+    IS(rokemaipu_layout(), 3584 + 8 * (1ull << 32) + 12 * (1ull << 40) + 1 * (1ull << 48));
     rokemaipu_table t, zero;
     memset(&t, 0, sizeof t);
     memset(&zero, 0, sizeof zero);
@@ -376,33 +359,6 @@ static void looks(void) {
 }
 
 /* ---- any input: tables of random numbers, slices of every length, lent at a fence; a refusal leaves all as it was */
-
-/* a table that the functions did not make may hold any number; all but 1 count as measuring */
-static uint32_t some_sensor(void) { return below(4) ? below(3) : (uint32_t)next(); }
-
-/* of flags all but 1 count as 0 */
-static uint32_t some_flag(void) { return below(8) ? below(2) : (uint32_t)next(); }
-
-static uint64_t some_time(void) { return below(8) ? (uint32_t)next() : next(); }
-
-static void random_slot(rokemaipu_slot *s) { s->known = some_flag(), s->time = some_time(), s->raw = next(); }
-
-static void random_head(rokemaipu_head *h) {
-    h->used = some_flag(), h->channel = below(40), h->heard = some_flag(), h->time = some_time();
-    h->limits.voltage = (uint32_t)next(), h->limits.charge = (uint32_t)next(), h->limits.discharge = (uint32_t)next(), h->limits.silence = (uint32_t)next();
-    h->limits.sensor = some_sensor();
-    random_slot(&h->controller);
-    random_slot(&h->parameters);
-    h->session.opened = some_flag(), h->session.since = some_time(), h->session.first = next();
-    for (int k = 0; k < ROKEMAIPU_KEPT; k++) random_slot(&h->session.kept[k]);
-}
-
-static void random_table(rokemaipu_table *t) {
-    for (int i = 0; i < ROKEMAIPU_POSTS; i++) {
-        random_head(&t->posts[i].head);
-        for (int k = 0; k < ROKEMAIPU_KINDS; k++) random_slot(&t->posts[i].latest[k]);
-    }
-}
 
 /* by kind, and behind the kinds such that are none */
 static const uint32_t lengths_of[ROKEMAIPU_KINDS] = {8, 8, 1, 2, 1, 7, 1, 1, 6, 8, 8, 8};

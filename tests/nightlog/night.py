@@ -6,12 +6,14 @@ import random
 import re
 import resource
 import signal
+import socket
 import subprocess
 import sys
 import tempfile
 import threading
 import time
 
+import traced
 from words import record, some_lines
 
 COMMAND = sys.argv[1:]
@@ -62,8 +64,15 @@ def whole(parts, size):
     return count, at
 
 
-def appended(path, count):
-    return f'nightlog: {path}: {count} records appended\n'
+def appended(path, count, flushed=None, more=''):
+    """Where not all of them are known to be flushed it is said how many are."""
+    return f'nightlog: {path}: {count} records appended{"" if flushed is None else f", {flushed} flushed"}{more}\n'
+
+
+def zeros(path, log):
+    """Four zeros or more at the end of a log are told."""
+    rest = len(log.rstrip(b'\0'))
+    return f'nightlog: {path}: {len(log) - rest} zero bytes at its end, from byte {rest} on\n' if len(log) - rest >= 4 else ''
 
 
 def cut_back(path, at, left):
@@ -75,18 +84,18 @@ def there_and_back():
     lines = ['frame 2 300 6b000 x 01', *some_lines(1, 400)]
     same(record(lines[0]).hex(), 'ac020281c0350101', "02's own record")
     bytes_ = b''.join(map(record, lines))
-    for part in (lines[:150], lines[150:]):
-        same(nightlog('append', 'a.log', told=part), ('', appended('a.log', len(part))), 'append')
+    for part, before in (lines[:150], b''), (lines[150:], b''.join(map(record, lines[:150]))):
+        same(nightlog('append', 'a.log', told=part), ('', zeros('a.log', before) + appended('a.log', len(part))), 'append')
     same(written('a.log'), bytes_, 'the bytes of 401 records')
     same(nightlog('show', 'a.log'), (''.join(line + '\n' for line in lines), ''), 'show')
-    same(nightlog('check', 'a.log'), ('401 records, END\n', ''), 'check')
+    same(nightlog('check', 'a.log'), ('401 records, END\n', zeros('a.log', bytes_)), 'check')
 
     long = 300000 // len(bytes_)
     write('long.log', bytes_ * long + b'\x80')
     shown, said = nightlog('show', 'long.log')
     same(shown, ''.join(line + '\n' for line in lines) * long, 'a log of some pieces, shown')
     same(said, f'nightlog: long.log: CUT@{long * len(bytes_)}\n', 'its ending')
-    same(nightlog('append', 'long.log', told='tick 7 7')[1],
+    same(nightlog('append', 'long.log', told=['tick 7 7'])[1],
          cut_back('long.log', long * len(bytes_), 1) + appended('long.log', 1), 'a log of some pieces, appended to')
     same(nightlog('check', 'long.log'), (f'{401 * long + 1} records, END\n', ''), 'a log of some pieces')
 
@@ -104,9 +113,10 @@ def cuts():
         write(name, bytes_[:size])
         count, at = whole(parts, size)
         ending = 'END' if at == size else f'CUT@{at}'
-        same(nightlog('check', name), (f'{count} records, {ending}\n', ''), f'cut after byte {size}')
+        told = zeros(name, bytes_[:size])
+        same(nightlog('check', name), (f'{count} records, {ending}\n', told), f'cut after byte {size}')
         if size in sample:
-            said = cut_back(name, at, size - at) if at < size else ''
+            said = told + (cut_back(name, at, size - at) if at < size else '')
             same(nightlog('append', name, told=[more]), ('', said + appended(name, 1)), f'appended after a cut at {size}')
             same(written(name), bytes_[:at] + record(more), f'appended after a cut at {size}')
         os.remove(name)
@@ -167,7 +177,7 @@ def kills():
         left = parts[count][:r.randrange(len(parts[count]))] if count < len(parts) else b''
         write('killed.log', bytes_ + left)
     ending = f'CUT@{len(bytes_)}' if left else 'END'
-    same(nightlog('check', 'killed.log'), (f'{len(kept)} records, {ending}\n', ''), 'after the kills')
+    same(nightlog('check', 'killed.log'), (f'{len(kept)} records, {ending}\n', zeros('killed.log', bytes_ + left)), 'after the kills')
     same(nightlog('show', 'killed.log')[0], ''.join(line + '\n' for line in kept), 'after the kills')
     hold(inside >= KILLS // 2, f'only {inside} of {KILLS} kills left some but not all of their records')
     return inside
@@ -187,18 +197,18 @@ def full_disk():
         same(nightlog('append', name, told=lines, preexec_fn=small),
              ('', f'nightlog: {name}: writing line {count + 1}: File too large\n' + appended(name, count)), f'a file of {limit} bytes at most')
         same(written(name), b''.join(parts)[:at], f'a file of {limit} bytes at most')
-    same(nightlog('append', '/dev/full', told='tick 1 2')[1],
+    same(nightlog('append', '/dev/full', told=['tick 1 2'])[1],
          'nightlog: /dev/full: writing line 1: No space left on device\n'
-         'nightlog: /dev/full: cutting back: Invalid argument\n'
-         'nightlog: /dev/full: flushing: Invalid argument\n' + appended('/dev/full', 0), 'a full device')
+         'nightlog: /dev/full: flushing: Invalid argument\n' + appended('/dev/full', 0, 0), 'a full device')
     with open('/dev/full', 'w') as full:
         same(nightlog('show', 'a.log', stdout=full)[1], 'nightlog: writing standard output: No space left on device\n', 'shown on a full device')
 
 
 def unflushed(lines, until):
-    """How many of the lines, told at that moment in one piece, are appended to /dev/null, which takes every write and no flush. No more is
-    told, so that the program ends by a flush alone."""
-    run = subprocess.Popen([*COMMAND, 'append', '/dev/null'], stdin=subprocess.PIPE, stderr=subprocess.PIPE, bufsize=0)
+    """How many of the lines, told at that moment in one piece, are appended to a file of which no flush succeeds. No more is told, so that the
+    program ends by a flush alone."""
+    write('unflushed.log', b'')
+    run = subprocess.Popen([*traced.failing('fsync:error=EIO'), *COMMAND, 'append', 'unflushed.log'], stdin=subprocess.PIPE, stderr=subprocess.PIPE, bufsize=0)
     clock = threading.Timer(20, run.kill)
     clock.start()
     time.sleep(max(0, until - time.time()))
@@ -207,7 +217,7 @@ def unflushed(lines, until):
     clock.cancel()
     run.wait()
     run.stdin.close()
-    count = re.fullmatch(r'nightlog: /dev/null: flushing: Invalid argument\nnightlog: /dev/null: (\d+) records appended\n', said)
+    count = re.fullmatch(r'nightlog: unflushed.log: flushing: Input/output error\nnightlog: unflushed.log: (\d+) records appended, 0 flushed\n', said)
     hold(count, 'a file that cannot be flushed', repr(said))
     return int(count[1])
 
@@ -245,7 +255,6 @@ def refusals():
     said = ''.join(f'nightlog: line {n}: {words}\n' for n, words in sorted({**refused, **other}.items()))
     same(nightlog('append', 'bad.log', told=told)[1], said + appended('bad.log', 3), 'lines that are refused')
     same(written('bad.log'), b''.join(record(told[n]) for n in (0, 17, 20)), 'between lines that are refused')
-    same(nightlog('append', 'last.log', told='tick 1 1\ntick 1 2')[1], appended('last.log', 2), 'a last line without its line feed')
 
     good = record('tick 1 1')
     damaged = {16: b'\x80\x00', 17: b'\x01\x20', 18: b'\x01\x01\x80\x20', 19: b'\x01\x01\x81\x80\x80\x80\x04', 20: b'\x01\x01\x00\x0a', 21: b'\x01\x01\x02\x09'}
@@ -255,8 +264,84 @@ def refusals():
         ending = f'BAD R{number}@{len(good)}'
         same(nightlog('check', 'damaged.log'), (f'1 records, {ending}\n', ''), 'damaged')
         same(nightlog('show', 'damaged.log'), ('tick 1 1\n', f'nightlog: damaged.log: {ending}\n'), 'damaged')
-        same(nightlog('append', 'damaged.log', told='tick 1 1'), ('', f'nightlog: damaged.log: {ending}: nothing is appended\n'), 'damaged')
+        same(nightlog('append', 'damaged.log', told=['tick 1 1']), ('', f'nightlog: damaged.log: {ending}: nothing is appended\n'), 'damaged')
         same(written('damaged.log'), log, 'a damaged log is left as it was')
+
+
+def torn_input(told):
+    """A standard input that gives these bytes and then an error: a connection whose other end is closed with bytes unread."""
+    ours, theirs = socket.socketpair()
+    ours.send(b'unread')
+    theirs.sendall(told)
+    theirs.close()
+    return ours
+
+
+def last_lines():
+    """A last line without its line feed may be a piece of one, as `tick 4 1` is of `tick 4 12345`: it is named, and nothing of it is in the file."""
+    for rest, left_out in ('tick 4 1', True), ('frame 1 2 3 s 00', True), ('hello', True), ('x' * 70000, True), ('# words', False), ('', False):
+        said = 'nightlog: line 2: no line feed\n' if left_out else ''
+        lines, what = 'tick 1 1\n' + rest, f'the last line {rest[:20]!r}'
+        same(nightlog('append', 'last.log', told=lines), ('', said + appended('last.log', 1)), what)
+        same(written('last.log'), record('tick 1 1'), what)
+        os.remove('last.log')
+        with torn_input(lines.encode()) as stdin:
+            same(nightlog('append', 'last.log', stdin=stdin)[1], 'nightlog: reading standard input: Connection reset by peer\n' + said + appended('last.log', 1), what)
+        same(written('last.log'), record('tick 1 1'), what)
+        os.remove('last.log')
+
+
+def zeros_at_the_end():
+    """A pulled plug may leave zeros, and `00 00 00 00` is a record: they are told, nothing is cut away or lost, and the night goes on."""
+    one, more = record('frame 2 300 6b000 x 01'), 'tick 7 7'
+    for count in (*range(4), 4, 5, 8, 100_000, 65_536, 65_535, 131_072 - len(one)):
+        for front in one, b'':
+            log = front + bytes(count)
+            write('zeros.log', log)
+            records, rest = bool(front) + count // 4, count % 4
+            end = len(log) - rest
+            told = zeros('zeros.log', log)
+            hold(bool(told) == (count >= 4), 'the test itself')
+            same(nightlog('check', 'zeros.log'), (f'{records} records, {f"CUT@{end}" if rest else "END"}\n', told), f'{count} zeros')
+            same(nightlog('append', 'zeros.log', told=[more])[1], told + (cut_back('zeros.log', end, rest) if rest else '') + appended('zeros.log', 1), f'{count} zeros, appended to')
+            same(written('zeros.log') == log[:end] + record(more), True, f'{count} zeros, appended to')
+    # zeros behind a torn record are malformed: nothing is appended, and the zeros are told
+    torn = one + one[:5] + bytes(50)
+    write('torn.log', torn)
+    ending = f'BAD R16@{len(one)}'
+    same(nightlog('check', 'torn.log'), (f'1 records, {ending}\n', zeros('torn.log', torn)), 'a torn record and zeros')
+    same(nightlog('append', 'torn.log', told=[more])[1], zeros('torn.log', torn) + f'nightlog: torn.log: {ending}: nothing is appended\n', 'a torn record and zeros')
+    same(written('torn.log'), torn, 'a torn record and zeros')
+
+
+def two():
+    """Two that append to one file: the one whose file has another length than it left says so, cuts nothing and stops; the other goes on."""
+    def told(run, line, size):
+        run.stdin.write(line.encode() + b'\n')
+        patience = time.monotonic() + 10
+        while os.path.getsize('two.log') < size:
+            hold(time.monotonic() < patience and run.poll() is None, 'nothing was appended')
+            time.sleep(0.001)
+
+    write('two.log', b'')
+    first, second = (subprocess.Popen([*COMMAND, 'append', 'two.log'], stdin=subprocess.PIPE, stderr=subprocess.PIPE, bufsize=0) for _ in range(2))
+    told(first, 'tick 1 1', 4)
+    second.stdin.close()
+    same(second.stderr.read().decode(), appended('two.log', 0), 'the second one, which had nothing to append')
+    second.wait()
+    second = subprocess.Popen([*COMMAND, 'append', 'two.log'], stdin=subprocess.PIPE, stderr=subprocess.PIPE, bufsize=0)
+    told(second, 'tick 2 2', 8)
+    first.stdin.write(b'tick 1 3\n')
+    same(first.stderr.read().decode(), 'nightlog: two.log: 8 bytes where this program left 4: another one writes to it\n' + appended('two.log', 1), 'the first one')
+    first.wait()
+    first.stdin.close()
+    told(second, 'tick 2 4', 12)
+    second.stdin.close()
+    same(second.stderr.read().decode(), appended('two.log', 2), 'the second one')
+    second.wait()
+    same(written('two.log'), b''.join(map(record, ['tick 1 1', 'tick 2 2', 'tick 2 4'])), 'two on one file')
+    for run in first, second:
+        run.stderr.close()
 
 
 def errors():
@@ -294,9 +379,13 @@ def main():
         flushes()
         changed()
         refusals()
+        last_lines()
+        zeros_at_the_end()
+        two()
         errors()
+        calls = traced.held(COMMAND)
         os.chdir('/')
-    print(f'nightlog: {places} cuts, {KILLS} kills ({inside} amid their records), full disks and refusals as they should be, in {time.monotonic() - began:.0f} s')
+    print(f'nightlog: {places} cuts, {KILLS} kills ({inside} amid their records), {calls} calls in their order, full disks and refusals as they should be, in {time.monotonic() - began:.0f} s')
 
 
 main()

@@ -103,7 +103,7 @@ def paper_signals(document):
     """Each signal of the document's messages that are built: its names, its message's and its own row, its labels, and the document's words for its type."""
     signals = []
     for line in (Path(__file__).parent / document.text).read_text().splitlines():
-        message, ident, size, signal, start, width, words, _, _, labels = line.split(' ')
+        message, ident, size, signal, start, width, words, _, _, labels, _ = line.split(' ')
         if message not in document.messages:
             continue
         words = words.split(',')
@@ -133,10 +133,10 @@ def constants(text, type_name):
     return [(name, numbers(held)) for name, held in re.findall(rf'^(?:pub )?const (\w+): {type_name} = {type_name}\(([^)]*)\);$', text, re.M)]
 
 
-def arms(text, function):
-    """The arms of a function's one match, key and name."""
-    body = re.search(rf'fn {function}\b.*?match \w+ \{{(.*?)\n    \}}', text, re.S).group(1)
-    return re.findall(r'^\s*(\w+) => (\w+),$', body, re.M)
+def array(text, name, type_name):
+    """The names that a constant array lists."""
+    body = re.search(rf'^const {name}: \[{type_name}; \d+\] = \[(.*?)\];$', text, re.S | re.M).group(1)
+    return re.findall(r'^\s*(\w+),$', body, re.M)
 
 
 def held(place, have, wanted):
@@ -159,10 +159,9 @@ code = (ROWS / 'src/contents.rt').read_text()
 specs = (ROWS / 'specs/Messages.antt').read_text()
 listed = constants(code, 'Message')[:-1]
 held('src/contents.rt', [page for _, page in listed], wanted)
-array = re.findall(r'\w+', re.search(r'const MESSAGES: \[Message; \d+\] = \[(.*?)\];', code, re.S).group(1))
 names = [name for name, _ in listed]
-if names != array or arms(code, 'message_at') != [(str(k), name) for k, name in enumerate(names)] + [('_', 'NO_MESSAGE')]:
-    fault('src/contents.rt: the constants, MESSAGES and message_at do not list the same names in the same order')
+if names != array(code, 'MESSAGES', 'Message'):
+    fault('src/contents.rt: the constants and MESSAGES do not list the same names in the same order')
 said = re.findall(r'^\s*(?:∷ )?\(([^)]*)\)  -- (\w+)$', specs, re.M)
 held('specs/Messages.antt', [numbers(page) for page, _ in said], wanted)
 for place, have in (('src/contents.rt', names), ('specs/Messages.antt', [name for _, name in said])):
@@ -179,8 +178,8 @@ for document, signals in zip(DOCUMENTS, papers):
     listed = constants(code, 'Line')
     held(document.code, [row for _, row in listed], [row for _, _, _, row, *_ in signals])
     names = [name for name, _ in listed]
-    if arms(code, 'line_at') != [(str(rows + k), name) for k, name in enumerate(names)] + [('_', 'NO_LINE')]:
-        fault(f'{document.code}: the constants and line_at do not list the same names in the same order')
+    if names != array(code, 'LINES', 'Line'):
+        fault(f'{document.code}: the constants and LINES do not list the same names in the same order')
     # in specs/ the lowest bit is computed
     said = re.findall(r'^\s*(?:∷ )?line((?: \w+)+)  -- (\w+)$', specs, re.M)
     held(document.specs, [numbers(row) for row, _ in said], [row[:3] + row[4:] for _, _, _, row, *_ in signals])

@@ -1,9 +1,9 @@
 #!/usr/bin/env python3
 """extract.py PAPER: the signals of the maker's pages as lines of text, taken from the document itself.
 
-A line for each signal, in the document's order:  MESSAGE IDENTIFIER BYTES SIGNAL START WIDTH TYPE SCALE OFFSET LABELS
+A line for each signal, in the document's order:  MESSAGE IDENTIFIER BYTES SIGNAL START WIDTH TYPE SCALE OFFSET LABELS UNIT
 TYPE is the document's word; of document 004, which has no word for it, the byte order and Signed or Unsigned, joined by ','. LABELS is NAME=NUMBER joined
-by ';', or '-'. `000.txt` and `004.txt` beside this file were made by it from documents 000 and 004; check.py holds the crates to them.
+by ';', or '-'; so is UNIT where there is none. `000.txt` and `004.txt` beside this file were made by it from documents 000 and 004; check.py holds the crates to them.
 """
 import re
 import sys
@@ -20,7 +20,7 @@ def tables(lines):
 
     def done():
         if row:
-            yield [message, identifier, size, signal, row[0], row[1], row[2].replace(' ', '_'), row[4], row[5], ';'.join(labels) or '-']
+            yield [message, identifier, size, signal, row[0], row[1], row[2].replace(' ', '_'), row[4], row[5], ';'.join(labels) or '-', row[3] or '-']
 
     for line in lines:
         if line.startswith('## ') and '{' in line:
@@ -61,9 +61,9 @@ def lists(lines):
             labelled = next(r for r in rows if r[0] == message and r[3][0] == told[1])
         elif told := re.match(r'  - (0x\w+) = (\S+)', line):
             labelled[4].append(f'{told[2]}={int(told[1], 16)}')
-    for message, identifier, size, (name, start, width, order, signed, scale, offset, *_), labels in rows:
+    for message, identifier, size, (name, start, width, order, signed, scale, offset, unit, *_), labels in rows:
         if name != 'Name':
-            yield [message, identifier, size, name, start, width, order.replace(' ', '_') + ',' + signs[signed], scale, offset, ';'.join(labels) or '-']
+            yield [message, identifier, size, name, start, width, order.replace(' ', '_') + ',' + signs[signed], scale, offset, ';'.join(labels) or '-', unit or '-']
 
 
 if __name__ == '__main__':

@@ -139,6 +139,32 @@ def files():
     same(done.stderr.decode(), 'usage: replay POSTS LOG\n', 'one argument')
 
 
+def changes():
+    """A log that is cut while it is replayed: the lines of what was read, and the reason. One that grows meanwhile is replayed to the length that it had."""
+    tick = record('tick 2 300')
+    count = 40_000
+    want = [f'{n} 0 A0' for n in range(1, count + 1)]
+    for grows in False, True:
+        files = filed(POSTS, tick * count)
+        run = subprocess.Popen([*COMMAND, *files], stdout=subprocess.PIPE, stderr=subprocess.PIPE, bufsize=0, pipesize=4096)
+        # the lines of one piece do not fit into the pipe, so the program waits for this to be read
+        first = run.stdout.read(1)
+        if grows:
+            with open(files[1], 'ab') as log:
+                log.write(tick * count + b'\x80')
+        else:
+            os.truncate(files[1], 10 * len(tick))
+        out, said = run.communicate(timeout=120)
+        got = (first + out).decode().splitlines()
+        if grows:
+            same(joined(got), joined(want), 'the lines of a log that grows')
+            same(said.decode(), summary('END', want), 'the summary of a log that grows')
+        else:
+            same(joined(got), joined(want[:len(got)]), 'the lines of a log that is cut')
+            same(str(10 < len(got) < count), 'True', f'{len(got)} lines of a log that is cut')
+            same(said.decode(), 'replay: a.log: the file changed while it was read\n', 'a log that is cut')
+
+
 def progress():
     """A progress line of a long log, and only where standard error is a terminal."""
     for count, shown in ((1000, False), (250_000, True)):
@@ -171,6 +197,6 @@ def memory():
 
 with tempfile.TemporaryDirectory() as room:
     os.chdir(room)
-    for part in (nights, cuts, pieces, setups, files, progress, memory):
+    for part in (nights, cuts, pieces, setups, files, changes, progress, memory):
         part()
 print('tests/replay: ok')

@@ -90,7 +90,7 @@ class Words(unittest.TestCase):
         rows, safety = ([line.split(' ') for line in Path(ROOT / f'tests/pages/{page}.txt').read_text().splitlines()] for page in ('000', '004'))
         for known, held in ((messages.EXTENDED, rows), (messages.STANDARD, safety)):
             self.assertEqual(known, {int(row[1], 16): row[0] for row in held})
-        labels = {(row[0], row[3]): dict(numbered(label) for label in row[-1].split(';')) for row in rows if '=' in row[-1]}
+        labels = {(row[0], row[3]): dict(numbered(label) for label in row[9].split(';')) for row in rows if row[9] != '-'}
         for message, signal, held in (
             ('New_Charge_Session', 'Communication_Protocol', messages.PROTOCOLS), ('New_Charge_Session', 'Plug_and_pins', messages.PLUGS),
             ('Charge_Session_Finished', 'State', messages.STATES), ('Power_Modules_Status', 'System_Enable', messages.ENABLES),

@@ -48,11 +48,39 @@ class Statuses(unittest.TestCase):
             (b'tick 1 1\n', b'', WELL), (b'', b'', WELL), (b'# words\n\n', TICK, WELL),
             (b'tick 1 1\n', CUT, PARTLY), (b'tick 1 1\n', BAD, PARTLY),
             (b'hello\ntick 1 1\n', b'', PARTLY), (b'tick 32 1\n', b'', PARTLY), (b'x' * 70000 + b'\n', b'', PARTLY),
+            (b'tick 1 1\ntick 1 2', b'', PARTLY), (b'tick 1 1\n# words', b'', WELL), (b'tick 1 1\n', TICK + bytes(4), PARTLY), (b'tick 1 1\n', TICK + bytes(3), PARTLY),
         ]:
             self.assertEqual(self.status('nightlog', 'append', 'a.log', told=told, fresh=('a.log', log)), want, (told[:20], log))
         for words in ('append', 'folder'), ('append', 'none/a.log'), ('append', b'none/line 1: R17'), ('append', '/dev/full'):
             self.assertEqual(self.status('nightlog', *words, told=b'tick 1 1\n'), FAILED, words)
         self.assertEqual(self.status('nightlog', 'append', 'a.log', told=b'hello\n', fresh=('a.log', b''), stdin=os.open('folder', os.O_RDONLY)), FAILED)
+
+    def test_what_is_not_flushed(self):
+        """All of it is in the file; but what is not known to be flushed is no success."""
+        failing = ['strace', '-f', '-qq', '-o', '/dev/null', '-e', 'trace=fsync', '-e', 'inject=fsync:error=EIO:when=1']
+        for log in None, b'':
+            Path('a.log').unlink(missing_ok=True)
+            if log is not None:
+                Path('a.log').write_bytes(log)
+            done = subprocess.run([*failing, ROOT / 'tools/nightlog', 'append', 'a.log'], input=b'tick 2 300\n', stderr=subprocess.PIPE, timeout=60)
+            self.assertEqual((done.returncode, Path('a.log').read_bytes()), (FAILED, TICK), done.stderr)
+            self.assertIn(b' flushed', done.stderr)
+
+    def test_two(self):
+        """Whose file another one has written to stops and says so; nothing that the other has written is cut away."""
+        runs = []
+        for time in (b'300', b'301'):
+            run = subprocess.Popen([ROOT / 'tools/nightlog', 'append', 'a.log'], stdin=subprocess.PIPE, stderr=subprocess.DEVNULL, bufsize=0)
+            run.stdin.write(b'tick 2 ' + time + b'\n')
+            while not Path('a.log').exists() or len(Path('a.log').read_bytes()) < len(TICK) * (len(runs) + 1):
+                self.assertIsNone(run.poll())
+            runs.append(run)
+        runs[0].stdin.write(b'tick 2 302\n')
+        self.assertEqual(runs[0].wait(timeout=20), FAILED)
+        runs[1].stdin.close()
+        self.assertEqual(runs[1].wait(timeout=20), WELL)
+        runs[0].stdin.close()
+        self.assertEqual(Path('a.log').read_bytes(), TICK + record('tick 2 301'))
 
     def test_names(self):
         for name in NAMES:
@@ -66,7 +94,7 @@ class Statuses(unittest.TestCase):
     def test_show_and_check(self):
         for word in ('show', 'check'):
             self.assertEqual(self.status('nightlog', word, 'none.log'), FAILED, word)
-            for log, want in (TICK, WELL), (b'', WELL), (CUT, PARTLY), (BAD, PARTLY):
+            for log, want in (TICK, WELL), (b'', WELL), (CUT, PARTLY), (BAD, PARTLY), (TICK + bytes(8), WELL if word == 'show' else PARTLY):
                 self.assertEqual(self.status('nightlog', word, 'a.log', fresh=('a.log', log)), want, (word, log))
             self.assertEqual(self.status('nightlog', word, 'folder'), FAILED)
             self.assertEqual(self.status('nightlog', word, 'n/' * 2500), FAILED)

@@ -1,10 +1,11 @@
 """The night log in a file, by target/bin/nightlog, with an exit status.
 
 usage: nightlog append FILE < LINES; nightlog show FILE; nightlog check FILE
-  append   writes LINES, desk lines frame CHANNEL TIME ID x|s HEX and tick CHANNEL TIME, to the end of FILE
+  append   writes LINES, desk lines frame CHANNEL TIME ID x|s HEX and tick CHANNEL TIME, each with its line feed, to the end of FILE
   show     prints the records of FILE as such lines
   check    counts the records of FILE and tells how it ends: END, CUT@BYTE or BAD R<n>@BYTE
-Exit status: 0 all well; 1 the log is cut or bad, or a line was left out; 2 something could not be read or written, or the call is wrong.
+Exit status: 0 all well; 1 the log is cut or bad or ends in zeros, or a line was left out; 2 something could not be read, written or flushed, another
+program writes to FILE, or the call is wrong.
 """
 import os
 import re
@@ -13,11 +14,12 @@ import sys
 from messages import Messages
 from passing import FAILED, PARTLY, WELL, run
 
-LEFT_OUT = re.compile(rb'nightlog: line \d+: (no frame or tick|R\d+)')
+LEFT_OUT = re.compile(rb'nightlog: line \d+: (no frame or tick|no line feed|R\d+)')
 OF_A_LINE = re.compile(rb'nightlog: line \d+: .+')
 # behind the file's name
 APPENDED = re.compile(rb'\d+ records appended')
-CUT_OR_BAD = re.compile(rb'cut back to byte \d+, \d+ bytes of a piece left over|(CUT@\d+|BAD R\d+@\d+)(: nothing is appended)?')
+CUT_OR_BAD = re.compile(rb'cut back to byte \d+, \d+ bytes of a piece left over|(CUT@\d+|BAD R\d+@\d+)(: nothing is appended)?'
+                        rb'|\d+ zero bytes at its end, from byte \d+ on')
 COUNTED = re.compile(rb'\d+ records, (END|CUT@\d+|BAD R\d+@\d+)')
 
 

@@ -106,10 +106,20 @@ fn counted(got: isize, piece: &[u8]) -> usize {
     io::count(got, piece)
 }
 
+// Nobody waits for an answer while the desk waits for more: what is answered goes out first.
+fn told(desk: Desk, out: &[u8]) -> Desk {
+    let p = desk.pen;
+    let pen = desk_buffers::flushed(p, out);
+    let mut d = desk;
+    d.pen = pen;
+    d
+}
+
 fn run(desk: Desk, piece: &mut [u8], line: &mut [u8], room: &mut [u8], out: &mut [u8]) -> Desk {
     let mut d = desk;
     let mut turns = u64::MAX;
     while turns > 0 {
+        d = told(d, out);
         let got = libc::read(libc::STDIN_FILENO, piece);
         let n = counted(got, piece);
         if n == 0 {

@@ -7,6 +7,7 @@ pub enum Changing {
     Tick,
     Setup,
     Release,
+    Batch,
 }
 
 pub fn changing_word(word: &[u8]) -> Changing {
@@ -21,6 +22,9 @@ pub fn changing_word(word: &[u8]) -> Changing {
     }
     if check::same(word, b"release") {
         return Changing::Release;
+    }
+    if check::same(word, b"batch") {
+        return Changing::Batch;
     }
     Changing::No
 }

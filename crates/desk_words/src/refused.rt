@@ -30,7 +30,10 @@ a channel above 31 in a log record\n\
 a standard identifier above 2,047 in a log record\n\
 an extended identifier above 29 bits in a log record\n\
 a length above 9 in a log record, or more than 8 payload bytes to be logged\n\
-a tick's length, 9, with an identifier part other than 0\n",
+a tick's length, 9, with an identifier part other than 0\n\
+a batch of more than 4,096 bytes\n\
+a malformed or cut record in a batch\n\
+fewer places for answers than a batch has records\n",
         n,
     )
 }

@@ -1,4 +1,5 @@
-// A frame in place: one head is copied out and stepped by value; it is stored back, and the frame in its kind's slot. Its answer and the table are exactly what `watch::frame` gives.
+// A frame in place: one head is copied out and stepped by value; it is stored back, and the frame in its kind's slot.
+// Its answer and the table are exactly what `watch::frame` gives.
 // It stands alone, since the compiler builds a step into its entry only where the step has one caller. For C, and through `gateway` for Rattle.
 ghost use mathlib.Core.Path.{_≡_};
 ghost use Rattle.lent_step.specs.Fed.{frameWord};

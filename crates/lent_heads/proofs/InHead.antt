@@ -11,9 +11,10 @@
 --         r.answer
 --     }
 -- One head is copied out and stored back, with the slot that the step fills; no post and no table is stored.
---     fn           the function's MIR, for n lifetimes, arguments of the types τs, and the two callees' names. A function's `code.function` is this at its own arguments, by computation
+--     fn           the function's MIR, for n lifetimes, arguments of the types τs, and the two callees' names.
+--                  A function's `code.function` is this at its own arguments, by computation
 --     Finds v      what the call of `at` is to give: some i with `Here i`, which is a place of the table
---     Steps i v    what the call of f is to give for `Lent` and the head at i: `Back`, and the result w i. `Kept` stays with the entry
+--     Gives i v    what the call of f is to give for `Lent` and the head at i: `Back`, and the result w i. `Kept` stays with the entry
 --     post-part, slot-part     the post at i, and a slot of it once its head is stored, as parts of what lies behind the reference
 --     walk         from these, and from what is to be shown at exit
 -- Nothing here says what a table has beside its posts, nor what a head or a slot holds. Assumes `Given`.
@@ -82,7 +83,8 @@ abbrev τL : Ty
 -- the locals past the arguments:
 --     0 i; 1 h; 2 r; 3 at; 4 the table that `at` is handed
 --     5 the post's index in bytes; 6 and 7 the array's and the post's address as the head is read; 8 and 9 as it is stored; 10 the test
---     where it holds: 11 the post's index in bytes; 12 and 13 the array's and the post's address; 14 the slot's index in bytes; 15 and 16 the slots' and the slot's address
+--     where it holds: 11 the post's index in bytes; 12 and 13 the array's and the post's address; 14 the slot's index in bytes;
+--     15 and 16 the slots' and the slot's address
 abbrev σs : List Ty
 σs = tyInt w64 ∷ τH ∷ τS ∷ tyInt w64 ∷ τT ∷ tyInt w64 ∷ tyPtr ∷ tyPtr ∷ tyPtr ∷ tyPtr ∷ tyBool ∷ tyInt w64 ∷ tyPtr ∷ tyPtr ∷ tyInt w64 ∷ tyPtr ∷ tyPtr ∷ []
 
@@ -133,8 +135,8 @@ module _ {M : Type 1} (𝓤 : URA M) (H : Heap 𝓤) (A : Atoms 𝓤) (W : Given
   abbrev Finds : Val → Item 𝓤
   Finds v = later (some (λ (i : ℕ). given (((v ≡ vint w64 i) × Fits w64 i) × (Here i × (i < postCount))) Found))
 
-  abbrev Steps : ℕ → Val → Item 𝓤
-  Steps i v = later (some (λ (r : Worded). given (Known (w i) r v) Back))
+  abbrev Gives : ℕ → Val → Item 𝓤
+  Gives i v = later (some (λ (r : Worded). given (Known (w i) r v) Back))
 
   abbrev Was : Type 0
   Was = Is T.the-row h (table-val h ∷ [])
@@ -190,7 +192,7 @@ module _ {M : Type 1} (𝓤 : URA M) (H : Heap 𝓤) (A : Atoms 𝓤) (W : Given
       slot-part k m = elem t (ss-of (post-at h i .latest)) k (slot-val unknown) (ss-within h was i l k m) (ss-long h was i l) (sub t 1 refl headed-part)
 
   pub walk : (Was → ent 𝓤 (mean 𝓤 H A (‵ ftrue)) (C at (table-val h ∷ vint w32 c ∷ []) (λ v. mean 𝓤 H A (Finds v))))
-      → ((i : ℕ) → Here i → Is D.the-row (head-at h i) (head-val (head-at h i) ∷ []) → ent 𝓤 (mean 𝓤 H A Lent) (C f (head-val (head-at h i) ∷ vint w32 c ∷ vs) (λ v. mean 𝓤 H A (Steps i v))))
+      → ((i : ℕ) → Here i → Is D.the-row (head-at h i) (head-val (head-at h i) ∷ []) → ent 𝓤 (mean 𝓤 H A Lent) (C f (head-val (head-at h i) ∷ vint w32 c ∷ vs) (λ v. mean 𝓤 H A (Gives i v))))
       → (Was → (i : ℕ) → Here i → (r : Worded) → Parts r → r ≡ w i → ent 𝓤 (⋆ 𝓤 H A (Held 𝓤 κ q b o γ (after i r) (Back ∷ Kept ∷ []))) (Post (answer-val (r .answer))))
       → ent 𝓤 (⋆ 𝓤 H A (Held 𝓤 κ q b o γ h (Lent ∷ Kept ∷ []))) (WpFn 𝓤 H C Λ (fn n τs at f) (vptr b o ∷ vint w32 c ∷ vs) Post)
   walk found gave leaves =
@@ -218,9 +220,9 @@ module _ {M : Type 1} (𝓤 : URA M) (H : Heap 𝓤) (A : Atoms 𝓤) (W : Given
       -- the step
       drop ! $ move ! (45 ∷ 4 ∷ []) $
       -- [what is lent; the arguments 1; the cell 2; the open borrow; obs; auth; the locals as before; what is kept]
-      calls-from ! fm Lent (head-val (head-at h i) ∷ vint w32 c ∷ vs) (λ v. mean 𝓤 H A (Steps i v)) (gave i (g₁ .1 .0) (head-is h was i (g₁ .1 .1)))
+      calls-from ! fm Lent (head-val (head-at h i) ∷ vint w32 c ∷ vs) (λ v. mean 𝓤 H A (Gives i v)) (gave i (g₁ .1 .0) (head-is h was i (g₁ .1 .1)))
       (and-then ! (val ! τs bs _ 1 8 refl) (and-then ! (load ! (from ! (stop !)) (look ! 40 refl)) (swapped (read-args ! τs bs vs ty (λ j. suc (suc (suc j))) _ _ (λ j. refl) _))))
-      (λ v. use1 W (Steps i v) (id⊢ 𝓤 _) $ await ! tt $ pick ! (λ r. learn ! (λ g.
+      (λ v. use1 W (Gives i v) (id⊢ 𝓤 _) $ await ! tt $ pick ! (λ r. learn ! (λ g.
       land ! (var ! τs bs _ 2) (init ! 10 refl (g .1 .0)) $ rewrite ! 10 (λ (u : Val). ‵ (fat fullShare τS (cs .1 .1 .0) 0 u)) (g .0) refl $
       -- the head is stored
       assigns ! (bin ! (val ! τs bs _ 0 6 refl) (lit ! tt) (of-post i (g₁ .1 .1))) (var ! τs bs _ 5) (store ! 16 refl (tt, of-post i (g₁ .1 .1))) $

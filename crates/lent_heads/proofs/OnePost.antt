@@ -1,6 +1,8 @@
--- The entries over one post: the head of the post that holds the channel, or of the first, is copied out, stepped by value, and stored back with the slot that the step fills.
+-- The entries over one post: the head of the post that holds the channel, or of the first, is copied out, stepped by value,
+-- and stored back with the slot that the step fills.
 --     by-head      what a call of a step gives, from its contract
---     meets        the entry's contract, from what a call of the step gives and that its step, stored back, is the one wanted: `InHead.antt`'s walk, over what `some_place` ensures
+--     meets        the entry's contract, from what a call of the step gives and that its step, stored back, is the one wanted:
+--                  `InHead.antt`'s walk, over what `some_place` ensures
 -- Assumes nothing.
 use mathlib.Core.Path.{_≡_, _∙_, ap, subst}
 use Prim.Native.Nat.{ℕ, suc, _<_}
@@ -59,8 +61,8 @@ use Rattle.lent_heads.proofs.InHead as In
 use Rattle.lent_heads.proofs.Posts.{head-val, head-at, posts-long, Parts, Known}
 
 -- a head's step, with the entry's parameters
-abbrev pub Step : {n : ℕ} → List (Param (suc n)) → Type 0
-Step {n} ps = (κs : Lfts (suc n)) → Head → Denots (rows (word ∷ ps) κs) → Worded
+abbrev pub OfHead : {n : ℕ} → List (Param (suc n)) → Type 0
+OfHead {n} ps = (κs : Lfts (suc n)) → Head → Denots (rows (word ∷ ps) κs) → Worded
 
 -- the signature of a step
 abbrev pub taking : {n : ℕ} → List (Slot n) → Ended
@@ -111,7 +113,7 @@ module _ {M : Type 1} (𝓤 : URA M) (H : Heap 𝓤) (𝓜 : Model 𝓤 H) (𝓖
       (called 𝓤 H 𝓜 𝓖 𝓡 env finder-def.name finder-def.routine means finder.ended (finder.clauses 𝓤 H A (𝓜 .mem) (𝓡 .run)) (finder-thm.met 𝓤 H 𝓜 𝓖 𝓡) tt tt tt (h, (c, tt)) (table-val h ∷ [], (vint w32 c ∷ [], tt)) tt {X = ℕ}
       (λ i ws. i) (λ i ws. Here h c i × (i < postCount)) (λ i v. ((v ≡ vint w64 i) × Fits w64 i) × (Here h c i × (i < postCount))) (λ i. ftrue) (λ i ws. id⊢ 𝓤 _) (λ i ws v e is. ((ap only (is .0), record { fits = is .1 }), e)) (λ i ws. top 𝓤 _) (id⊢ 𝓤 _))
 
-  module _ {n : ℕ} (ps : List (Param (suc n))) (wanted : Wanted (word ∷ ps)) (f : Name) (step : Step ps)
+  module _ {n : ℕ} (ps : List (Param (suc n))) (wanted : Wanted (word ∷ ps)) (f : Name) (step : OfHead ps)
       (same : (κs : Lfts (suc n)) (h : Table) (a : Denots (rows (word ∷ ps) κs)) → length (h .posts) ≡ postCount → lentAt h (somePlace (h .posts) (a .0)) (step κs (head-at h (somePlace (h .posts) (a .0))) a) ≡ wanted κs h a)
       (gave : (κs : Lfts (suc n)) (qs : Shares (suc n)) (x : Head) (a : Denots (rows (word ∷ ps) κs))
       → ent 𝓤 (mean 𝓤 H A (Tok (word ∷ ps) 𝓤 A κs qs ⊛ ‵ (owns (D.the-row ∷ rows (word ∷ ps) κs) (x, a) (head-val x ∷ [], values (word ∷ ps) κs a)))) (C f (head-val x ∷ in-a-row (word ∷ ps) κs a) (Gives 𝓤 H A (toks 𝓤 A n (κs .1) (qs .1)) (step κs x a)))) where

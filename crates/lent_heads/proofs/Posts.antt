@@ -1,6 +1,8 @@
--- What a walk that reads and stores parts of one post of a lent table needs: the machine values of posts, heads and slots, how many there are, and that a table with another post is a table.
+-- What a walk that reads and stores parts of one post of a lent table needs:
+-- the machine values of posts, heads and slots, how many there are, and that a table with another post is a table.
 --     post-of x us         the machine value of a post, of its head's and its slots'
---     table-of h us        the machine value of the table h with other posts: the one place that says how a table lies. Fields behind the posts are taken as they are
+--     table-of h us        the machine value of the table h with other posts: the one place that says how a table lies.
+--                          Fields behind the posts are taken as they are
 --     head-stored, slot-stored, slot-left      the posts' machine values after the store of a head, and then of a slot, or of none
 --     Known w r v          what a walk has of the step's result r at the machine value v, where the step ensures that it is w
 -- Assumes nothing.
@@ -23,7 +25,7 @@ use Rattle.rules.specs.declared.Slot.{Slot}
 use Rattle.rules.specs.declared.Head.{Head}
 use Rattle.rules.specs.declared.Post.{Post}
 use Rattle.rules.specs.Record.{kindCount}
-use Rattle.rules.specs.Step.{keepIn}
+use Rattle.rules.specs.After.{keepIn}
 use Rattle.rules.proofs.Slot as S
 use Rattle.rules.proofs.Slot.Laws as S′
 use Rattle.rules.proofs.Head as D

@@ -10,7 +10,8 @@ use Rattle.watch_rules.specs.declared.Table.{Table}
 use Rattle.watch_rules.specs.declared.LookedUp.{LookedUp}
 use Rattle.watch_rules.specs.Table.{postIn, isPost, lookUpOf}
 use Rattle.lent_look.proofs.Asked.{set-up}
-use Rattle.lent_latest.specs.Latest.{keptOf, hasRoom, keptWord, hands, timeLeft, bytesLeft, latestAnswer, latestWord, timeAfter, frameAfter}
+use Rattle.plain_words.specs.Words.{outcomeWord}
+use Rattle.lent_latest.specs.Latest.{keptOf, hasRoom, keptOutcome, hands, timeLeft, bytesLeft, latestOutcome, latestWord, timeAfter, frameAfter}
 
 module _ (t : Table) (i : ℕ) where
   -- the answer, the lent time, and the lent bytes
@@ -19,19 +20,19 @@ module _ (t : Table) (i : ℕ) where
 
   pub handed-by : {x : LookedUp} (k : ℕ) (times buf : List ℕ) → lookUpOf t i ≡ x
       → Handed k times buf
-      (latestAnswer (x .answer) k (keptOf t i k) (length times) (length buf))
+      (outcomeWord (latestOutcome (x .answer) k (keptOf t i k) (length times) (length buf)))
       (timeLeft (hands (x .answer) k (keptOf t i k) (length times) (length buf)) (keptOf t i k) times)
       (bytesLeft (hands (x .answer) k (keptOf t i k) (length times) (length buf)) k (keptOf t i k) buf)
   unfolding latestWord timeAfter frameAfter
   handed-by k times buf e = (
-    ap (λ (y : LookedUp). latestAnswer (y .answer) k (keptOf t i k) (length times) (length buf)) (sym e),
+    ap (λ (y : LookedUp). outcomeWord (latestOutcome (y .answer) k (keptOf t i k) (length times) (length buf))) (sym e),
     ap (λ (y : LookedUp). timeLeft (hands (y .answer) k (keptOf t i k) (length times) (length buf)) (keptOf t i k) times) (sym e),
     ap (λ (y : LookedUp). bytesLeft (hands (y .answer) k (keptOf t i k) (length times) (length buf)) k (keptOf t i k) buf) (sym e),
   )
 
   -- of a post that is set up and a number that is a kind: what is kept, and the room, decide
   pub handed-kept : {r : ℕ} {after left : List ℕ} (k : ℕ) (times buf : List ℕ) → isPost i ≡ true → isSet (postIn t i .head .used) ≡ true → k < kindCount
-      → (r ≡ keptWord k (keptOf t i k) (length times) (length buf))
+      → (r ≡ outcomeWord (keptOutcome k (keptOf t i k) (length times) (length buf)))
       × (after ≡ timeLeft (isSet (keptOf t i k .known) && hasRoom k (length times) (length buf)) (keptOf t i k) times)
       × (left ≡ bytesLeft (isSet (keptOf t i k .known) && hasRoom k (length times) (length buf)) k (keptOf t i k) buf)
       → Handed k times buf r after left

@@ -1,9 +1,9 @@
--- What the latest frame of a kind promises: its bytes are those that came, a refusal leaves the lent memory as it was, behind the places named nothing changes, and the frame handed out is
--- the one whose message the record shows.
+-- What the latest frame of a kind promises: its bytes are those that came, a refusal leaves the lent memory as it was,
+-- behind the places named nothing changes, and the frame handed out is the one whose message the record shows.
 use Prim.Native.Nat.{ℕ, _<_, _≤_}
 use native.Mathlib.Omega.{arith}
 use mathlib.Core.Path.{_≡_, refl, sym, ap, _∙_}
-use mathlib.Core.Bool.{Bool, true, false, cond, _&&_}
+use mathlib.Core.Bool.{Bool, true, false, cond, _&&_, true≢false}
 use mathlib.Core.List.{List, _∷_, _++_, map}
 use lib.Dec.{ltb, leb}
 use lib.ListN.{length, getD, drop, replicate, getD-replicate}
@@ -12,7 +12,7 @@ use borrow.Author.Tests.{leb-true}
 use Rattle.payload.specs.Payload.{Bytes, bytesOf}
 use Rattle.payload.proofs.Orders.{length-of}
 use Rattle.page_read.specs.declared.Judged.the-variants.{Frame}
-use Rattle.refusals.specs.declared.Refusal.the-variants.{UnknownIdentifier, ShortBuffer}
+use Rattle.refusals.specs.declared.Refusal.the-variants.{ShortBuffer}
 use Rattle.page_read.specs.Judge.{judgeOf}
 use Rattle.page_rows.specs.Table.{rows, ofKind, lengthOf, bigOf}
 use Rattle.page_rows.proofs.Rules.{short-length}
@@ -22,41 +22,72 @@ use Rattle.rules.specs.declared.Latest.{Latest}
 use Rattle.rules.specs.declared.Slot.{Slot}
 use Rattle.rules.specs.History.{receivedOf, countFrom}
 use Rattle.rules.specs.Record.{kindCount, isSet, slotAt}
-use Rattle.rules.specs.Step.{latestIn, datedIn, recordIn}
+use Rattle.rules.specs.After.{latestIn, datedIn, postRecord}
 use Rattle.rules.proofs.Counted.{count-at}
 use Rattle.watch_rules.specs.declared.Table.{Table}
 use Rattle.watch_rules.specs.declared.Setting.{Setting}
 use Rattle.watch_rules.specs.declared.Setting.the-variants as setting
 use Rattle.watch_rules.specs.Table.{postIn, isPost, lookUpOf}
-use Rattle.plain_words.specs.Words.{refusalWord}
-use Rattle.lent_latest.specs.Latest.{keptOf, hasRoom, latestAnswer, hands, handsOut, timeLeft, bytesLeft, latestWord, timeAfter, frameAfter}
-use Rattle.lent_look.proofs.Asked.{set-up}
+use Rattle.plain_words.specs.Words.{Outcome, answers, refuses, outcomeWord, isAccepted, Within, Told}
+use Rattle.plain_words.proofs.WordLaws.{either, word-tells, not-accepted}
+use Rattle.lent_latest.specs.Latest.{keptOf, hasRoom, latestOutcome, hands, handsOut, timeLeft, bytesLeft, latestWord, timeAfter, frameAfter}
+use Rattle.lent_look.proofs.Asked.{set-up, any-look}
 
 -- a frame that was read to what the post keeps is handed out byte for byte
 pub as-it-came : (t : Table) (i k : ℕ) (times buf : List ℕ) (id : ℕ) (extended : Bool) (bs : List ℕ) (time n : ℕ)
     → judgeOf id extended bs ≡ Frame k n → Bytes bs → keptOf t i k ≡ slotAt time n → handsOut t i k times buf ≡ true
     → (timeAfter t i k times buf ≡ receivedOf time ∷ drop 1 times) × (frameAfter t i k times buf ≡ bs ++ drop (length bs) buf)
 unfolding timeAfter frameAfter
-as-it-came t i k times buf id extended bs time n e b s h = (rw (h, s), rw (h, s, raws-back id extended bs k n e b .bytes, ← accepted id extended bs k n e .sized))
+as-it-came t i k times buf id extended bs time n e b s h = (
+  rw (h, s),
+  rw (h, s)
+      (ap (λ (l : List ℕ). l ++ drop (lengthOf k) buf) (raws-back id extended bs k n e b .bytes)
+      ∙ ap (λ (len : ℕ). bs ++ drop len buf) (sym (accepted id extended bs k n e .sized))),
+)
 
--- a refusal hands nothing out
-not-handed : (s : Setting) (k : ℕ) (l : Slot) (places room : ℕ) → 65536 ≤ latestAnswer s k l places room → hands s k l places room ≡ false
-not-handed setting.Done k l places room m = go (ltb k kindCount) (isSet (l .known)) (hasRoom k places room) m
-  where
-    go : (a b c : Bool) → 65536 ≤ cond a (cond b (cond c (lengthOf k) (refusalWord ShortBuffer)) 0) (refusalWord UnknownIdentifier) → a && (b && c) ≡ false
-    go true true true x = absurd (let z : ⊥ = omega (arith, short-length k) in z)
-    go true true false x = refl
-    go true false c x = refl
-    go false b c x = refl
-not-handed (setting.Refused w) k l places room m = refl
+-- what a look-up of the post i comes to, of a kind and of what is kept of it, by the places and the room that are lent: of the latest frame, and of what else
+-- is kept (`lent_session`)
+module _ (t : Table) (i k : ℕ) (l : Slot) (places room : ℕ) where
+  abbrev outcome : Outcome
+  outcome = latestOutcome (lookUpOf t i .answer) k l places room
 
-pub latest-refused : (t : Table) (i k : ℕ) (times buf : List ℕ) → 65536 ≤ latestWord t i k times buf → (timeAfter t i k times buf ≡ times) × (frameAfter t i k times buf ≡ buf)
-unfolding latestWord timeAfter frameAfter
-latest-refused t i k times buf l =
-    let e : handsOut t i k times buf ≡ false = not-handed (lookUpOf t i .answer) k (keptOf t i k) (length times) (length buf) l in
-    (rw e, rw e)
+  pub slot-within : Within 8 outcome
+  slot-within =
+      any-look t i (λ (s : Setting). Within 8 (latestOutcome s k l places room))
+      (either (Within 8) (ltb k kindCount)
+      (either (Within 8) (isSet (l .known)) (either (Within 8) (hasRoom k places room) (short-length k) (omega arith)) (omega arith))
+      (omega arith))
+      (omega arith) (omega arith)
 
-handed-behind : (b : Bool) (k : ℕ) (l : Slot) (times buf : List ℕ) → (drop 1 (timeLeft b l times) ≡ drop 1 times) × (drop (lengthOf k) (bytesLeft b k l buf) ≡ drop (lengthOf k) buf)
+  pub slot-told : Told 8 outcome (outcomeWord outcome)
+  slot-told = word-tells 8 outcome (omega arith) slot-within
+
+  -- a refusal hands nothing out
+  pub not-handed : 65536 ≤ outcomeWord outcome → hands (lookUpOf t i .answer) k l places room ≡ false
+  not-handed m = go (lookUpOf t i .answer) (not-accepted 8 outcome (omega arith) slot-within m)
+    where
+      by : (a b c : Bool) (o : Outcome) → isAccepted (cond a (cond b (cond c (answers (lengthOf k)) (refuses ShortBuffer)) (answers 0)) o) ≡ false → a && (b && c) ≡ false
+      by true true true o e = absurd (true≢false e)
+      by true true false o e = refl
+      by true false c o e = refl
+      by false b c o e = refl
+
+      go : (s : Setting) → isAccepted (latestOutcome s k l places room) ≡ false → hands s k l places room ≡ false
+      go setting.Done e = by (ltb k kindCount) (isSet (l .known)) (hasRoom k places room) _ e
+      go (setting.Refused w) e = refl
+
+module _ (t : Table) (i k : ℕ) (times buf : List ℕ) where
+  pub latest-told : Told 8 (latestOutcome (lookUpOf t i .answer) k (keptOf t i k) (length times) (length buf)) (latestWord t i k times buf)
+  unfolding latestWord
+  latest-told = slot-told t i k (keptOf t i k) (length times) (length buf)
+
+  pub latest-refused : 65536 ≤ latestWord t i k times buf → (timeAfter t i k times buf ≡ times) × (frameAfter t i k times buf ≡ buf)
+  unfolding latestWord timeAfter frameAfter
+  latest-refused l =
+      let e : handsOut t i k times buf ≡ false = not-handed t i k (keptOf t i k) (length times) (length buf) l in
+      (rw e, rw e)
+
+pub handed-behind : (b : Bool) (k : ℕ) (l : Slot) (times buf : List ℕ) → (drop 1 (timeLeft b l times) ≡ drop 1 times) × (drop (lengthOf k) (bytesLeft b k l buf) ≡ drop (lengthOf k) buf)
 handed-behind true k l times buf = (refl, drop-at (bytesOf (bigOf k) (lengthOf k) (l .raw)) (drop (lengthOf k) buf) (lengthOf k) (length-of (bigOf k) (lengthOf k) (l .raw)))
 handed-behind false k l times buf = (refl, refl)
 
@@ -76,7 +107,7 @@ some-bytes k l = leb-true 1 (lengthOf k) (sym (count-at (λ j. leb 1 (lengthOf j
 -- the record's message of the kind is that of the frame
 pub latest-shown : (t : Table) (i k : ℕ) → isPost i ≡ true → isSet (postIn t i .head .used) ≡ true → k < kindCount
     → getD (lookUpOf t i .shown .latest) k (record { message = dated.Nothing }) .message ≡ datedIn (postIn t i .head .time) k (keptOf t i k)
-unfolding recordIn
+unfolding postRecord
 latest-shown t i k l u m =
     rw (set-up t i l u)
     (ap (λ (x : Latest). x .message) (count-at (λ j. record { message = datedIn (postIn t i .head .time) j (latestIn (postIn t i) j) }) (record { message = dated.Nothing }) k 0 kindCount k (omega arith) m))

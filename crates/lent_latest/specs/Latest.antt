@@ -1,4 +1,5 @@
--- The latest frame of a kind over the C interface: its time, and its bytes as they came, in the message's byte order. Refused as `watch::look_up` refuses, with 9 and 14.
+-- The latest frame of a kind over the C interface: its time, and its bytes as they came, in the message's byte order.
+-- Refused as `watch::look_up` refuses, with 9 and 14.
 use Prim.Native.Nat.{ℕ}
 use mathlib.Core.Bool.{Bool, false, cond, _&&_}
 use mathlib.Core.List.{List, _∷_, _++_}
@@ -10,12 +11,12 @@ use Rattle.page_rows.specs.Table.{lengthOf, bigOf}
 use Rattle.rules.specs.declared.Slot.{Slot}
 use Rattle.rules.specs.History.{receivedOf}
 use Rattle.rules.specs.Record.{kindCount, isSet}
-use Rattle.rules.specs.Step.{latestIn}
+use Rattle.rules.specs.After.{latestIn}
 use Rattle.watch_rules.specs.declared.Table.{Table}
 use Rattle.watch_rules.specs.declared.Setting.{Setting}
 use Rattle.watch_rules.specs.declared.Setting.the-variants as setting
 use Rattle.watch_rules.specs.Table.{postIn, lookUpOf}
-use Rattle.plain_words.specs.Words.{refusalWord}
+use Rattle.plain_words.specs.Words.{Outcome, answers, refuses, outcomeWord}
 
 -- what the post i keeps of the kind k
 abbrev pub keptOf : Table → ℕ → ℕ → Slot
@@ -26,13 +27,13 @@ abbrev pub hasRoom : ℕ → ℕ → ℕ → Bool
 hasRoom k places room = leb 1 places && leb (lengthOf k) room
 
 -- 0 where no frame was accepted, whatever is lent; else 8, or the number of bytes
-abbrev pub keptWord : ℕ → Slot → ℕ → ℕ → ℕ
-keptWord k l places room = cond (isSet (l .known)) (cond (hasRoom k places room) (lengthOf k) (refusalWord ShortBuffer)) 0
+abbrev pub keptOutcome : ℕ → Slot → ℕ → ℕ → Outcome
+keptOutcome k l places room = cond (isSet (l .known)) (cond (hasRoom k places room) (answers (lengthOf k)) (refuses ShortBuffer)) (answers 0)
 
 -- 3 before them, for a number that is no kind
-abbrev pub latestAnswer : Setting → ℕ → Slot → ℕ → ℕ → ℕ
-latestAnswer setting.Done k l places room = cond (ltb k kindCount) (keptWord k l places room) (refusalWord UnknownIdentifier)
-latestAnswer (setting.Refused w) k l places room = refusalWord w
+abbrev pub latestOutcome : Setting → ℕ → Slot → ℕ → ℕ → Outcome
+latestOutcome setting.Done k l places room = cond (ltb k kindCount) (keptOutcome k l places room) (refuses UnknownIdentifier)
+latestOutcome (setting.Refused w) k l places room = refuses w
 
 -- whether a frame is handed out
 abbrev pub hands : Setting → ℕ → Slot → ℕ → ℕ → Bool
@@ -49,7 +50,7 @@ abbrev pub handsOut : Table → ℕ → ℕ → List ℕ → List ℕ → Bool
 handsOut t i k times buf = hands (lookUpOf t i .answer) k (keptOf t i k) (length times) (length buf)
 
 unfoldable pub latestWord : Table → ℕ → ℕ → List ℕ → List ℕ → ℕ
-latestWord t i k times buf = latestAnswer (lookUpOf t i .answer) k (keptOf t i k) (length times) (length buf)
+latestWord t i k times buf = outcomeWord (latestOutcome (lookUpOf t i .answer) k (keptOf t i k) (length times) (length buf))
 
 unfoldable pub timeAfter : Table → ℕ → ℕ → List ℕ → List ℕ → List ℕ
 timeAfter t i k times buf = timeLeft (handsOut t i k times buf) (keptOf t i k) times

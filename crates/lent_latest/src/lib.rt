@@ -4,7 +4,8 @@ ghost use mathlib.Core.Path.{_≡_};
 ghost use mathlib.Core.Bool.{_&&_};
 ghost use lib.ListN.{length};
 ghost use Rattle.rule_asks.specs.Judgements.{isSet};
-ghost use Rattle.lent_latest.specs.Latest.{hasRoom, keptWord, timeLeft, bytesLeft, latestWord, timeAfter, frameAfter};
+ghost use Rattle.plain_words.specs.Words.{outcomeWord};
+ghost use Rattle.lent_latest.specs.Latest.{hasRoom, keptOutcome, timeLeft, bytesLeft, latestWord, timeAfter, frameAfter};
 use plain_words::refusal_word;
 use post_record::received;
 use refusals::Refusal;
@@ -15,8 +16,8 @@ use watch_places::is_post;
 use watch_rules::Table;
 
 // Where no frame was accepted nothing is written, so nothing lent can be too short.
-fn hand_out(l: Slot, kind: usize, time: &mut [u32], buf: &mut [u8]) -> u32
-    ensures { λ r. ⌜ (r ≡ keptWord kind l (length (now (time .entry))) (length (now (buf .entry))))
+pub fn hand_out(l: Slot, kind: usize, time: &mut [u32], buf: &mut [u8]) -> u32
+    ensures { λ r. ⌜ (r ≡ outcomeWord (keptOutcome kind l (length (now (time .entry))) (length (now (buf .entry)))))
         × (now (time .exit) ≡ timeLeft (isSet (l .known) && hasRoom kind (length (now (time .entry))) (length (now (buf .entry)))) l (now (time .entry)))
         × (now (buf .exit) ≡ bytesLeft (isSet (l .known) && hasRoom kind (length (now (time .entry))) (length (now (buf .entry)))) kind l (now (buf .entry))) ⌝ }
 {
@@ -35,7 +36,7 @@ fn hand_out(l: Slot, kind: usize, time: &mut [u32], buf: &mut [u8]) -> u32
     len as u32
 }
 
-pub fn latest_of(t: Table, post: u32, kind: u32, time: &mut [u32], buf: &mut [u8]) -> u32
+fn latest_of(t: Table, post: u32, kind: u32, time: &mut [u32], buf: &mut [u8]) -> u32
     ensures { λ r. ⌜ (r ≡ latestWord t post kind (now (time .entry)) (now (buf .entry)))
         × (now (time .exit) ≡ timeAfter t post kind (now (time .entry)) (now (buf .entry)))
         × (now (buf .exit) ≡ frameAfter t post kind (now (time .entry)) (now (buf .entry))) ⌝ }

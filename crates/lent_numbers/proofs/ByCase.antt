@@ -6,16 +6,17 @@ use lib.ListN.{length}
 use Rattle.watch_rules.specs.declared.Table.{Table}
 use Rattle.watch_rules.specs.declared.LookedUp.{LookedUp}
 use Rattle.watch_rules.specs.Table.{lookUpOf}
-use Rattle.lent_numbers.specs.LookUp.{lookedWord, numbersLeft, lookUpWord, numbersAfter}
+use Rattle.plain_words.specs.Words.{outcomeWord}
+use Rattle.lent_numbers.specs.LookUp.{lookedOutcome, numbersLeft, lookUpWord, numbersAfter}
 
 module _ (t : Table) (i : ℕ) where
   -- the answer, and the lent numbers
   abbrev pub Looked : List ℕ → ℕ → List ℕ → Type 0
   Looked ns r after = (r ≡ lookUpWord t i ns) × (after ≡ numbersAfter t i ns)
 
-  pub looked-by : {x : LookedUp} (ns : List ℕ) → lookUpOf t i ≡ x → Looked ns (lookedWord (x .answer) (length ns)) (numbersLeft (x .answer) (x .shown) ns)
+  pub looked-by : {x : LookedUp} (ns : List ℕ) → lookUpOf t i ≡ x → Looked ns (outcomeWord (lookedOutcome (x .answer) (length ns))) (numbersLeft (x .answer) (x .shown) ns)
   unfolding lookUpWord numbersAfter
   looked-by ns e = (
-    ap (λ (y : LookedUp). lookedWord (y .answer) (length ns)) (sym e),
+    ap (λ (y : LookedUp). outcomeWord (lookedOutcome (y .answer) (length ns))) (sym e),
     ap (λ (y : LookedUp). numbersLeft (y .answer) (y .shown) ns) (sym e),
   )

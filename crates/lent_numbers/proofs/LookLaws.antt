@@ -1,8 +1,9 @@
--- What looking up a post's numbers promises: a refusal leaves the lent numbers as they were, and behind the places named nothing changes.
+-- What looking up a post's numbers promises: its word tells the answer (`Told` of `plain_words`), a refusal leaves the lent numbers as they were, and
+-- behind the places named nothing changes.
 use Prim.Native.Nat.{ℕ, _≤_}
 use native.Mathlib.Omega.{arith}
 use mathlib.Core.Path.{_≡_, refl}
-use mathlib.Core.Bool.{Bool, true, false, cond}
+use mathlib.Core.Bool.{Bool, true, false, cond, true≢false}
 use mathlib.Core.List.{List, _++_}
 use lib.Dec.{leb}
 use lib.ListN.{length, drop}
@@ -16,20 +17,32 @@ use Rattle.watch_rules.specs.declared.Table.{Table}
 use Rattle.watch_rules.specs.declared.Setting.{Setting}
 use Rattle.watch_rules.specs.declared.Setting.the-variants as setting
 use Rattle.watch_rules.specs.Table.{lookUpOf}
-use Rattle.plain_words.specs.Words.{refusalWord}
-use Rattle.lent_numbers.specs.LookUp.{numberCount, numbersOf, lookedWord, numbersLeft, lookUpWord, numbersAfter}
+use Rattle.plain_words.specs.Words.{answers, refuses, isAccepted, Within, Told}
+use Rattle.plain_words.proofs.WordLaws.{either, word-tells, not-accepted}
+use Rattle.lent_look.proofs.Asked.{any-look}
+use Rattle.lent_numbers.specs.LookUp.{numberCount, numbersOf, lookedOutcome, numbersLeft, lookUpWord, numbersAfter}
 
-pub look-up-refused : (t : Table) (i : ℕ) (ns : List ℕ) → 65536 ≤ lookUpWord t i ns → numbersAfter t i ns ≡ ns
-unfolding lookUpWord numbersAfter
-look-up-refused t i ns l = go (lookUpOf t i .answer) l
-  where
-    room : (b : Bool) → 65536 ≤ cond b 0 (refusalWord ShortBuffer) → cond b (numbersOf (lookUpOf t i .shown) ++ drop numberCount ns) ns ≡ ns
-    room true m = absurd (let z : ⊥ = omega arith in z)
-    room false m = refl
+module _ (t : Table) (i : ℕ) (ns : List ℕ) where
+  pub look-up-within : Within 0 (lookedOutcome (lookUpOf t i .answer) (length ns))
+  look-up-within =
+      any-look t i (λ (s : Setting). Within 0 (lookedOutcome s (length ns)))
+      (either (Within 0) (leb numberCount (length ns)) (omega arith) (omega arith)) (omega arith) (omega arith)
 
-    go : (s : Setting) → 65536 ≤ lookedWord s (length ns) → numbersLeft s (lookUpOf t i .shown) ns ≡ ns
-    go setting.Done m = room (leb numberCount (length ns)) m
-    go (setting.Refused w) m = refl
+  pub look-up-told : Told 0 (lookedOutcome (lookUpOf t i .answer) (length ns)) (lookUpWord t i ns)
+  unfolding lookUpWord
+  look-up-told = word-tells 0 (lookedOutcome (lookUpOf t i .answer) (length ns)) (omega arith) look-up-within
+
+  pub look-up-refused : 65536 ≤ lookUpWord t i ns → numbersAfter t i ns ≡ ns
+  unfolding lookUpWord numbersAfter
+  look-up-refused l = go (lookUpOf t i .answer) (not-accepted 0 (lookedOutcome (lookUpOf t i .answer) (length ns)) (omega arith) look-up-within l)
+    where
+      room : (b : Bool) → isAccepted (cond b (answers 0) (refuses ShortBuffer)) ≡ false → cond b (numbersOf (lookUpOf t i .shown) ++ drop numberCount ns) ns ≡ ns
+      room true e = absurd (true≢false e)
+      room false e = refl
+
+      go : (s : Setting) → isAccepted (lookedOutcome s (length ns)) ≡ false → numbersLeft s (lookUpOf t i .shown) ns ≡ ns
+      go setting.Done e = room (leb numberCount (length ns)) e
+      go (setting.Refused w) e = refl
 
 behind : (r : Record) (ns : List ℕ) → drop numberCount (numbersOf r ++ ns) ≡ ns
 unfolding numbersOf

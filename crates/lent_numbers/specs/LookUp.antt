@@ -1,4 +1,5 @@
--- A post's numbers over the C interface: of the record that `watch::look_up` hands out, all but the messages. Refused as `watch::look_up` refuses, with 9 and 14.
+-- A post's numbers over the C interface: of the record that `watch::look_up` hands out, all but the messages.
+-- Refused as `watch::look_up` refuses, with 9 and 14.
 use Prim.Native.Nat.{ℕ}
 use mathlib.Core.Bool.{cond}
 use mathlib.Core.List.{List, [], _∷_, _++_}
@@ -16,7 +17,7 @@ use Rattle.watch_rules.specs.declared.Table.{Table}
 use Rattle.watch_rules.specs.declared.Setting.{Setting}
 use Rattle.watch_rules.specs.declared.Setting.the-variants as setting
 use Rattle.watch_rules.specs.Table.{lookUpOf}
-use Rattle.plain_words.specs.Words.{refusalWord}
+use Rattle.plain_words.specs.Words.{Outcome, answers, refuses, outcomeWord}
 
 abbrev pub numberCount : ℕ
 numberCount = 12
@@ -37,16 +38,16 @@ numbersOf r =
     ∷ (lastNumbers (r .last) ++ sessionNumbers (r .session))
 
 -- 8 where the lent places are too few
-abbrev pub lookedWord : Setting → ℕ → ℕ
-lookedWord setting.Done places = cond (leb numberCount places) 0 (refusalWord ShortBuffer)
-lookedWord (setting.Refused w) places = refusalWord w
+abbrev pub lookedOutcome : Setting → ℕ → Outcome
+lookedOutcome setting.Done places = cond (leb numberCount places) (answers 0) (refuses ShortBuffer)
+lookedOutcome (setting.Refused w) places = refuses w
 
 abbrev pub numbersLeft : Setting → Record → List ℕ → List ℕ
 numbersLeft setting.Done r ns = cond (leb numberCount (length ns)) (numbersOf r ++ drop numberCount ns) ns
 numbersLeft (setting.Refused w) r ns = ns
 
 unfoldable pub lookUpWord : Table → ℕ → List ℕ → ℕ
-lookUpWord t i ns = lookedWord (lookUpOf t i .answer) (length ns)
+lookUpWord t i ns = outcomeWord (lookedOutcome (lookUpOf t i .answer) (length ns))
 
 unfoldable pub numbersAfter : Table → ℕ → List ℕ → List ℕ
 numbersAfter t i ns = numbersLeft (lookUpOf t i .answer) (lookUpOf t i .shown) ns

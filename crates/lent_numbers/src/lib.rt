@@ -5,7 +5,7 @@ ghost use mathlib.Core.Bool.{cond};
 ghost use mathlib.Core.List.{_++_};
 ghost use Prim.Native.Nat.{_≤_};
 ghost use lib.ListN.{length, drop};
-ghost use Rattle.rules.specs.Step.{recordIn};
+ghost use Rattle.rules.specs.After.{postRecord};
 ghost use Rattle.lent_numbers.specs.LookUp.{numberCount, numbersOf, lookUpWord, numbersAfter};
 use message_types::labels::plug_number;
 use message_types::labels::protocol_number;
@@ -27,7 +27,7 @@ fn where_set(b: bool, x: u32) -> u32
 }
 
 fn numbers_of(p: Post) -> [u32; 12]
-    ensures { λ r. ⌜ r ≡ numbersOf (recordIn p) ⌝ }
+    ensures { λ r. ⌜ r ≡ numbersOf (postRecord p) ⌝ }
 {
     let h = p.head;
     let l = h.limits;
@@ -65,7 +65,7 @@ fn store_numbers(numbers: &mut [u32], ns: [u32; 12])
     }
 }
 
-pub fn looked(t: Table, post: u32, numbers: &mut [u32]) -> u32
+fn looked(t: Table, post: u32, numbers: &mut [u32]) -> u32
     ensures { λ r. ⌜ (r ≡ lookUpWord t post (now (numbers .entry))) × (now (numbers .exit) ≡ numbersAfter t post (now (numbers .entry))) ⌝ }
 {
     if !is_post(post) {

@@ -1,26 +1,23 @@
 -- A run of lent calls is the run by value, and its words tell the replies: what demand 3 says of `run` holds of the lent table.
-use Prim.Native.Nat.{ℕ, _≤_}
+use Prim.Native.Nat.{_≤_, _<_}
 use native.Mathlib.Omega.{arith}
-use mathlib.Core.Path.{_≡_, refl, ap, _∙_}
+use mathlib.Core.Path.{_≡_, refl, ap, _∙_, subst}
 use mathlib.Core.List.{List, [], _∷_}
 use mathlib.Core.Bool.{Bool, true, false, not}
 use lib.Dec.{ltb}
-use borrow.Author.Tests.{lt-ltb, le-ltb, ltb-true}
-use Rattle.plain_words.specs.Words.{refusalWord}
+use borrow.Author.Tests.{ltb-true}
+use Rattle.plain_words.specs.Words.{answers, isAccepted, Told}
+use Rattle.plain_words.proofs.WordLaws.{word-tells}
 use Rattle.watch_rules.specs.declared.Table.{Table}
-use Rattle.watch_rules.specs.declared.Answer.{Answer}
 use Rattle.watch_rules.specs.declared.Answer.the-variants.{Findings, Refused}
-use Rattle.watch_rules.specs.declared.Setting.{Setting}
 use Rattle.watch_rules.specs.declared.Setting.the-variants as setting
-use Rattle.watch_rules.specs.Table.{framing, ticking, feedOf, setUpOf, releaseOf}
-use Rattle.watch_rules.specs.Run.{Request, setUp, release, frame, tick, set, fed, reply, next, run, reply01, accepted, isRefusal}
+use Rattle.watch_rules.specs.Run.{Request, setUp, release, frame, tick, Reply, set, fed, reply, next, run, reply01, accepted, isRefusal}
 use Rattle.watch_rules.proofs.Refusing.{refused-table}
 use Rattle.watch_rules.proofs.Demand.{every-answer}
-use Rattle.lent_words.specs.Words.{answerWord, settingWord}
 use Rattle.lent_words.specs.Lent.{startOf, setUpWord, releaseWord}
 use Rattle.lent_step.specs.Fed.{frameWord, tickWord}
-use Rattle.lent_runs.specs.Runs.{lentBy, lentRun, wordOf}
-use Rattle.lent_runs.proofs.Small.{Found, found-small}
+use Rattle.lent_runs.specs.Runs.{lentBy, lentRun, outcomeOf, wordOf, mostOf}
+use Rattle.lent_runs.proofs.Small.{reply-within}
 
 -- ---- one request, of any table
 
@@ -38,23 +35,29 @@ lent-word t (release i) = refl
 lent-word t (frame c time m x bs) = refl
 lent-word t (tick c time) = refl
 
-set-told : (r : Setting) → ltb (settingWord r) 65536 ≡ not (isRefusal (set r))
-set-told setting.Done = refl
-set-told (setting.Refused w) = le-ltb (refusalWord w) 65536 (omega arith)
+most-small : (a : Request) → mostOf a < 65536
+most-small (setUp i c lim) = omega arith
+most-small (release i) = omega arith
+most-small (frame c time m x bs) = omega arith
+most-small (tick c time) = omega arith
 
-fed-told : (r : Answer) → Found r → ltb (answerWord r) 65536 ≡ not (isRefusal (fed r))
-fed-told (Findings n) small = lt-ltb n 65536 (omega arith)
-fed-told (Refused w) small = le-ltb (refusalWord w) 65536 (omega arith)
+-- what a request's word tells, of every table: `Told` (plain_words)
+pub lent-told : (t : Table) (a : Request) → Told (mostOf a) (outcomeOf (reply t a)) (lentBy t a .answer)
+lent-told t a = rw (lent-word t a) (word-tells (mostOf a) (outcomeOf (reply t a)) (most-small a) (reply-within t a))
+
+pub start-told : (t : Table) → Told 0 (answers 0) (startOf t .answer)
+unfolding startOf
+start-told t = word-tells 0 (answers 0) (omega arith) (omega arith)
+
+accepted-not : (r : Reply) → isAccepted (outcomeOf r) ≡ not (isRefusal r)
+accepted-not (set setting.Done) = refl
+accepted-not (set (setting.Refused w)) = refl
+accepted-not (fed (Findings n)) = refl
+accepted-not (fed (Refused w)) = refl
 
 -- "Below 65,536 a call was accepted; from there on .. nothing was changed" (the header), of every table
 pub word-told : (t : Table) (a : Request) → ltb (lentBy t a .answer) 65536 ≡ not (isRefusal (reply t a))
-word-told t a = ap (λ (n : ℕ). ltb n 65536) (lent-word t a) ∙ told a
-  where
-    told : (x : Request) → ltb (wordOf (reply t x)) 65536 ≡ not (isRefusal (reply t x))
-    told (setUp i c lim) = set-told (setUpOf t i c lim .answer)
-    told (release i) = set-told (releaseOf t i .answer)
-    told (frame c time m x bs) = fed-told (feedOf t c time (framing m x bs) .answer) (found-small t c time (framing m x bs))
-    told (tick c time) = fed-told (feedOf t c time ticking .answer) (found-small t c time ticking)
+word-told t a = lent-told t a .told ∙ accepted-not (reply t a)
 
 pub lent-refused : (t : Table) (a : Request) → 65536 ≤ lentBy t a .answer → lentBy t a .table ≡ t
 lent-refused t a l = lent-next t a ∙ refused-table t a (refused (isRefusal (reply t a)) refl)
@@ -74,3 +77,9 @@ lent-run t (a ∷ rs) = lent-next (lentRun t rs) a ∙ ap (λ (u : Table). next 
 pub lent-answer : (t : Table) (rs : List Request) (a : Request) → lentBy (lentRun t rs) a .answer ≡ wordOf (reply01 (accepted rs) a)
 lent-answer t rs a =
     lent-word (lentRun t rs) a ∙ ap (λ (u : Table). wordOf (reply u a)) (lent-run t rs) ∙ ap wordOf (every-answer rs a)
+
+-- and tells it
+pub answer-told : (t : Table) (rs : List Request) (a : Request) → Told (mostOf a) (outcomeOf (reply01 (accepted rs) a)) (lentBy (lentRun t rs) a .answer)
+answer-told t rs a =
+    subst (λ (r : Reply). Told (mostOf a) (outcomeOf r) (lentBy (lentRun t rs) a .answer)) (ap (λ (u : Table). reply u a) (lent-run t rs) ∙ every-answer rs a)
+    (lent-told (lentRun t rs) a)

@@ -1,9 +1,17 @@
--- The findings of any step are at most 2,047, whatever the table holds, and a refusal's word is 65,536 or more: so a word tells whether a step was accepted.
-use Prim.Native.Nat.{ℕ, _+_, _*_, _≤_}
+-- How large a reply can be, whatever the table holds: the findings of any step are at most 2,047 (`found-small`), and the start that a refusal
+-- carries is one of a payload's 64 bits (`reply-within`).
+use Prim.Native.Nat.{ℕ, _+_, _<_, _≤_}
 use native.Mathlib.Omega.{arith}
-use mathlib.Core.Path.{_≡_}
-use mathlib.Core.Bool.{Bool, true, false, cond, not, _&&_}
+use mathlib.Core.Bool.{Bool, true, false, not, _&&_}
 use lib.Dec.{eqb, ltb}
+use Rattle.refusals.specs.declared.Refusal.the-variants.{ChannelFree, Earlier}
+use Rattle.refusals.specs.Refusals.{startOf}
+use Rattle.page_read.specs.declared.Judged.{Judged}
+use Rattle.page_read.specs.declared.Judged.the-variants as judged
+use Rattle.page_read.specs.Judge.{judgeOf}
+use Rattle.page_bounds.proofs.Bounds.{SmallJudged, judge-small}
+use Rattle.rule_limits.specs.declared.PlainLimits.{PlainLimits}
+use Rattle.rule_limits.specs.Limits.{limitsFit}
 use Rattle.rules.specs.declared.Head.{Head}
 use Rattle.message_types.specs.declared.DcPowerControl.{DcPowerControl}
 use Rattle.message_types.specs.declared.PowerModulesStatus.{PowerModulesStatus}
@@ -11,20 +19,21 @@ use Rattle.message_types.specs.declared.NewChargeSession.{NewChargeSession}
 use Rattle.rule_limits.specs.Sensor.{sensorOf}
 use Rattle.rule_asks.specs.Judgements.{isClose, isPowered, isOff, lowersBadly, outside, badInsulation, differs, isSet, bit}
 use Rattle.message_parts.specs.Parts.{statusKind, sessionKind, controlKind, finishedKind, statusIn, sessionIn, controlIn}
-use Rattle.rules.specs.Step.{silentIn, lateAfter, limitIn, unreadyIn, carryingIn, anyFindings, controlFindings, statusFindings, openingFindings, finishedFindings, messageFindings, tickStep, frameStep, agedTo, stampIn, isEarly}
+use Rattle.rules.specs.After.{silentIn, lateAfter, limitIn, unreadyIn, carryingIn, anyFindings, controlFindings, statusFindings, openingFindings, finishedFindings, messageFindings, afterTick, afterFrame, agedTo, stampIn, isEarly}
 use Rattle.watch_rules.specs.declared.Table.{Table}
 use Rattle.watch_rules.specs.declared.Answer.{Answer}
 use Rattle.watch_rules.specs.declared.Answer.the-variants.{Findings, Refused}
-use Rattle.watch_rules.specs.declared.Setting.the-variants as setting
+use Rattle.watch_rules.specs.declared.Settled.{Settled}
 use Rattle.watch_rules.specs.declared.Fed.{Fed}
 use Rattle.watch_rules.specs.declared.Heard.{Heard}
 use Rattle.watch_rules.specs.declared.Arrival.{Arrival}
 use Rattle.watch_rules.specs.declared.Arrival.the-variants.{Tick, Frame, Unread}
-use Rattle.watch_rules.specs.Table.{postCount, isChannel, holds, placeOf, postIn, Arriving, judgedOf, heardOf, feedAt, feedOf}
-
-either : {A : Type 0} (P : A → Type 0) (b : Bool) {x y : A} → P x → P y → P (cond b x y)
-either P true p q = p
-either P false p q = q
+use Rattle.watch_rules.specs.Table.{postCount, isChannel, holds, placeOf, postIn, arrivalOf, Arriving, framing, ticking, judgedOf, heardOf, feedAt, feedOf, isOther, isPost, setUpOf, releaseOf}
+use Rattle.watch_rules.specs.Run.{Request, setUp, release, frame, tick, reply}
+use Rattle.plain_words.specs.Words.{Within}
+use Rattle.plain_words.proofs.WordLaws.{either}
+use Rattle.lent_words.specs.Words.{answerOutcome, settingOutcome}
+use Rattle.lent_runs.specs.Runs.{outcomeOf, mostOf}
 
 bit-le : (b : Bool) (w : ℕ) → bit b w ≤ w
 bit-le true w = omega arith
@@ -98,17 +107,58 @@ Found (Findings n) = n ≤ 2047
 Found (Refused w) = Unit {0}
 
 heard-small : (p : Head) (t : ℕ) (a : Arrival) → Found (judgedOf p t a .answer)
-unfolding tickStep frameStep
+unfolding afterTick afterFrame
 heard-small p t Tick = omega (arith, any-small (agedTo p (stampIn p t)))
 heard-small p t (Frame k n) = omega (arith, any-small (agedTo p (stampIn p t)), message-small (agedTo p (stampIn p t)) k n)
 heard-small p t (Unread w) = tt
 
-pub found-small : (t : Table) (c time : ℕ) (a : Arriving) → Found (feedOf t c time a .answer)
+-- what holds of 1, of 2 and of whatever a head answers holds of the table's answer
+feed-says : (P : Answer → Type 0) (t : Table) (c time : ℕ) (a : Arriving) → P (Refused ChannelFree) → P (Refused Earlier)
+    → ((p : Head) → P (judgedOf p time (a (p .limits)) .answer)) → P (feedOf t c time a .answer)
 unfolding feedOf feedAt heardOf
-found-small t c time a =
+feed-says P t c time a free early heard =
     let p = postIn t (placeOf (t .posts) c) .head in
-    either (λ (r : Fed). Found (r .answer)) (isChannel c && ltb (placeOf (t .posts) c) postCount)
-    (either (λ (r : Heard). Found (r .answer)) (isChannel c && holds p c)
-    (either (λ (r : Heard). Found (r .answer)) (isEarly p time) tt (heard-small p time (a (p .limits))))
-    tt)
-    tt
+    either (λ (r : Fed). P (r .answer)) (isChannel c && ltb (placeOf (t .posts) c) postCount)
+    (either (λ (r : Heard). P (r .answer)) (isChannel c && holds p c)
+    (either (λ (r : Heard). P (r .answer)) (isEarly p time) early (heard p))
+    free)
+    free
+
+pub found-small : (t : Table) (c time : ℕ) (a : Arriving) → Found (feedOf t c time a .answer)
+found-small t c time a = feed-says Found t c time a tt tt (λ p. heard-small p time (a (p .limits)))
+
+-- ---- what comes to a word, of any table
+
+-- an arrival that is not read is refused with the start of a row, or with none
+abbrev pub Readable : Arrival → Type 0
+Readable Tick = Unit {0}
+Readable (Frame k n) = Unit {0}
+Readable (Unread w) = startOf w < 64
+
+frame-readable : (j : Judged) → SmallJudged j → Readable (arrivalOf j)
+frame-readable (judged.Frame k n) l = tt
+frame-readable (judged.Refused w) l = l
+
+heard-within : (p : Head) (t : ℕ) (a : Arrival) → Readable a → Within 2047 (answerOutcome (judgedOf p t a .answer))
+heard-within p t Tick l = heard-small p t Tick
+heard-within p t (Frame k n) l = heard-small p t (Frame k n)
+heard-within p t (Unread w) l = l
+
+fed-within : (t : Table) (c time : ℕ) (a : Arriving) → ((lim : PlainLimits) → Readable (a lim)) → Within 2047 (answerOutcome (feedOf t c time a .answer))
+fed-within t c time a l =
+    feed-says (λ (r : Answer). Within 2047 (answerOutcome r)) t c time a (omega arith) (omega arith) (λ p. heard-within p time (a (p .limits)) (l (p .limits)))
+
+abbrev SetWithin : Settled → Type 0
+SetWithin r = Within 0 (settingOutcome (r .answer))
+
+pub reply-within : (t : Table) (a : Request) → Within (mostOf a) (outcomeOf (reply t a))
+unfolding setUpOf releaseOf
+reply-within t (setUp i c lim) =
+    either SetWithin (isPost i)
+    (either SetWithin (isChannel c)
+    (either SetWithin (isOther (placeOf (t .posts) c) i) (omega arith) (either SetWithin (limitsFit lim) (omega arith) (omega arith)))
+    (omega arith))
+    (omega arith)
+reply-within t (release i) = either SetWithin (isPost i) (either SetWithin (isSet (postIn t i .head .used)) (omega arith) (omega arith)) (omega arith)
+reply-within t (frame c time m x bs) = fed-within t c time (framing m x bs) (λ lim. frame-readable (judgeOf m x bs) (judge-small m x bs))
+reply-within t (tick c time) = fed-within t c time ticking (λ lim. tt)

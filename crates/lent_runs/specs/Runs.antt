@@ -4,7 +4,8 @@ use mathlib.Core.List.{List, [], _∷_}
 use Rattle.watch_rules.specs.declared.Table.{Table}
 use Rattle.watch_rules.specs.Run.{Request, setUp, release, frame, tick, Reply, set, fed}
 use Rattle.lent_words.specs.declared.Lent.{Lent}
-use Rattle.lent_words.specs.Words.{answerWord, settingWord}
+use Rattle.plain_words.specs.Words.{Outcome, outcomeWord}
+use Rattle.lent_words.specs.Words.{answerOutcome, settingOutcome}
 use Rattle.lent_words.specs.Lent.{startOf, setUpWord, releaseWord}
 use Rattle.lent_step.specs.Fed.{frameWord, tickWord}
 
@@ -20,7 +21,16 @@ unfoldable pub lentRun : Table → List Request → Table
 lentRun t [] = startOf t .table
 lentRun t (a ∷ earlier) = lentBy (lentRun t earlier) a .table
 
--- a reply as one word
+-- what a reply comes to, as one word, and the most that an accepted one answers: 0, or all eleven findings
+abbrev pub outcomeOf : Reply → Outcome
+outcomeOf (set r) = settingOutcome r
+outcomeOf (fed r) = answerOutcome r
+
 abbrev pub wordOf : Reply → ℕ
-wordOf (set r) = settingWord r
-wordOf (fed r) = answerWord r
+wordOf r = outcomeWord (outcomeOf r)
+
+abbrev pub mostOf : Request → ℕ
+mostOf (setUp i c lim) = 0
+mostOf (release i) = 0
+mostOf (frame c time m x bs) = 2047
+mostOf (tick c time) = 2047

@@ -1,4 +1,5 @@
-// Starting a lent table, set-ups and releases in place: each leaves exactly what the by-value operation of `watch` gives. For C, and through `gateway` for Rattle.
+// Starting a lent table, set-ups and releases in place: each leaves exactly what the by-value operation of `watch` gives.
+// For C, and through `gateway` for Rattle.
 ghost use mathlib.Core.Path.{_≡_};
 ghost use Rattle.lent_words.specs.Lent.{startOf, setUpWord, releaseWord};
 use lent_words::Lent;

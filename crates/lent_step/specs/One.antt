@@ -1,10 +1,11 @@
--- Inner step: what comes, over one post's head, so that a frame or tick copies one head and not the table. `feed-same` (watch_rules) shows that it is the table's step.
+-- Inner step: what comes, over one post's head, so that a frame or tick copies one head and not the table.
+-- `feed-same` (watch_rules) shows that it is the table's step.
 use Prim.Native.Nat.{ℕ}
 use mathlib.Core.List.{List}
 use mathlib.Core.Bool.{Bool}
 use Rattle.rules.specs.declared.Head.{Head}
 use Rattle.rules.specs.declared.Post.{Post}
-use Rattle.rules.specs.Step.{stored}
+use Rattle.rules.specs.After.{stored}
 use Rattle.watch_rules.specs.declared.Table.{Table}
 use Rattle.watch_rules.specs.declared.Heard.{Heard}
 use Rattle.watch_rules.specs.declared.Arrival.the-variants.{Tick}

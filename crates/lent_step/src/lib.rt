@@ -1,5 +1,5 @@
-// A frame and a tick over one post's head, by value and with the answer as a word: `watch_hear::hear`, by which the table's own step goes too. For `lent_frame` and `lent_tick`, which
-// copy a head out of a lent table, and store the head and one slot back.
+// A frame and a tick over one post's head, by value and with the answer as a word: `watch_hear::hear`, by which the table's own step goes too.
+// For `lent_frame` and `lent_tick`, which copy a head out of a lent table, and store the head and one slot back.
 ghost use mathlib.Core.Path.{_≡_};
 ghost use Rattle.lent_step.specs.One.{wordedBy, frameOn, tickOn};
 use lent_words::answer_word;

@@ -1,6 +1,8 @@
--- What the entries share: each is lent a table, takes parameters that are plain data or shared slices, answers a word, and leaves the table that `wanted` says. A walk of its MIR is taken to its contract.
+-- What the entries share: each is lent a table, takes parameters that are plain data or shared slices, answers a word,
+-- and leaves the table that `wanted` says. A walk of its MIR is taken to its contract.
 --     signature, ended, stayed     of an entry with the parameters ps beside the table
---     Walk run     the walk: from what the entry is lent, with what the parameters own had twice, to whatever follows where the answer and the table are as wanted
+--     Walk run     the walk: from what the entry is lent, with what the parameters own had twice,
+--                  to whatever follows where the answer and the table are as wanted
 --     Shown c      the contract's `ensures` says no more than that they are.        meets     the contract, from a walk
 -- Assumes nothing.
 use mathlib.Core.Path.{_≡_, refl}

@@ -1,5 +1,6 @@
 -- The functions that lend a table of their own to an entry, and give it back by value.
---     by-lending       what a call of an entry gives, from its contract.        meets     the function's contract, from that: `Lender.antt`'s walk (`lent_walks`) at `Table` and `Lent`
+--     by-lending       what a call of an entry gives, from its contract.
+--     meets     the function's contract, from that: `Lender.antt`'s walk (`lent_walks`) at `Table` and `Lent`
 -- Assumes nothing.
 use mathlib.Core.Path.{_≡_, refl, ap, subst}
 use Prim.Native.Nat.{ℕ, suc}

@@ -1,3 +1,4 @@
 pub mod Entry
 pub mod Thin
 pub mod Lends
+pub mod Hands

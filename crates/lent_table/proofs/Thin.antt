@@ -1,5 +1,6 @@
 -- The entries over the whole table: it is handed to a function by value, and the table that this gives is stored back.
---     whole        the callee's type, for `Answered.antt` of `lent_walks`.        meets     the entry's contract, from what a call gives: `InPlace.antt`'s walk (`lent_walks`) at `Table` and `Lent`
+--     whole        the callee's type, for `Answered.antt` of `lent_walks`.
+--     meets     the entry's contract, from what a call gives: `InPlace.antt`'s walk (`lent_walks`) at `Table` and `Lent`
 -- Assumes nothing.
 use mathlib.Core.Path.{refl, ap, subst}
 use Prim.Native.Nat.{ℕ, suc}

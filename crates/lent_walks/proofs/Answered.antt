@@ -65,7 +65,7 @@ module _ (B : Answered) where
   taking {n} cs = record { signature = record { lifetimes = n; outlives = []; params = plain (λ κs. row (B .T)) ∷ cs; result = plain (λ κs. row (B .F)) }; kept = (yes, all yes cs) }
 
   -- what whoever holds what the callee gives knows of its two fields
-  told : {M : Type 1} (𝓤 : URA M) (H : Heap 𝓤) (A : Atoms 𝓤) (W : Given 𝓤 H A) (w r : B .F .D) (v : Val) → r ≡ w → Is (row (B .F)) r (v ∷ []) → Known w r v
+  pub told : {M : Type 1} (𝓤 : URA M) (H : Heap 𝓤) (A : Atoms 𝓤) (W : Given 𝓤 H A) (w r : B .F .D) (v : Val) → r ≡ w → Is (row (B .F)) r (v ∷ []) → Known w r v
   told 𝓤 H A W w r v e is = (
     (
       ap only (LL.tells (B .F) (B .F′) r _ is) ∙ B .val-F r,

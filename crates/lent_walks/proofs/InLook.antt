@@ -55,7 +55,8 @@ module _ {M : Type 1} (𝓤 : URA M) (H : Heap 𝓤) (A : Atoms 𝓤) (W : Given
   walk gave leaves =
       qed W (‵ (fshr-bor κ (λ s. partAt R s h b o)) ∷ ‵ (flft κ q) ∷ Lent ∷ []) ∵ enter ! C Λ (fn n ρ τ τA ws f) (vptr b o ∷ vs) _ $
       alloc1 ! (λ l₀. alloc1 ! (λ l₁. alloc-args ! (args ws) (λ bs. alloc1 ! (λ lT. alloc-args ! (temps ws) (λ cs. alloc0 ! $ params1 ! $ pass1 ! (init ! 4 refl (tt, tt)) $ move ! (3 ∷ []) $ pass-args ! (args ws) bs vs ty _ $
-      -- [the arguments; room for what lends again; room for the table at 2; the reference at 4; room for the answer at 6; the borrow; the token; what is lent]: the borrow is looked into
+      -- [the arguments; room for what lends again; room for the table at 2; the reference at 4; room for the answer at 6; the borrow; the token;
+      -- what is lent]: the borrow is looked into
       move ! (8 ∷ 9 ∷ []) $ looks ! tt R (Is R) (shows 𝓤 H A R) (λ d. val d ∷ []) tells twice h b o (λ q′ us. spelt ! R (Is R) (shows 𝓤 H A R) (λ d. val d ∷ []) tells q′ h us b o $
       rewrite ! 0 (λ (σs : List Ty). ‵ (cellAt q′ σs (val h ∷ []) b o)) mir-is refl $ move ! (1 ∷ []) $ peeks ! R (Is R) (shows 𝓤 H A R) h (val h ∷ []) (λ was.
       -- [what a table owns; a share of the table's cell; the open borrow; the borrow; the arguments; 5; 6; 8; 10; what is lent]

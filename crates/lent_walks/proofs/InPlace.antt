@@ -2,8 +2,10 @@
 --     fn g(t: &mut Table, a1, .., ak) -> Answer { let r = f(*t, a1, .., ak); *t = r.table; r.answer }
 -- No type is written out, so the walk does not grow with the table's shape.
 --     fn           the function's MIR. A function's `code.function` is this at its own types, by computation
---     Result r v   what the walk has of the call's result: its machine value v is the struct of the two fields' values, which have their MIR types, and the table's relation holds
---     Gives v      what the call is to give for `Lent`: `Back`, and some r with `Result r v` and what is wanted of r at exit, `Good r`. `Kept` stays with the entry
+--     Result r v   what the walk has of the call's result: its machine value v is the struct of the two fields' values, which have their MIR types,
+--                  and the table's relation holds
+--     Gives v      what the call is to give for `Lent`: `Back`, and some r with `Result r v` and what is wanted of r at exit, `Good r`.
+--                  `Kept` stays with the entry
 --     walk         from that, and from what is to be shown at exit
 -- Assumes `Given`.
 use mathlib.Core.Path.{_≡_, refl, sym}
@@ -31,7 +33,8 @@ use denote.Struct.Steps.{spelt}
 use denote.Triple.Call.{calls-from}
 use Rattle.lent_walks.proofs.Args.{locs, past, copies, past-is, alloc-args, pass-args, free-args, at-place, swapped, read-args}
 
--- n is the number of the function's lifetimes, ρ the table's type as MIR writes it behind a reference, τ the same spelled out, τA the answer's, ν the name of the struct of the two, τs the arguments'
+-- n is the number of the function's lifetimes, ρ the table's type as MIR writes it behind a reference, τ the same spelled out, τA the answer's,
+-- ν the name of the struct of the two, τs the arguments'
 abbrev pub fn : (n : ℕ) (ν : Sym) (ρ τ τA : Ty) (τs : List Ty) → Name → Fn
 fn n ν ρ τ τA τs f = record {
   lifetimes = n;
@@ -64,7 +67,8 @@ module _ {M : Type 1} (𝓤 : URA M) (H : Heap 𝓤) (A : Atoms 𝓤) (W : Given
   walk gave leaves =
       qed W (‵ (fobs γ (R .coded .code h)) ∷ ‵ (fbor κ (Body (mem R) b o γ)) ∷ ‵ (flft κ q) ∷ Lent ∷ Kept ∷ []) ∵ enter ! C Λ (fn n ν ρ τ τA τs f) (vptr b o ∷ vs) _ $
       alloc1 ! (λ l₀. alloc1 ! (λ l₁. alloc-args ! τs (λ bs. alloc1 ! (λ lF. alloc1 ! (λ lT. alloc0 ! $ params1 ! $ pass1 ! (init ! 5 refl (tt, tt)) $ move ! (4 ∷ []) $ pass-args ! τs bs vs ty _ $
-      -- [the arguments; room for the table at 1; for the result of the call at 3; the reference at 5; room for the answer at 7; obs; the borrow; the token; what is lent; what is kept]: the borrow is opened
+      -- [the arguments; room for the table at 1; for the result of the call at 3; the reference at 5; room for the answer at 7; obs; the borrow; the token;
+      -- what is lent; what is kept]: the borrow is opened
       move ! (9 ∷ 10 ∷ 11 ∷ []) $ opens ! tt R {h = h} b o (λ us. spelt ! R (Is R) (shows 𝓤 H A R) (λ d. val d ∷ []) tells fullShare h us b o $
       rewrite ! 0 (λ (σs : List Ty). ‵ (cellAt fullShare σs (val h ∷ []) b o)) mir-is refl $ move ! (1 ∷ []) $ peeks ! R (Is R) (shows 𝓤 H A R) h (val h ∷ []) (λ was.
       -- [what a table owns; the table's cell; the open borrow; obs; auth; the arguments; 6; 8; 10; 12; what is lent; what is kept]

@@ -80,7 +80,8 @@ module _ {M : Type 1} (𝓤 : URA M) (H : Heap 𝓤) (A : Atoms 𝓤) (W : Given
     walk gave fits leaves =
         qed W (Tok ∷ ‵ Own ∷ Kept ∷ []) ∵ enter ! C Λ (fn n ν ρ τ τA τs f) (val h ∷ vs) _ $
         alloc1 ! (λ l₀. alloc1 ! (λ l₁. alloc-args ! τs (λ bs. alloc1 ! (λ lM. alloc1 ! (λ lA. alloc1 ! (λ lR. alloc1 ! (λ lT. alloc0 ! $ params1 ! $ pass1 ! (init ! 9 refl (typed h was)) $ move ! (8 ∷ []) $ pass-args ! τs bs vs ty _ $
-        -- [the arguments; room for the copy at 1; for the reference at 3; for the answer at 5; for what is lent at 7; the parameter at 9; room for the result at 11; the tokens; what the arguments own; what is kept]
+        -- [the arguments; room for the copy at 1; for the reference at 3; for the answer at 5; for what is lent at 7; the parameter at 9;
+        -- room for the result at 11; the tokens; what the arguments own; what is kept]
         assigns ! (of-opd ! (load ! (from ! (stop !)) (look ! 9 refl))) (at-place ! (past-is 𝓤 H τs bs _ 0) (stop !)) (init ! 7 refl (typed h was)) $
         assigns ! (addr ! (at-place ! (past-is 𝓤 H τs bs _ 0) (stop !))) (at-place ! (past-is 𝓤 H τs bs _ 2) (stop !)) (init ! 3 refl (tt, tt)) $
         move ! (7 ∷ []) $ use1 W (‵ (mem R .lies h lM 0)) (laid lM h was) $ lft-new ! tt (λ α. move ! (1 ∷ []) $

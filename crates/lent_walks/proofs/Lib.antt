@@ -3,6 +3,7 @@ pub mod Args
 pub mod Called
 pub mod Elem
 pub mod Handing
+pub mod InHand
 pub mod InLook
 pub mod InPlace
 pub mod Lender

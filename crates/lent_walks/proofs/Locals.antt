@@ -1,7 +1,9 @@
--- The locals of a function past its arguments, all at once, in a walk by hand. Each has two entries of the context, in the order of the locals: what it holds, or room, and that it dies.
+-- The locals of a function past its arguments, all at once, in a walk by hand.
+-- Each has two entries of the context, in the order of the locals: what it holds, or room, and that it dies.
 --     cells            these entries, where os tells for each local what it holds, as far as it goes
 --     alloc-all, free-all      `types.Run`'s `alloc1` and `free1`, for all of them.        span     so many indices in a row, to move them by
---     var, val         the local numbered k past the arguments of a function that takes two more before these: as a place, and its value from where it stands in the context
+--     var, val         the local numbered k past the arguments of a function that takes two more before these:
+--                      as a place, and its value from where it stands in the context
 -- Assumes `Given`.
 use mathlib.Core.Path.{_≡_, refl}
 use Prim.Native.Nat.{ℕ, zero, suc}

@@ -1,4 +1,5 @@
--- How an entry hands its arguments on to a callee: a plain one is copied, and a `&mut` slice is lent again, by a pointer to its first element and a struct of the pointer and the count, in two locals.
+-- How an entry hands its arguments on to a callee: a plain one is copied, and a `&mut` slice is lent again,
+-- by a pointer to its first element and a struct of the pointer and the count, in two locals.
 -- `Args.antt` holds the arguments' locals, and the two of each slice, in one entry of the context each.
 --     args, temps, operands    the arguments' types; those of the locals that lend slices again; and the operands of the call
 --     relend                   the statements that lend each slice again, before rest
@@ -89,7 +90,8 @@ module _ {M : Type 1} {𝓤 : URA M} {H : Heap 𝓤} {A : Atoms 𝓤} {K : Type 
   relends k (copied τ ∷ ws) bs cs (v ∷ vs) sp ty i t E′ E″ e f = step (λ s. fsplit k $ move k (1 ∷ []) $ fsplit k $ move k (1 ∷ 3 ∷ []) $
       relends k ws (bs .1) cs vs sp (ty .1) (λ j. i (suc j)) t E′ E″ (λ j. e (suc j)) f $ move k (2 ∷ 0 ∷ []) $ fjoin k $ move k (2 ∷ 0 ∷ []) $ fjoin k $ s)
   relends k (lent ℓ ρ ∷ ws) bs cs (v ∷ vs) sp ty i t E′ E″ e f = step (λ s. fsplit k $ move k (1 ∷ []) $ fsplit k $ move k (3 ∷ []) $ fsplit k $ move k (1 ∷ []) $ fsplit k $ move k (1 ∷ []) $ fsplit k $ move k (1 ∷ []) $ fsplit k $
-      -- [what frees the slice's local; the other slices' locals; room for the slice at 2; what frees the pointer's local; room for the pointer at 4; what frees the argument; the other arguments at 6; the argument at 7]
+      -- [what frees the slice's local; the other slices' locals; room for the slice at 2; what frees the pointer's local; room for the pointer at 4;
+      -- what frees the argument; the other arguments at 6; the argument at 7]
       rewrite k 7 (λ (u : Val). ‵ (fat fullShare (sliceTy (tyRef ℓ mut ρ)) (bs .0) 0 u)) (sp .0 .is) refl $
       assigns k (addr k (at-place k (e 0) (fld k refl (hop k (look-in k 7 (sub k 0 refl (whole k))) (stop k))))) (at-place k (f 0) (stop k)) (init k 4 refl (tt, tt)) $
       assigns k (agg k (and-then k (load k (at-place k (f 0) (stop k)) (look k 4 refl)) (and-then k (load k (at-place k (e 0) (fld k refl (stop k))) (look-in k 7 (sub k 1 refl (whole k)))) (no-more k))))

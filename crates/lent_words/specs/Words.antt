@@ -4,12 +4,18 @@ use Rattle.watch_rules.specs.declared.Answer.{Answer}
 use Rattle.watch_rules.specs.declared.Answer.the-variants as answer
 use Rattle.watch_rules.specs.declared.Setting.{Setting}
 use Rattle.watch_rules.specs.declared.Setting.the-variants as setting
-use Rattle.plain_words.specs.Words.{refusalWord}
+use Rattle.plain_words.specs.Words.{Outcome, answers, refuses, outcomeWord}
+
+abbrev pub answerOutcome : Answer → Outcome
+answerOutcome (answer.Findings n) = answers n
+answerOutcome (answer.Refused w) = refuses w
 
 abbrev pub answerWord : Answer → ℕ
-answerWord (answer.Findings n) = n
-answerWord (answer.Refused w) = refusalWord w
+answerWord a = outcomeWord (answerOutcome a)
+
+abbrev pub settingOutcome : Setting → Outcome
+settingOutcome setting.Done = answers 0
+settingOutcome (setting.Refused w) = refuses w
 
 abbrev pub settingWord : Setting → ℕ
-settingWord setting.Done = 0
-settingWord (setting.Refused w) = refusalWord w
+settingWord a = outcomeWord (settingOutcome a)

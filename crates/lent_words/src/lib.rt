@@ -1,4 +1,5 @@
-// The operations of `watch` that set posts up and release them, by value and with their answers as words: what `lent_settings` hands the whole of a lent table to.
+// The operations of `watch` that set posts up and release them, by value and with their answers as words:
+// what `lent_settings` hands the whole of a lent table to.
 // Whoever calls from Rattle and wants words may use them too.
 ghost use mathlib.Core.Path.{_≡_};
 ghost use Rattle.lent_words.specs.Words.{answerWord, settingWord};

@@ -1,4 +1,5 @@
 pub mod Wholes
+pub mod Entries
 pub mod Records
 pub mod Logs
 pub mod Bads

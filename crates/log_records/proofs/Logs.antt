@@ -101,7 +101,7 @@ reads-at (x ∷ rs) s at (suc k) h le d =
 pub log-reads : (rs : List Rec) → AllLoggable rs → logOf (logBytes rs) ≡ whole rs
 log-reads rs h = reads-at rs (logBytes rs) 0 (length (logBytes rs)) h (omega arith) refl
 
-records-whole : (rs : List Rec) → recordsIn (whole rs) ≡ rs
+pub records-whole : (rs : List Rec) → recordsIn (whole rs) ≡ rs
 unfolding recordsIn whole
 records-whole [] = refl
 records-whole (x ∷ rs) = ap (λ (l : List Rec). x ∷ l) (records-whole rs)

@@ -14,15 +14,9 @@ use Rattle.refusals.specs.declared.Refusal.the-variants.{LogChannel, LogLength,
 use Rattle.refusals.specs.Refusals.{numberOf}
 use Rattle.log_write.specs.declared.Logged.{Logged}
 use Rattle.log_write.specs.declared.Logged.the-variants.{Bytes, Refused}
-use Rattle.log_numbers.specs.Number.{InWord}
 use Rattle.log_records.specs.Record.{Rec, tick, frame, identifiers, recordBytes, Loggable}
 use Rattle.log_records.specs.Reading.{aboveOf}
-use Rattle.log_write.specs.Writing.{judged, writtenOf, stored, bufferAfter}
-
--- the time is a 32-bit number, as every time that the writer is handed
-abbrev pub Timed : Rec → Type 0
-Timed (tick t c) = InWord t
-Timed (frame t c x i p) = InWord t
+use Rattle.log_write.specs.Writing.{Timed, judged, writtenOf, stored, bufferAfter}
 
 -- the answer to a record of l bytes that the log can hold
 abbrev roomed : List ℕ → ℕ → Logged

@@ -8,8 +8,14 @@ use lib.Dec.{ltb, leb}
 use Rattle.refusals.specs.declared.Refusal.the-variants.{LogChannel, LogLength, ShortBuffer}
 use Rattle.log_write.specs.declared.Logged.{Logged}
 use Rattle.log_write.specs.declared.Logged.the-variants.{Bytes, Refused}
+use Rattle.log_numbers.specs.Number.{InWord}
 use Rattle.log_records.specs.Record.{Rec, tick, frame, identifiers, recordBytes}
 use Rattle.log_records.specs.Reading.{aboveOf}
+
+-- the time is a 32-bit number, as every time that the writer is handed
+abbrev pub Timed : Rec → Type 0
+Timed (tick t c) = InWord t
+Timed (frame t c x i p) = InWord t
 
 -- what the log cannot hold is refused, the earliest bad part deciding; all else goes on
 abbrev pub judged : Rec → Logged → Logged

@@ -1,4 +1,5 @@
-// A message of its kind's number: of its signals' raw numbers, and of a payload number. For the reader, and for what hands out messages that it keeps by number.
+// A message of its kind's number: of its signals' raw numbers, and of a payload number. For the reader, and for what hands out messages that it keeps by
+// number.
 ghost use mathlib.Core.Path.{_≡_};
 ghost use Rattle.message_fields.specs.Fields.{at};
 ghost use Rattle.message_build.specs.Built.{builtOf, messageOf};

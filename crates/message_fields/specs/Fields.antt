@@ -1,4 +1,5 @@
--- A field's value of its signal's raw number, and back. Every raw number of the pages fits its field (`Field` of proofs/FieldLaws.antt); for any other the field takes the low bits, or 0.
+-- A field's value of its signal's raw number, and back. Every raw number of the pages fits its field (`Field` of proofs/FieldLaws.antt); for any other the
+-- field takes the low bits, or 0.
 use Prim.Native.Nat.{ℕ, _*_, _/_, _%_}
 use mathlib.Core.Bool.{Bool, true, false, cond}
 use mathlib.Core.List.{List}

@@ -12,23 +12,24 @@ use lib.Seq.{take-all}
 use borrow.Author.Tests.{le-leb}
 use Rattle.payload.specs.Payload.{bytesOf, storedIn, Bytes}
 use Rattle.page_read.specs.declared.Judged.the-variants.{Frame}
-use Rattle.refusals.specs.declared.Refusal.the-variants.{NoRawNumber, ShortBuffer}
+use Rattle.refusals.specs.declared.Refusal.the-variants.{NoRawNumber}
 use Rattle.page_write.specs.declared.Written.{Written}
-use Rattle.page_write.specs.declared.Written.the-variants.{Wrote, Refused}
+use Rattle.page_write.specs.declared.Written.the-variants.{Refused}
 use Rattle.page_rows.specs.Table.{rowsOf, identifierOf, extendedOf, lengthOf, bigOf}
 use Rattle.page_read.specs.Judge.{unlabelled, judgeOf}
 use Rattle.page_rows.specs.Table.{signalCount}
-use Rattle.page_write.specs.Raws.{wholesOf, pad, allTake, packedOn, canWrite, rawsOf, writeRawsOf, bufferAfter}
+use Rattle.page_write.specs.Raws.{wholesOf, pad, allTake, packedOn, canWrite, rawsOf, writtenBy, writeRawsOf, bufferAfter}
 use Rattle.page_rows.proofs.Rules.{both-true, few}
 use Rattle.page_write.proofs.Trips.{accepted, raws-back, raws-there, wholes-length, all-pad, packed-pad}
 use Rattle.message_fields.specs.Fields.{at}
-use Rattle.message_laws.proofs.Fitting.{allFit, labelsAt, take-fit, at-pad}
+use Rattle.message_laws.specs.Fits.{allFit}
+use Rattle.message_laws.proofs.Fitting.{labelsAt, take-fit, at-pad}
 
 -- the message x of a payload's numbers: its kind, its numbers, and that each of its values has one
 abbrev pub Back : {M : Type 0} → (M → ℕ) → (M → List ℤ) → (M → Bool) → ℕ → List ℤ → M → Type 0
 Back kind raws valued k zs x = (kind x ≡ k) × (raws x ≡ zs) × (valued x ≡ true)
 
--- a type of messages: the kind of each, its raw numbers, whether each of its values has one, the message that a kind's numbers make, and the kinds that are its own
+-- a type of messages: the kind of each, its raw numbers, whether each of its values has one, the message that a kind's numbers make, and its own kinds
 pub record Codec {M : Type 0} (kind : M → ℕ) (raws : M → List ℤ) (valued : M → Bool) (built : ℕ → (ℕ → ℤ) → M) (own : ℕ → Type 0) : Type 0 where
   pub counted : (x : M) → length (raws x) ≡ length (rowsOf (kind x))
   pub known : (x : M) → 1 ≤ length (rowsOf (kind x))
@@ -70,10 +71,9 @@ module _ {M : Type 0} {kind : M → ℕ} {raws : M → List ℤ} {valued : M →
 
   -- ---- writing
 
-  -- 01: 7, "a value to be written has no raw number, or a raw number does not fit its signal", then 8, "lent buffer shorter than the message"
+  -- 7, then 8
   abbrev answer : M → List ℕ → Bool → Written
-  answer x buf fits =
-      cond fits (cond (leb (lengthOf (kind x)) (length buf)) (Wrote (identifierOf (kind x)) (lengthOf (kind x))) (Refused ShortBuffer)) (Refused NoRawNumber)
+  answer x buf fits = writtenBy (kind x) fits (leb (lengthOf (kind x)) (length buf))
 
   pub answers : (x : M) (buf : List ℕ) → cond (valued x) (writeRawsOf (kind x) (pad signalCount (raws x)) buf) (Refused NoRawNumber) ≡ answer x buf (writable x)
   unfolding writeRawsOf
@@ -105,6 +105,10 @@ module _ {M : Type 0} {kind : M → ℕ} {raws : M → List ℤ} {valued : M →
     pub sized : lengthOf (kind x) ≡ length bs
     pub bytes : bytes x ≡ bs
 
+  -- the message of a frame's number: its kind, its numbers, and that each value has one
+  pub back-is : (k n : ℕ) → own k → unlabelled n (rowsOf k) ≡ false → Back kind raws valued k (wholesOf n (rowsOf k)) (built k (at (rawsOf k n)))
+  back-is k n o u = subst (Back kind raws valued k (wholesOf n (rowsOf k))) (sym (of-wholes built k n)) (c .back k n o u)
+
   pub same : (m : ℕ) (extended : Bool) (bs : List ℕ) (k n : ℕ) → judgeOf m extended bs ≡ Frame k n → own k → Bytes bs → Same m extended bs (built k (at (rawsOf k n)))
   unfolding rawsOf
   same m extended bs k n j o hb =
@@ -113,7 +117,7 @@ module _ {M : Type 0} {kind : M → ℕ} {raws : M → List ℤ} {valued : M →
       let rs = rowsOf k in
       let zs = wholesOf n rs in
       let x = built k (at (rawsOf k n)) in
-      let b : Back kind raws valued k zs x = subst (Back kind raws valued k zs) (sym (of-wholes built k n)) (c .back k n o (t .labelled)) in
+      let b : Back kind raws valued k zs x = back-is k n o (t .labelled) in
       let l : length rs ≤ length zs = omega (arith, wholes-length n rs) in
       let taken : allTake rs zs ≡ true = sym (all-pad signalCount rs zs (few k) l) ∙ both-true (leb 1 (length rs)) (allTake rs (pad signalCount zs)) (r .writes) .1 in
       let number : payload x ≡ n

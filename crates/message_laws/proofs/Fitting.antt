@@ -14,12 +14,7 @@ use Rattle.page_write.specs.Raws.{pad, allTake}
 use Rattle.page_rows.proofs.Rules.{both-true}
 use Rattle.page_write.proofs.Trips.{pad-same}
 use Rattle.message_fields.specs.Fields.{at}
-
--- each number fits its signal
-abbrev pub allFit : List Row → List ℤ → Bool
-allFit [] zs = true
-allFit (r ∷ rs) [] = false
-allFit (r ∷ rs) (z ∷ zs) = fitsIn (r .signed) (r .width) z && allFit rs zs
+use Rattle.message_laws.specs.Fits.{allFit}
 
 -- each label is its signal's
 abbrev pub labelsAt : List Row → List ℤ → Bool

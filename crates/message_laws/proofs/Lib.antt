@@ -3,4 +3,5 @@ pub mod Signals
 pub mod Fitting
 pub mod Ways
 pub mod Codec
+pub mod Changing
 pub mod Upto

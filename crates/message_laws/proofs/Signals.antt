@@ -16,20 +16,14 @@ use Rattle.signal.proofs.RawLaws.{value-fits}
 use Rattle.page_rows.specs.declared.Row.{Row}
 use Rattle.page_rows.specs.Table.{noRow, rowsOf, lowest, bitsAt, takes}
 use Rattle.page_read.specs.Judge.{unlabelled}
-use Rattle.page_write.specs.Raws.{wholeAt, rowTakes, allTake}
+use Rattle.page_write.specs.Raws.{wholeAt, allTake}
 use Rattle.page_rows.proofs.Rules.{both-true, either-false}
+use Rattle.page_write.proofs.Trips.{takes-at}
 use Rattle.message_fields.specs.Fields.{at}
 use Rattle.message_fields.proofs.FieldLaws.{Field}
 use Rattle.message_laws.proofs.Labelled.{Label, signalAt}
 
 -- ---- a message's numbers
-
-takes-at : (rs : List Row) (zs : List ℤ) → allTake rs zs ≡ true → (j : ℕ) → j < length rs → rowTakes (getD rs j noRow) (at zs j) ≡ true
-unfolding allTake
-takes-at [] zs e j h = absurd (not-suc-le-zero h)
-takes-at (r ∷ rs) [] e j h = absurd (let z : _≡_ {A = ℕ} 0 1 = cc in omega arith)
-takes-at (r ∷ rs) (z ∷ zs) e zero h = both-true (rowTakes r z) (allTake rs zs) e .0
-takes-at (r ∷ rs) (z ∷ zs) e (suc j) h = takes-at rs zs (both-true (rowTakes r z) (allTake rs zs) e .1) j (le-of-suc-le-suc h)
 
 pub fits-at : (k : ℕ) (zs : List ℤ) → allTake (rowsOf k) zs ≡ true → (j : ℕ) → T (ltb j (length (rowsOf k))) → fitsIn (signalAt k j .signed) (signalAt k j .width) (at zs j) ≡ true
 fits-at k zs e j t =

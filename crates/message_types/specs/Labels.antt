@@ -1,4 +1,5 @@
--- The label tables of documents 000 and 004: each label with its number. A raw number without a label is refused (`unlabelled` of pages) before its label is asked; the last one stands there.
+-- The label tables of documents 000 and 004: each label with its number. A raw number without a label is refused (`unlabelled` of pages) before its label is
+-- asked; the last one stands there.
 use Prim.Native.Nat.{ℕ}
 use mathlib.Core.Bool.{cond}
 use lib.Dec.{eqb}

@@ -169,7 +169,8 @@ pub struct EvId {
     pub byte5: u8,
 }
 
-// ---- messages of the safety controller and its host: a duty is the raw number of tenths of a percent, above 1,000 too, and a temperature that of tenths of a degree
+// ---- messages of the safety controller and its host: a duty is the raw number of tenths of a percent, above 1,000 too, and a temperature that of tenths of
+// a degree
 
 pub struct ChargeControl1 {
     pub duty: u16,

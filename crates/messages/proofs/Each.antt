@@ -16,7 +16,8 @@ use Rattle.page_read.specs.Judge.{unlabelled}
 use Rattle.page_write.specs.Raws.{wholesOf, allTake}
 use Rattle.page_rows.proofs.Rules.{both-true}
 use Rattle.message_fields.specs.Fields.{at}
-use Rattle.message_laws.proofs.Fitting.{allFit, labelsAt}
+use Rattle.message_laws.specs.Fits.{allFit}
+use Rattle.message_laws.proofs.Fitting.{labelsAt}
 use Rattle.message_laws.proofs.Codec as codecs
 use Rattle.message_laws.proofs.Upto.{From, done, _⨾_, upto}
 use Rattle.message_types.specs.declared.Message.{Message}

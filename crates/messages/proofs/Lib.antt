@@ -1,2 +1,5 @@
 pub mod Each
 pub mod Trips
+pub mod Changing
+pub mod E7
+pub mod Refusing

@@ -1,40 +1,34 @@
 -- 01: "Every allowed frame is read to its one message; writing it gives the same bytes, and what is written reads back as itself"
--- (`read-write`, `write-read`, `one-message`), of every kind at once, each in its form and byte order. A changed frame is read to the message of its
--- number (`change-message`), and a refused message leaves the buffer whole (`write-refused`). Assumes nothing.
+-- (`read-write`, `write-read`, `one-message`), of every kind at once, each in its form and byte order. A refused message leaves the buffer whole
+-- (`write-refused`). Assumes nothing.
 use mathlib.Core.Path.{_≡_, refl, sym, ap, ap₂, _∙_, subst}
-use mathlib.Core.Bool.{Bool, true, false, cond, _&&_}
+use mathlib.Core.Bool.{Bool, true, false, cond}
 use mathlib.Core.List.{List, _++_}
 use Prim.Native.Nat.{ℕ, _≤_}
 use native.Mathlib.Omega.{arith}
 use lib.Dec.{leb}
 use lib.ListN.{length, take, drop}
-use lib.IntN.{ℤ}
 use lib.Seq.{take-at, drop-at}
 use borrow.Author.Tests.{le-leb, leb-true, leb-false}
-use Rattle.payload.specs.Payload.{bytesOf, storedIn, Bytes}
-use Rattle.payload.proofs.Orders.{length-of, are-of}
+use Rattle.payload.specs.Payload.{storedIn, Bytes}
+use Rattle.payload.proofs.Orders.{length-of}
 use Rattle.payload.proofs.Stored.{stored-in, stored-not}
 use Rattle.page_read.specs.declared.Judged.{Judged}
 use Rattle.page_read.specs.declared.Judged.the-variants as judged
 use Rattle.refusals.specs.declared.Refusal.{Refusal}
-use Rattle.refusals.specs.declared.Refusal.the-variants.{NoRawNumber, ShortBuffer}
-use Rattle.page_write.specs.declared.Written.{Written}
 use Rattle.page_write.specs.declared.Written.the-variants as written
-use Rattle.page_rows.specs.Table.{rowsOf, identifierOf, extendedOf, lengthOf, bigOf}
+use Rattle.page_rows.specs.Table.{identifierOf, lengthOf, bigOf}
 use Rattle.page_read.specs.Judge.{judgeOf}
-use Rattle.page_write.specs.Raws.{packedOn}
-use Rattle.page_change.specs.Change.{changeOf, bytesAfter}
 use Rattle.page_write.proofs.Trips.{accepted}
-use Rattle.page_change.proofs.Changes.{change-read}
 use Rattle.message_types.specs.declared.Message.{Message}
 use Rattle.messages.specs.declared.Reading.the-variants.{Accepted}
 use Rattle.message_build.specs.Built.{messageOf}
 use Rattle.messages.specs.Read.{readingOf, readOf}
-use Rattle.message_take.specs.Take.{rawsOf, hasRaws}
 use Rattle.message_types.specs.KindNumbers.{kindOf}
 use Rattle.messages.specs.Write.{writeOf, bufferAfter}
+use Rattle.messages.specs.Writable.{writable, payloadOf, bytesFor, formOf, answerOf}
+use Rattle.messages.specs.Trips.{WrittenAs}
 use Rattle.messages.proofs.Each.{one-form, codec}
-use Rattle.message_laws.proofs.Fitting.{allFit}
 use Rattle.message_laws.proofs.Codec as codecs
 
 -- ---- reading
@@ -44,7 +38,7 @@ unfolding readOf
 read-frame m extended bs k n e = ap readingOf e
 
 -- the frame of a message that was read
-frame-read : (m : ℕ) (extended : Bool) (bs : List ℕ) (x : Message) → readOf m extended bs ≡ Accepted x
+pub frame-read : (m : ℕ) (extended : Bool) (bs : List ℕ) (x : Message) → readOf m extended bs ≡ Accepted x
     → (k : ℕ) × (n : ℕ) × (judgeOf m extended bs ≡ judged.Frame k n) × (messageOf k n ≡ x)
 unfolding readOf
 frame-read m extended bs x e = go (judgeOf m extended bs) refl e
@@ -54,27 +48,6 @@ frame-read m extended bs x e = go (judgeOf m extended bs) refl e
     go (judged.Refused w) q e = absurd (let z : _≡_ {A = ℕ} 0 1 = cc in omega arith)
 
 -- ---- writing
-
--- each value has a raw number, and each raw number fits its signal
-abbrev pub writable : Message → Bool
-writable x = hasRaws x && allFit (rowsOf (kindOf x)) (rawsOf x)
-
--- the payload number of a message
-abbrev pub payloadOf : Message → ℕ
-payloadOf x = packedOn 0 (rowsOf (kindOf x)) (rawsOf x)
-
--- the message's bytes, in its byte order
-abbrev pub bytesFor : Message → List ℕ
-bytesFor x = bytesOf (bigOf (kindOf x)) (lengthOf (kindOf x)) (payloadOf x)
-
--- the form of its identifier
-abbrev pub formOf : Message → Bool
-formOf x = extendedOf (kindOf x)
-
--- 01: 7, "a value to be written has no raw number, or a raw number does not fit its signal", then 8, "lent buffer shorter than the message"
-abbrev pub answerOf : Message → Bool → Bool → Written
-answerOf x fits room =
-    cond fits (cond room (written.Wrote (identifierOf (kindOf x)) (lengthOf (kindOf x))) (written.Refused ShortBuffer)) (written.Refused NoRawNumber)
 
 abbrev hasRoom : Message → List ℕ → Bool
 hasRoom x buf = leb (lengthOf (kindOf x)) (length buf)
@@ -108,7 +81,8 @@ wrote x buf m k e = go (writable x) (hasRoom x buf) refl refl (sym (write-answer
     go : (a b : Bool) → writable x ≡ a → hasRoom x buf ≡ b → answerOf x a b ≡ written.Wrote m k → Writes x buf m k
     go true true p q e = record { fits = p; room = leb-true (lengthOf (kindOf x)) (length buf) q; identifier = cc; sized = cc }
     go true false p q e = absurd (let z : _≡_ {A = ℕ} 0 1 = cc in omega arith)
-    go false b p q e = absurd (let z : _≡_ {A = ℕ} 0 1 = cc in omega arith)
+    go false true p q e = absurd (let z : _≡_ {A = ℕ} 0 1 = cc in omega arith)
+    go false false p q e = absurd (let z : _≡_ {A = ℕ} 0 1 = cc in omega arith)
 
 -- THEOREM: 01, "lent bytes stay as they were": a refused message leaves the buffer whole
 pub write-refused : (x : Message) (buf : List ℕ) (w : Refusal) → writeOf x buf ≡ written.Refused w → bufferAfter x buf ≡ buf
@@ -127,22 +101,21 @@ same m extended bs x e hb =
     let f = frame-read m extended bs x e in
     subst (codecs.Same codec m extended bs) (f .3) (codecs.same codec m extended bs (f .0) (f .1) (f .2) (accepted m extended bs (f .0) (f .1) (f .2) .some) hb)
 
--- x is written under the identifier m as the bytes bs, into any buffer with room for them, whose other bytes stay
-abbrev pub WrittenAs : ℕ → List ℕ → Message → Type 0
-WrittenAs m bs x = (buf : List ℕ) → length bs ≤ length buf → (writeOf x buf ≡ written.Wrote m (length bs)) × (bufferAfter x buf ≡ bs ++ drop (length bs) buf)
-
 -- a message is read in its kind's form alone
 pub read-form : (m : ℕ) (extended : Bool) (bs : List ℕ) (x : Message) → readOf m extended bs ≡ Accepted x → Bytes bs → formOf x ≡ extended
 read-form m extended bs x e hb = same m extended bs x e hb .form
 
--- THEOREM: 01, "Every allowed frame is read to its one message; writing it gives the same bytes"
-pub read-write : (m : ℕ) (extended : Bool) (bs : List ℕ) (x : Message) → readOf m extended bs ≡ Accepted x → Bytes bs → WrittenAs m bs x
-read-write m extended bs x e hb buf room =
-    let f = same m extended bs x e hb in
+-- it is written as the bytes whose message it is
+pub same-written : (m : ℕ) (extended : Bool) (bs : List ℕ) (x : Message) → codecs.Same codec m extended bs x → WrittenAs m bs x
+same-written m extended bs x f buf room =
     let h : lengthOf (kindOf x) ≤ length buf = omega (arith, f .sized) in (
       writes x buf (f .fits) h ∙ ap₂ written.Wrote (f .identifier) (f .sized),
       stores x buf (f .fits) h ∙ ap₂ (λ (cs : List ℕ) (i : ℕ). cs ++ drop i buf) (f .bytes) (f .sized),
     )
+
+-- THEOREM: 01, "Every allowed frame is read to its one message; writing it gives the same bytes"
+pub read-write : (m : ℕ) (extended : Bool) (bs : List ℕ) (x : Message) → readOf m extended bs ≡ Accepted x → Bytes bs → WrittenAs m bs x
+read-write m extended bs x e hb = same-written m extended bs x (same m extended bs x e hb)
 
 -- ---- a message, as its bytes are read
 
@@ -173,13 +146,3 @@ one-message x y buf buf′ m k k′ e f s =
     let i : formOf x ≡ formOf y = one-form x y (wrote x buf m k e .identifier ∙ sym (wrote y buf′ m k′ f .identifier)) in
     let r : Accepted x ≡ Accepted y = sym p ∙ ap₂ (readOf m) i s ∙ q in
     cc
-
--- THEOREM: a changed frame is read to the message of its number, which is written as the changed bytes
-pub change-message : (m : ℕ) (extended : Bool) (bs : List ℕ) (s : ℕ) (z : ℤ) (k n : ℕ) → changeOf m extended bs s z ≡ judged.Frame k n → Bytes bs
-    → (readOf m extended (bytesAfter bs (changeOf m extended bs s z)) ≡ Accepted (messageOf k n))
-    × WrittenAs m (bytesAfter bs (changeOf m extended bs s z)) (messageOf k n)
-change-message m extended bs s z k n e hb =
-    let cs = bytesAfter bs (changeOf m extended bs s z) in
-    let r : readOf m extended cs ≡ Accepted (messageOf k n) = read-frame m extended cs k n (change-read m extended bs s z k n e hb .0) in
-    let b : Bytes cs = subst Bytes (sym (ap (bytesAfter bs) e)) (are-of (bigOf k) (length bs) n) in
-    (r, read-write m extended cs (messageOf k n) r b)

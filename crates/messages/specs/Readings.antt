@@ -1,4 +1,4 @@
--- 01, "Readings from both sides of each edge": E1* to E7*, and those of 02, Req 02 and Req 04: one table under one statement, closed by computing the definitions.
+-- 01, "Readings from both sides of each edge": E1* to E7*, and those of 02, Req 02 and Req 04: one table under one statement, closed by computing.
 use Prim.Native.Nat.{ℕ}
 use mathlib.Core.Path.{_≡_, refl}
 use mathlib.Core.Bool.{Bool, true, false}
@@ -39,7 +39,8 @@ standard = false
 abbrev extended : Bool
 extended = true
 
--- a frame and its reading; a message, a lent buffer, the answer and the buffer afterwards; a frame, a start bit, a raw number and the bytes afterwards, or the refusal
+-- a frame and its reading; a message, a lent buffer, the answer and the buffer afterwards; a frame, a start bit, a raw number and the bytes afterwards, or the
+-- refusal
 pub data Case : Type 0 where
   reads : Bool → ℕ → List ℕ → Reading → Case
   writes : Message → List ℕ → Written → List ℕ → Case
@@ -57,7 +58,7 @@ All [] = Unit {0}
 All (c ∷ cs) = Holds c × All cs
 
 -- 400.0 V, -12.5 A, 25 °C, -40 °C, Allowed, 200 kOhm, with another temperature of the modules or another insulation
-abbrev e1 : ℤ → ℕ → PowerModulesStatus
+abbrev pub e1 : ℤ → ℕ → PowerModulesStatus
 e1 modules insulation =
     record { voltage = 4000; current = negsuc 124; modules = modules; enclosure = negsuc 39; enable = Allowed; insulation = insulation }
 

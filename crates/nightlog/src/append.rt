@@ -3,11 +3,14 @@ use crate::file;
 use crate::lines;
 use crate::lines::Record;
 use crate::night::Night;
+use crate::night::at_end;
 use crate::night::flushed;
 use crate::night::fresh;
+use crate::night::is_over;
 use crate::night::stored;
 use crate::pieces;
 use crate::say;
+use log_walk::file::front;
 use notation_read::script;
 use std::num::wrapping_add_u64;
 
@@ -50,10 +53,7 @@ fn ended(night: Night, name: &[u8], line: &[u8], room: &mut [u8], out: &mut [u8]
     if night.over {
         return too_long(n, line, out);
     }
-    if have > line.len() {
-        return n;
-    }
-    taken(n, &line[0..have], name, room, out)
+    taken(n, front(line, have), name, room, out)
 }
 
 fn kept(night: Night, line: &mut [u8], b: u8) -> Night {
@@ -98,6 +98,36 @@ fn fed(
     n
 }
 
+// How many bytes were read; none at the input's end, and none where the reading failed, which is said.
+fn counted(got: isize, piece: &[u8]) -> usize {
+    if got < 0 {
+        os::fail(b"nightlog: reading standard input");
+        return 0;
+    }
+    io::count(got, piece)
+}
+
+// All that was written is flushed before more lines are waited for.
+fn read_on(
+    night: Night,
+    name: &[u8],
+    piece: &mut [u8],
+    line: &mut [u8],
+    room: &mut [u8],
+    out: &mut [u8],
+) -> Night {
+    let n = flushed(night, name, out);
+    if n.stopped {
+        return n;
+    }
+    let got = libc::read(libc::STDIN_FILENO, piece);
+    let count = counted(got, piece);
+    if count == 0 {
+        return at_end(n);
+    }
+    fed(n, name, front(piece, count), line, room, out)
+}
+
 fn run(
     night: Night,
     name: &[u8],
@@ -109,65 +139,65 @@ fn run(
     let mut n = night;
     let mut turns = u64::MAX;
     while turns > 0 {
-        n = flushed(n, name, out);
-        if n.stopped {
+        n = read_on(n, name, piece, line, room, out);
+        if is_over(n) {
             return n;
         }
-        let got = libc::read(libc::STDIN_FILENO, piece);
-        if got < 0 {
-            os::fail(b"nightlog: reading standard input");
-            return n;
-        }
-        let count = io::count(got, piece);
-        if count == 0 {
-            return n;
-        }
-        n = fed(n, name, &piece[..count], line, room, out);
         turns -= 1;
     }
     n
 }
 
-// desk.md: "The last line may lack its line feed."
-fn last_line(night: Night, name: &[u8], line: &[u8], room: &mut [u8], out: &mut [u8]) -> Night {
+// A last line that lacks its line feed may be a piece of one, its numbers cut: it is named, and no record is made of it.
+fn last_line(night: Night, line: &[u8], out: &mut [u8]) {
+    let have = night.have;
     if night.stopped {
-        return night;
+        return;
     }
-    if night.have == 0 {
-        return night;
+    if script::is_skipped(front(line, have)) {
+        return;
     }
-    ended(night, name, line, room, out)
+    say::no_line_feed(wrapping_add_u64(night.line, 1), out);
 }
 
 fn finish(night: Night, name: &[u8], out: &mut [u8]) {
     let n = flushed(night, name, out);
-    say::appended(name, n.records, out);
+    if n.lasts {
+        if n.sound {
+            say::appended(name, n.records, out);
+            return;
+        }
+    }
+    say::appended_in_part(name, n.records, n.safe, n.lasts, out);
 }
 
 fn all_lines(start: Night, name: &[u8], piece: &mut [u8], out: &mut [u8]) {
     let mut line = io::large_buffer();
     let mut room = io::large_buffer();
-    let a = run(start, name, piece, &mut line, &mut room, out);
-    let b = last_line(a, name, &line, &mut room, out);
-    finish(b, name, out);
+    let n = run(start, name, piece, &mut line, &mut room, out);
+    last_line(n, &line, out);
+    finish(n, name, out);
 }
 
-fn appended(fd: i32, name: &[u8], piece: &mut [u8], out: &mut [u8]) {
-    let w = pieces::read_file(name, false, piece, out);
+fn appended(fd: i32, lasts: bool, name: &[u8], piece: &mut [u8], out: &mut [u8]) {
+    let c = pieces::read_file(name, false, piece, out);
+    if c.failed {
+        return;
+    }
+    let w = c.walk;
     if !file::is_ready(fd, name, w, out) {
         return;
     }
-    let start = fresh(fd, w.at, w.at < w.size);
-    all_lines(start, name, piece, out);
+    all_lines(fresh(fd, lasts, w.at), name, piece, out);
 }
 
 pub fn from_input(name: &[u8]) {
     let mut piece = io::large_buffer();
     let mut out = io::large_buffer();
-    let fd = file::opened(name, &mut out);
-    if fd < 0 {
+    let o = file::opened(name, &mut out);
+    if o.fd < 0 {
         return;
     }
-    appended(fd, name, &mut piece, &mut out);
-    libc::close(fd);
+    appended(o.fd, o.lasts, name, &mut piece, &mut out);
+    libc::close(o.fd);
 }

@@ -1,6 +1,7 @@
 // The night log in a file (02, Req 01): `append` writes what standard input tells to its end, `show` prints it as desk lines, `check` counts it.
 mod say; // say.rt: what is said on standard error
 mod pieces; // pieces.rt: the records of a file, piece by piece
+mod zeros; // zeros.rt: zeros at a file's end
 mod show; // show.rt: records as lines, and a log's ending
 mod file; // file.rt: the file that is appended to
 mod lines; // lines.rt: a line and its record

@@ -64,6 +64,13 @@ pub fn no_record(line: u64, out: &mut [u8]) {
     ended(q, out);
 }
 
+// A line that may be a piece of one.
+pub fn no_line_feed(line: u64, out: &mut [u8]) {
+    let p = at_line(line, out);
+    let q = text_pen::put(out, p, b": no line feed");
+    ended(q, out);
+}
+
 pub fn refused(line: u64, number: u32, out: &mut [u8]) {
     let p = at_line(line, out);
     let q = notation_answers::answer::named(out, p, b": R", number);
@@ -84,9 +91,59 @@ pub fn cut_back(name: &[u8], at: u64, left: u64, out: &mut [u8]) {
     ended(t, out);
 }
 
-pub fn appended(name: &[u8], records: u64, out: &mut [u8]) {
+// ` bytes where this program left N`
+fn put_other(left: u64, pen: Pen, out: &mut [u8]) -> Pen {
+    let p = text_pen::put(out, pen, b" bytes where this program left ");
+    let q = text_written::put_decimal(out, p, left);
+    text_pen::put(out, q, b": another one writes to it")
+}
+
+pub fn other_length(name: &[u8], found: u64, left: u64, out: &mut [u8]) {
+    let p = about(name, out);
+    let q = text_written::put_decimal(out, p, found);
+    let r = put_other(left, q, out);
+    ended(r, out);
+}
+
+fn put_from(from: u64, pen: Pen, out: &mut [u8]) -> Pen {
+    let p = text_pen::put(out, pen, b" zero bytes at its end, from byte ");
+    let q = text_written::put_decimal(out, p, from);
+    text_pen::put(out, q, b" on")
+}
+
+pub fn zeros(name: &[u8], zeros: u64, from: u64, out: &mut [u8]) {
+    let p = about(name, out);
+    let q = text_written::put_decimal(out, p, zeros);
+    let r = put_from(from, q, out);
+    ended(r, out);
+}
+
+// `nightlog: FILE: N records appended`
+fn put_appended(name: &[u8], records: u64, out: &mut [u8]) -> Pen {
     let p = about(name, out);
     let q = text_written::put_decimal(out, p, records);
-    let r = text_pen::put(out, q, b" records appended");
-    ended(r, out);
+    text_pen::put(out, q, b" records appended")
+}
+
+// All that was appended is flushed, and so is the file's name.
+pub fn appended(name: &[u8], records: u64, out: &mut [u8]) {
+    let p = put_appended(name, records, out);
+    ended(p, out);
+}
+
+fn put_lasting(lasts: bool, pen: Pen, out: &mut [u8]) -> Pen {
+    if lasts {
+        return pen;
+    }
+    text_pen::put(out, pen, b", the name of the file not")
+}
+
+// Of some of it, or of the file's name, nobody knows.
+pub fn appended_in_part(name: &[u8], records: u64, safe: u64, lasts: bool, out: &mut [u8]) {
+    let p = put_appended(name, records, out);
+    let q = text_pen::put(out, p, b", ");
+    let r = text_written::put_decimal(out, q, safe);
+    let t = text_pen::put(out, r, b" flushed");
+    let u = put_lasting(lasts, t, out);
+    ended(u, out);
 }

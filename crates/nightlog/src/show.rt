@@ -1,8 +1,9 @@
 // Records as desk lines on standard output, and how a log ends.
 use crate::pieces;
-use crate::pieces::Ending;
 use crate::say;
 use log_records::Entry;
+use log_records::Found;
+use log_walk::Stand;
 use text_pen::Pen;
 
 // The lines so far are written. A pen that is full stops the walk.
@@ -47,7 +48,7 @@ fn put_frame(out: &mut [u8], pen: Pen, id: u32, extended: bool, bytes: &[u8]) ->
 }
 
 // A record of this log as its line.
-pub fn record(s: &[u8], e: Entry, out: &mut [u8], pen: Pen) -> Pen {
+fn record(s: &[u8], e: Entry, out: &mut [u8], pen: Pen) -> Pen {
     let p = with_room(out, pen);
     if e.tick {
         let q = put_stamp(out, p, b"tick ", e.channel, e.time);
@@ -63,39 +64,44 @@ pub fn record(s: &[u8], e: Entry, out: &mut [u8], pen: Pen) -> Pen {
     )
 }
 
+// What was found in this log, where that is a record.
+pub fn found(s: &[u8], f: Found, out: &mut [u8], pen: Pen) -> Pen {
+    match f {
+        Found::Record(e) => record(s, e, out, pen),
+        Found::End => pen,
+        Found::Cut(_) => pen,
+        Found::Refused(_, _) => pen,
+    }
+}
+
 // `END`, `CUT@BYTE` or `BAD R<n>@BYTE`
-pub fn put_ending(out: &mut [u8], pen: Pen, ending: Ending, at: u64) -> Pen {
-    match ending {
-        Ending::End => text_pen::put(out, pen, b"END"),
-        Ending::Cut => notation_endings::ending::cut(out, pen, at),
-        Ending::Bad(why) => notation_endings::ending::bad(out, pen, why, at),
-        Ending::Failed => pen,
+fn put_ending(out: &mut [u8], pen: Pen, stand: Stand, at: u64) -> Pen {
+    match stand {
+        Stand::Within => pen,
+        Stand::Seam => pen,
+        Stand::End => text_pen::put(out, pen, b"END"),
+        Stand::Cut => notation_endings::ending::cut(out, pen, at),
+        Stand::Bad(why) => notation_endings::ending::bad(out, pen, why, at),
+        Stand::Short => pen,
     }
 }
 
 // Whether a log's ending is still to be said.
-fn is_silent(ending: Ending) -> bool {
-    match ending {
-        Ending::End => true,
-        Ending::Cut => false,
-        Ending::Bad(_) => false,
-        Ending::Failed => true,
-    }
-}
-
-fn is_failed(ending: Ending) -> bool {
-    match ending {
-        Ending::End => false,
-        Ending::Cut => false,
-        Ending::Bad(_) => false,
-        Ending::Failed => true,
+fn is_silent(stand: Stand) -> bool {
+    match stand {
+        Stand::Within => true,
+        Stand::Seam => true,
+        Stand::End => true,
+        Stand::Cut => false,
+        Stand::Bad(_) => false,
+        Stand::Short => true,
     }
 }
 
 // `nightlog: FILE: ENDING` and further words
-pub fn say_ending(name: &[u8], ending: Ending, at: u64, words: &[u8], out: &mut [u8]) {
+pub fn say_ending(name: &[u8], stand: Stand, at: u64, words: &[u8], out: &mut [u8]) {
     let p = say::about(name, out);
-    let q = put_ending(out, p, ending, at);
+    let q = put_ending(out, p, stand, at);
     let r = text_pen::put(out, q, words);
     say::ended(r, out);
 }
@@ -103,32 +109,37 @@ pub fn say_ending(name: &[u8], ending: Ending, at: u64, words: &[u8], out: &mut 
 pub fn lines(name: &[u8]) {
     let mut buf = io::large_buffer();
     let mut out = io::large_buffer();
-    let w = pieces::read_file(name, true, &mut buf, &mut out);
-    let ending = w.ending;
-    let pen = w.pen;
+    let c = pieces::read_file(name, true, &mut buf, &mut out);
+    let pen = c.pen;
     flushed(&out, pen);
-    if is_silent(ending) {
+    if c.failed {
         return;
     }
-    say_ending(name, ending, w.at, b"", &mut out);
+    let w = c.walk;
+    let stand = w.stand;
+    if is_silent(stand) {
+        return;
+    }
+    say_ending(name, stand, w.at, b"", &mut out);
 }
 
 // `N records, ENDING`
-fn put_count(out: &mut [u8], records: u64, ending: Ending, at: u64) -> Pen {
+fn put_count(out: &mut [u8], records: u64, stand: Stand, at: u64) -> Pen {
     let p = text_written::put_decimal(out, Pen { at: 0, full: false }, records);
     let q = text_pen::put(out, p, b" records, ");
-    let r = put_ending(out, q, ending, at);
+    let r = put_ending(out, q, stand, at);
     notation_answers::answer::line_end(out, r)
 }
 
 pub fn count(name: &[u8]) {
     let mut buf = io::large_buffer();
     let mut out = io::large_buffer();
-    let w = pieces::read_file(name, false, &mut buf, &mut out);
-    let ending = w.ending;
-    if is_failed(ending) {
+    let c = pieces::read_file(name, false, &mut buf, &mut out);
+    if c.failed {
         return;
     }
-    let pen = put_count(&mut out, w.records, ending, w.at);
+    let w = c.walk;
+    let stand = w.stand;
+    let pen = put_count(&mut out, w.records, stand, w.at);
     flushed(&out, pen);
 }

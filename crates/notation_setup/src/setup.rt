@@ -31,7 +31,7 @@ pub enum Asked {
 }
 
 // desk.md: "missing: 0"
-pub fn take_sensor(s: &[u8], at: usize) -> Last
+fn take_sensor(s: &[u8], at: usize) -> Last
     ensures { λ r. ⌜ r ≡ sensorOf (now (s .entry)) at ⌝ }
 {
     if at > s.len() {
@@ -40,7 +40,7 @@ pub fn take_sensor(s: &[u8], at: usize) -> Last
     fields::take_last(s, at)
 }
 
-pub fn take_limits(s: &[u8], at: usize) -> Limits
+fn take_limits(s: &[u8], at: usize) -> Limits
     ensures { λ r. ⌜ r ≡ limitsOf (now (s .entry)) at ⌝ }
 {
     let Field::Is(voltage, a) = text_lines::take_u32(s, at) else {

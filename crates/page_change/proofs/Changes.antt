@@ -1,98 +1,92 @@
--- 01: "Changing one signal touches no bit outside it." Of an accepted change (`changeOf m extended bs s z ≡ Frame k n′`): the bytes keep every
--- bit outside the signal (`change-kept`), they are a frame of the same kind (`change-read`), the signal has the number that was asked for and
--- every other signal keeps its own (`change-raws`); a refused change leaves the bytes whole (`change-refused`).
+-- 01: "Changing one signal touches no bit outside it." Of an accepted change (`changeOf m extended bs s z ≡ Frame k n′`): each bit of the signal is that of the
+-- number (`change-bit`) and every other bit as it was (`change-kept`); the bytes are a frame of the same kind (`change-read`), of whose raw numbers the
+-- signal's is the one that was asked for and the others are as they were (`change-raws`, `change-wholes`); a refused change leaves the bytes whole
+-- (`change-refused`).
 -- Assumes nothing.
 use mathlib.Core.Path.{_≡_, refl, sym, ap, ap₂, _∙_, subst}
-use mathlib.Core.Bool.{Bool, true, false, cond, not, _||_}
+use mathlib.Core.Bool.{Bool, true, false}
 use mathlib.Core.Logic.{_⊎_, inl, inr}
 use mathlib.Core.List.{List, [], _∷_}
-use Prim.Native.Nat.{ℕ, suc, _*_, _^_, _<_, _≤_}
+use Prim.Native.Nat.{ℕ, zero, suc, _*_, _^_, _<_, _≤_}
+use native.Mathlib.Nat.{not-suc-le-zero, le-of-suc-le-suc}
 use native.Mathlib.Omega.{arith}
-use lib.Dec.{eqb}
 use lib.IntN.{ℤ}
-use lib.ListN.{length, getD}
-use borrow.Author.Tests.{eqb-true, not-false}
-use Rattle.signal.specs.Signal.{getBits, covers}
+use lib.ListN.{length, getD, set}
+use Rattle.signal.specs.Signal.{getBits, putBits, covers}
 use Rattle.payload.specs.Payload.{numberOf, bytesOf, bitAt, Bytes}
+use Rattle.payload.specs.Order as order
 use Rattle.signal.specs.Raw.{fitsIn, bitsIn, valueIn}
-use Rattle.payload.specs.Order.{place}
 use Rattle.signal.proofs.Laws.{get-put-apart, bit-kept, put-lt}
-use Rattle.signal.proofs.Complement.{half-of}
 use Rattle.signal.proofs.RawLaws.{bits-lt}
 use Rattle.payload.proofs.Orders.{number-bound, length-of, number-of}
-use Rattle.payload.proofs.Words.{bit-of, bit-in}
+use Rattle.payload.proofs.Written.{written-bit, written-kept}
 use Rattle.page_rows.specs.declared.Row.{Row}
 use Rattle.page_rows.specs.declared.Found.{Found}
 use Rattle.page_rows.specs.declared.Found.the-variants.{At, Nothing}
 use Rattle.page_read.specs.declared.Judged.{Judged}
 use Rattle.page_read.specs.declared.Judged.the-variants.{Frame, Refused}
 use Rattle.refusals.specs.declared.Refusal.{Refusal}
-use Rattle.refusals.specs.declared.Refusal.the-variants.{NoLabel, NoRawNumber}
-use Rattle.page_rows.specs.Table.{rows, noRow, rowsOf, lengthOf, bigOf, hasKind, isSignal, firstAt, lowest, bitsAt, Fine, HasBit, takes}
+use Rattle.page_rows.specs.Table.{rows, noRow, rowAt, rowsOf, lengthOf, bigOf, isSignal, firstAt, lowest, bitsAt, Fine, HasBit, takes}
+use Rattle.page_rows.specs.Listed.{Among, SignalAt}
 use Rattle.page_read.specs.Judge.{unlabelled, strayBelow, judgeOf}
-use Rattle.page_write.specs.Raws.{wholeAt, putRaw}
-use Rattle.page_change.specs.Change.{changedAt, changedIn, changeOf, bytesAfter}
+use Rattle.page_write.specs.Taken.{Taken}
+use Rattle.page_write.specs.Raws.{wholeAt, wholesOf, putRaw}
+use Rattle.page_change.specs.Change.{changedBy, changedAt, changedIn, changeOf, bytesAfter}
+use Rattle.page_change.specs.Changed.{Changed}
 use Rattle.page_rows.specs.Rules.{above}
-use Rattle.page_rows.proofs.Rules.{both-true, either-false, Ordered, ordered, row-fine, RowsApart, Among, row-among, among-apart}
+use Rattle.page_rows.proofs.Rules.{Ordered, ordered, row-fine, RowsApart, among-kept, row-message, among-apart, among-from, among-start}
 use Rattle.page_rows.proofs.Firsts.{found-in}
-use Rattle.page_rows.proofs.PageBits.{not-covered, bit-not-covered, bit-past}
+use Rattle.page_rows.proofs.Listed.{at-among, found-signal, signal-found}
+use Rattle.page_rows.proofs.PageBits.{not-covered}
 use Rattle.page_read.proofs.Gaps.{stray-none, stray-zero}
-use Rattle.page_write.proofs.Trips.{Taken, accepted, accepts, bits-put, whole-put}
+use Rattle.page_read.proofs.Answers.{labelled-each, each-labelled}
+use Rattle.page_write.proofs.Trips.{accepted, accepts, bits-put, whole-put}
 
 -- ---- from the answer back to the tests
-
--- the row of the signal
-abbrev pub rowAt : ℕ → Row
-rowAt i = getD rows i noRow
-
--- the lent frame is one of kind k, the signal is the row at `place`, z fits it and has its label, and n′ is the frame's number with z put there
-pub record Changed (m : ℕ) (extended : Bool) (bs : List ℕ) (s : ℕ) (z : ℤ) (k n′ : ℕ) : Type 0 where
-  pub read : Taken m extended bs k (numberOf (bigOf k) bs)
-  pub place : ℕ
-  pub found : firstAt (isSignal k s) 0 rows ≡ At place
-  pub fits : fitsIn (rowAt place .signed) (rowAt place .width) z ≡ true
-  pub labelled : takes (rowAt place .labels) (bitsIn (rowAt place .signed) (rowAt place .width) z) ≡ true
-  pub put : n′ ≡ putRaw (rowAt place) (numberOf (bigOf k) bs) z
 
 pub changed : (m : ℕ) (extended : Bool) (bs : List ℕ) (s : ℕ) (z : ℤ) (k n′ : ℕ) → changeOf m extended bs s z ≡ Frame k n′
     → Changed m extended bs s z k n′
 unfolding changeOf
 changed m extended bs s z k n′ e = outer (judgeOf m extended bs) refl e
   where
-    inner : (k₀ n i : ℕ) (a b : Bool) → judgeOf m extended bs ≡ Frame k₀ n → firstAt (isSignal k₀ s) 0 rows ≡ At i
-        → fitsIn (rowAt i .signed) (rowAt i .width) z ≡ a → takes (rowAt i .labels) (bitsIn (rowAt i .signed) (rowAt i .width) z) ≡ b
-        → cond a (cond b (Frame k₀ (putRaw (rowAt i) n z)) (Refused (NoLabel (rowAt i .start)))) (Refused NoRawNumber) ≡ Frame k n′ → Changed m extended bs s z k n′
-    inner k₀ n i true true j f p q e =
+    inner : (k₀ n : ℕ) (r : Row) (a b : Bool) → judgeOf m extended bs ≡ Frame k₀ n → SignalAt k₀ s r
+        → fitsIn (r .signed) (r .width) z ≡ a → takes (r .labels) (bitsIn (r .signed) (r .width) z) ≡ b
+        → changedBy r k₀ n z a b ≡ Frame k n′ → Changed m extended bs s z k n′
+    inner k₀ n r true true j t p q e =
         let ek : k₀ ≡ k = cc in
-        let en : putRaw (rowAt i) n z ≡ n′ = cc in
+        let en : putRaw r n z ≡ n′ = cc in
         let number : n ≡ numberOf (bigOf k) bs = accepted m extended bs k₀ n j .number ∙ ap (λ (x : ℕ). numberOf (bigOf x) bs) ek in
         record {
           read = accepted m extended bs k (numberOf (bigOf k) bs) (j ∙ ap₂ Frame ek number);
-          place = i;
-          found = subst (λ (x : ℕ). firstAt (isSignal x s) 0 rows ≡ At i) ek f;
+          row = r;
+          signal = subst (λ (x : ℕ). SignalAt x s r) ek t;
           fits = p;
           labelled = q;
-          put = sym en ∙ ap (λ (x : ℕ). putRaw (rowAt i) x z) number;
+          put = sym en ∙ ap (λ (x : ℕ). putRaw r x z) number;
         }
-    inner k₀ n i true false j f p q e = absurd (let z : _≡_ {A = ℕ} 0 1 = cc in omega arith)
-    inner k₀ n i false b j f p q e = absurd (let z : _≡_ {A = ℕ} 0 1 = cc in omega arith)
+    inner k₀ n r true false j t p q e = absurd (let z : _≡_ {A = ℕ} 0 1 = cc in omega arith)
+    inner k₀ n r false true j t p q e = absurd (let z : _≡_ {A = ℕ} 0 1 = cc in omega arith)
+    inner k₀ n r false false j t p q e = absurd (let z : _≡_ {A = ℕ} 0 1 = cc in omega arith)
 
     middle : (k₀ n : ℕ) (f : Found) → judgeOf m extended bs ≡ Frame k₀ n → firstAt (isSignal k₀ s) 0 rows ≡ f → changedAt k₀ n z f ≡ Frame k n′
         → Changed m extended bs s z k n′
     middle k₀ n (At i) j f e =
-        inner k₀ n i (fitsIn (rowAt i .signed) (rowAt i .width) z) (takes (rowAt i .labels) (bitsIn (rowAt i .signed) (rowAt i .width) z)) j f refl refl e
+        let r = rowAt i in
+        inner k₀ n r (fitsIn (r .signed) (r .width) z) (takes (r .labels) (bitsIn (r .signed) (r .width) z)) j (found-signal k₀ s i f) refl refl e
     middle k₀ n Nothing j f e = absurd (let z : _≡_ {A = ℕ} 0 1 = cc in omega arith)
 
     outer : (a : Judged) → judgeOf m extended bs ≡ a → changedIn s z a ≡ Frame k n′ → Changed m extended bs s z k n′
     outer (Frame k₀ n) j e = middle k₀ n (firstAt (isSignal k₀ s) 0 rows) j refl e
     outer (Refused w) j e = absurd (let z : _≡_ {A = ℕ} 0 1 = cc in omega arith)
 
--- the row that is found: among the kind's, and it starts at s
-signal-row : (k s i : ℕ) → firstAt (isSignal k s) 0 rows ≡ At i → Fine (rowAt i) × Among (rowAt i) (rowsOf k) × (rowAt i .start ≡ s)
-signal-row k s i f =
-    let c = found-in (isSignal k s) i f in
-    let p = both-true (hasKind k (rowAt i)) (eqb (rowAt i .start) s) (c .1) in
-    (row-fine i (c .0), row-among k i (c .0) (eqb-true (rowAt i .kind) k (p .0)), eqb-true (rowAt i .start) s (p .1))
+-- a kind's signal at a start is one row, and a fine one
+pub one-row : (k s : ℕ) (r q : Row) → SignalAt k s r → SignalAt k s q → q ≡ r
+one-row k s r q t u = among-start (8 * lengthOf k) 0 r q (rowsOf k) (ordered k) (t .isSignal) (u .isSignal) (t .start ∙ sym (u .start))
+
+pub signal-fine : (k s : ℕ) (r : Row) → SignalAt k s r → Fine r
+signal-fine k s r t =
+    let p = signal-found k s r t in
+    subst Fine (p .2) (row-fine (p .0) (found-in (isSignal k s) (p .0) (p .1) .0))
 
 -- ---- the rows of a kind, one by one
 
@@ -101,19 +95,24 @@ inside n p r [] o m = absurd m
 inside n p r (q ∷ rs) o (inl e) = omega (arith, o .1, ap above e)
 inside n p r (q ∷ rs) o (inr m) = inside n (suc (q .start)) r rs (o .3) m
 
-labelled-each : (n : ℕ) (rs : List Row) → unlabelled n rs ≡ false → (q : Row) → Among q rs → takes (q .labels) (bitsAt n q) ≡ true
-unfolding unlabelled
-labelled-each n [] u q m = absurd m
-labelled-each n (r ∷ rs) u q (inl e) =
-    ap (λ (x : Row). takes (x .labels) (bitsAt n x)) e
-    ∙ not-false (takes (r .labels) (bitsAt n r)) (either-false (not (takes (r .labels) (bitsAt n r))) (unlabelled n rs) u .0)
-labelled-each n (r ∷ rs) u q (inr m) = labelled-each n rs (either-false (not (takes (r .labels) (bitsAt n r))) (unlabelled n rs) u .1) q m
+-- rows in order whose numbers are as they were but for that of row j, which starts at s
+wholes-same : (n n′ : ℕ) (rs : List Row) → ((q : Row) → Among q rs → wholeAt n′ q ≡ wholeAt n q) → wholesOf n′ rs ≡ wholesOf n rs
+unfolding wholesOf
+wholes-same n n′ [] f = refl
+wholes-same n n′ (r ∷ rs) f = ap₂ (λ (x : ℤ) (l : List ℤ). x ∷ l) (f r (inl refl)) (wholes-same n n′ rs (λ q a. f q (inr a)))
 
-each-labelled : (n : ℕ) (rs : List Row) → ((q : Row) → Among q rs → takes (q .labels) (bitsAt n q) ≡ true) → unlabelled n rs ≡ false
-unfolding unlabelled
-each-labelled n [] h = refl
-each-labelled n (r ∷ rs) h =
-    ap (λ (b : Bool). not b || unlabelled n rs) (h r (inl refl)) ∙ each-labelled n rs (λ q m. h q (inr m))
+wholes-set : (b p n n′ s : ℕ) (z : ℤ) (rs : List Row) → Ordered b p rs → (j : ℕ) → j < length rs → getD rs j noRow .start ≡ s → wholeAt n′ (getD rs j noRow) ≡ z
+    → ((q : Row) → Among q rs → (q .start ≡ s → ⊥) → wholeAt n′ q ≡ wholeAt n q) → wholesOf n′ rs ≡ set (wholesOf n rs) j z
+unfolding wholesOf
+wholes-set b p n n′ s z [] o j h at own f = absurd (not-suc-le-zero h)
+wholes-set b p n n′ s z (r ∷ rs) o zero h at own f =
+    ap₂ (λ (x : ℤ) (l : List ℤ). x ∷ l) own
+    (wholes-same n n′ rs (λ q a. f q (inr a) (λ e. omega (arith, among-from b (suc (r .start)) q rs (o .3) a))))
+wholes-set b p n n′ s z (r ∷ rs) o (suc j) h at own f =
+    let l = le-of-suc-le-suc h in
+    ap₂ (λ (x : ℤ) (l : List ℤ). x ∷ l)
+    (f r (inl refl) (λ e. omega (arith, among-from b (suc (r .start)) (getD rs j noRow) rs (o .3) (at-among rs j l))))
+    (wholes-set b (suc (r .start)) n n′ s z rs (o .3) j l at own (λ q a. f q (inr a)))
 
 -- ---- the number with z put into the row r of kind k
 
@@ -159,9 +158,8 @@ module _ (m : ℕ) (extended : Bool) (bs : List ℕ) (s : ℕ) (z : ℤ) (k n′
   small-after : n′ < 2 ^ (8 * lengthOf k)
   small-after =
       let c = changed m extended bs s z k n′ e in
-      let r = signal-row k s (c .place) (c .found) in
       subst (λ (x : ℕ). x < 2 ^ (8 * lengthOf k)) (sym (c .put))
-      (put-small k (numberOf (bigOf k) bs) (rowAt (c .place)) z small-before (r .0) (r .1) (c .fits))
+      (put-small k (numberOf (bigOf k) bs) (c .row) z small-before (signal-fine k s (c .row) (c .signal)) (c .signal .isSignal) (c .fits))
 
   -- what is stored
   stored : bytesAfter bs (changeOf m extended bs s z) ≡ bytesOf (bigOf k) (length bs) n′
@@ -171,13 +169,14 @@ module _ (m : ℕ) (extended : Bool) (bs : List ℕ) (s : ℕ) (z : ℤ) (k n′
   number-after =
       number-of (bigOf k) (length bs) n′ (subst (λ (x : ℕ). n′ < 2 ^ (8 * x)) (sym (changed m extended bs s z k n′ e .read .sized)) small-after)
 
-  -- the bytes are read as a frame of the same kind, with the number n′
+  -- THEOREM: the bytes are read as a frame of the same kind, with the number n′
   pub change-read : (judgeOf m extended (bytesAfter bs (changeOf m extended bs s z)) ≡ Frame k n′)
       × (length (bytesAfter bs (changeOf m extended bs s z)) ≡ length bs)
   change-read =
       let c = changed m extended bs s z k n′ e in
       let t = c .read in
-      let r = signal-row k s (c .place) (c .found) in
+      let fine = signal-fine k s (c .row) (c .signal) in
+      let member = c .signal .isSignal in
       let b = bytesOf (bigOf k) (length bs) n′ in
       let l : length b ≡ length bs = length-of (bigOf k) (length bs) n′ in
       let taken : Taken m extended b k n′
@@ -188,64 +187,86 @@ module _ (m : ℕ) (extended : Bool) (bs : List ℕ) (s : ℕ) (z : ℤ) (k n′
         number = sym number-after;
         some = t .some;
         labelled = ap (λ (x : ℕ). unlabelled x (rowsOf k)) (c .put)
-            ∙ put-labelled k (numberOf (bigOf k) bs) (rowAt (c .place)) z small-before (r .0) (r .1) (c .fits) (c .labelled) (t .labelled);
+            ∙ put-labelled k (numberOf (bigOf k) bs) (c .row) z small-before fine member (c .fits) (c .labelled) (t .labelled);
         clean = ap₂ (λ (x y : ℕ). strayBelow (8 * x) y (rowsOf k)) l (c .put)
-            ∙ put-clean k (numberOf (bigOf k) bs) (rowAt (c .place)) z small-before (r .0) (r .1) (c .fits) (8 * length bs) (t .clean);
+            ∙ put-clean k (numberOf (bigOf k) bs) (c .row) z small-before fine member (c .fits) (8 * length bs) (t .clean);
       } in
       (ap (judgeOf m extended) stored ∙ accepts m extended b k n′ taken, ap length stored ∙ l)
 
-  -- the signal that was asked for is there
-  pub change-found : (i : ℕ) × (firstAt (isSignal k s) 0 rows ≡ At i)
-  change-found = let c = changed m extended bs s z k n′ e in (c .place, c .found)
+  -- THEOREM: the signal that was asked for is there
+  pub change-found : (r : Row) × SignalAt k s r
+  change-found = let c = changed m extended bs s z k n′ e in (c .row, c .signal)
 
   -- of the row of that signal
-  module _ (i : ℕ) (found : firstAt (isSignal k s) 0 rows ≡ At i) where
-    place-is : changed m extended bs s z k n′ e .place ≡ i
-    place-is = let f = changed m extended bs s z k n′ e .found in cc
+  module _ (r : Row) (signal : SignalAt k s r) where
+    row-is : changed m extended bs s z k n′ e .row ≡ r
+    row-is = one-row k s r (changed m extended bs s z k n′ e .row) signal (changed m extended bs s z k n′ e .signal)
 
-    fits-is : fitsIn (rowAt i .signed) (rowAt i .width) z ≡ true
-    fits-is = subst (λ (x : ℕ). fitsIn (rowAt x .signed) (rowAt x .width) z ≡ true) place-is (changed m extended bs s z k n′ e .fits)
+    fits-is : fitsIn (r .signed) (r .width) z ≡ true
+    fits-is = subst (λ (q : Row). fitsIn (q .signed) (q .width) z ≡ true) row-is (changed m extended bs s z k n′ e .fits)
 
-    put-is : n′ ≡ putRaw (rowAt i) (numberOf (bigOf k) bs) z
-    put-is = subst (λ (x : ℕ). n′ ≡ putRaw (rowAt x) (numberOf (bigOf k) bs) z) place-is (changed m extended bs s z k n′ e .put)
+    put-is : n′ ≡ putRaw r (numberOf (bigOf k) bs) z
+    put-is = subst (λ (q : Row). n′ ≡ putRaw q (numberOf (bigOf k) bs) z) row-is (changed m extended bs s z k n′ e .put)
 
-    -- "Changing one signal touches no bit outside it": a bit that the page's signal does not have
-    pub change-kept : (b : ℕ) → (HasBit (rowAt i) b → ⊥) → bitAt (bytesAfter bs (changeOf m extended bs s z)) b ≡ bitAt bs b
-    change-kept b u = ap (λ (l : List ℕ). bitAt l b) stored ∙ go (half-of (8 * length bs) b)
+    -- the bytes, by what the page says of the signal
+    record Paged : Type 0 where
+      within : order.Inside (r .big) (length bs) (r .start) (r .width)
+      narrow : bitsIn (r .signed) (r .width) z < 2 ^ r .width
+      bytes : bytesAfter bs (changeOf m extended bs s z)
+          ≡ bytesOf (r .big) (length bs) (putBits (numberOf (r .big) bs) (order.lowest (r .big) (length bs) (r .start) (r .width)) (r .width) (bitsIn (r .signed) (r .width) z))
+
+    paged : Paged
+    paged =
+        let kept = among-kept k r (signal .isSignal) in
+        let says = row-message k r (signal .isSignal) in
+        let size : r .bytes ≡ length bs = says .2 ∙ sym (changed m extended bs s z k n′ e .read .sized) in
+        let v = bitsIn (r .signed) (r .width) z in
+        record {
+          within = subst (λ (y : ℕ). order.Inside (r .big) y (r .start) (r .width)) size (kept .within);
+          narrow = bits-lt (r .signed) (r .width) (signal-fine k s r signal .0) z fits-is;
+          bytes =
+              stored
+              ∙ ap (bytesOf (bigOf k) (length bs)) put-is
+              ∙ ap (λ (y : Bool). bytesOf y (length bs) (putBits (numberOf y bs) (lowest r) (r .width) v)) (sym (says .3))
+              ∙ ap (λ (y : ℕ). bytesOf (r .big) (length bs) (putBits (numberOf (r .big) bs) y (r .width) v))
+              (kept .lowestBit ∙ ap (λ (y : ℕ). order.lowest (r .big) y (r .start) (r .width)) size);
+        }
+
+    -- THEOREM: bit j of the signal is bit j of the number that was asked for, where the page puts it
+    pub change-bit : (j : ℕ) → j < r .width
+        → bitAt (bytesAfter bs (changeOf m extended bs s z)) (order.bitOf (r .big) (r .start) (r .width) j) ≡ getBits (bitsIn (r .signed) (r .width) z) j 1
+    change-bit j h =
+        ap (λ (l : List ℕ). bitAt l (order.bitOf (r .big) (r .start) (r .width) j)) (paged .bytes)
+        ∙ written-bit (r .big) bs (r .start) (r .width) (bitsIn (r .signed) (r .width) z) j (paged .within) (paged .narrow) h
+
+    -- THEOREM: "Changing one signal touches no bit outside it": a bit that the page's signal does not have
+    pub change-kept : (b : ℕ) → (HasBit r b → ⊥) → bitAt (bytesAfter bs (changeOf m extended bs s z)) b ≡ bitAt bs b
+    change-kept b u =
+        ap (λ (l : List ℕ). bitAt l b) (paged .bytes)
+        ∙ written-kept (r .big) bs (r .start) (r .width) (bitsIn (r .signed) (r .width) z) b hb (paged .within) (paged .narrow) u
+
+    -- THEOREM: it has the number that was asked for, and every other signal of the message keeps its own
+    pub change-raws : (wholeAt n′ r ≡ z) × ((q : Row) → Among q (rowsOf k) → (q .start ≡ s → ⊥) → wholeAt n′ q ≡ wholeAt (numberOf (bigOf k) bs) q)
+    change-raws = (
+      ap (λ (x : ℕ). wholeAt x r) put-is ∙ whole-put r (numberOf (bigOf k) bs) z (signal-fine k s r signal) fits-is,
+      λ q a n. other q n (among-apart (8 * lengthOf k) 0 r q (rowsOf k) (ordered k) (signal .isSignal) a),
+    )
       where
-        go : (b < 8 * length bs) ⊎ (8 * length bs ≤ b) → bitAt (bytesOf (bigOf k) (length bs) n′) b ≡ bitAt bs b
-        go (inl l) =
-            let r = signal-row k s i found in
-            let size = changed m extended bs s z k n′ e .read .sized in
-            let p = place (bigOf k) (length bs) b in
-            let free : covers (lowest (rowAt i)) (rowAt i .width) p ≡ false
-            = ap (λ (x : ℕ). covers (lowest (rowAt i)) (rowAt i .width) (place (bigOf k) x b)) size
-            ∙ bit-not-covered k b (rowAt i) (r .1) (subst (λ (x : ℕ). b < 8 * x) size l) u in
-            bit-in (bigOf k) (length bs) n′ b l
-            ∙ ap (λ (x : ℕ). getBits x p 1) put-is
-            ∙ put-kept k (numberOf (bigOf k) bs) (rowAt i) z small-before (r .0) (r .1) fits-is p free
-            ∙ bit-of (bigOf k) bs b hb l
-        go (inr l) =
-            let past : 8 * length (bytesOf (bigOf k) (length bs) n′) ≤ b
-            = subst (λ (x : ℕ). 8 * x ≤ b) (sym (length-of (bigOf k) (length bs) n′)) l in
-            bit-past (bytesOf (bigOf k) (length bs) n′) b past ∙ sym (bit-past bs b l)
-
-    -- it has the number that was asked for, and every other signal of the message keeps its own
-    pub change-raws : (wholeAt n′ (rowAt i) ≡ z) × ((q : Row) → Among q (rowsOf k) → (q .start ≡ s → ⊥) → wholeAt n′ q ≡ wholeAt (numberOf (bigOf k) bs) q)
-    change-raws =
-        let r = signal-row k s i found in (
-          ap (λ (x : ℕ). wholeAt x (rowAt i)) put-is ∙ whole-put (rowAt i) (numberOf (bigOf k) bs) z (r .0) fits-is,
-          λ q a n. other q n (among-apart (8 * lengthOf k) 0 (rowAt i) q (rowsOf k) (ordered k) (r .1) a),
-        )
-      where
-        other : (q : Row) → (q .start ≡ s → ⊥) → (q ≡ rowAt i) ⊎ RowsApart (rowAt i) q → wholeAt n′ q ≡ wholeAt (numberOf (bigOf k) bs) q
-        other q n (inl w) = absurd (n (ap (λ (x : Row). x .start) w ∙ signal-row k s i found .2))
+        other : (q : Row) → (q .start ≡ s → ⊥) → (q ≡ r) ⊎ RowsApart r q → wholeAt n′ q ≡ wholeAt (numberOf (bigOf k) bs) q
+        other q n (inl w) = absurd (n (ap (λ (x : Row). x .start) w ∙ signal .start))
         other q n (inr a) =
-            let r = signal-row k s i found in
             ap (valueIn (q .signed) (q .width))
-            (ap (λ (x : ℕ). bitsAt x q) put-is ∙ put-other k (numberOf (bigOf k) bs) (rowAt i) z small-before (r .0) (r .1) fits-is q a)
+            (ap (λ (x : ℕ). bitsAt x q) put-is ∙ put-other k (numberOf (bigOf k) bs) r z small-before (signal-fine k s r signal) (signal .isSignal) fits-is q a)
 
--- "A refusal carries its number only; .. lent bytes stay as they were"
+  -- THEOREM: of all the kind's raw numbers, that of the signal is the one that was asked for, and the others are as they were
+  pub change-wholes : (j : ℕ) → j < length (rowsOf k) → getD (rowsOf k) j noRow .start ≡ s
+      → wholesOf n′ (rowsOf k) ≡ set (wholesOf (numberOf (bigOf k) bs) (rowsOf k)) j z
+  change-wholes j h at =
+      let r = getD (rowsOf k) j noRow in
+      let t = change-raws r (record { isSignal = at-among (rowsOf k) j h; start = at }) in
+      wholes-set (8 * lengthOf k) 0 (numberOf (bigOf k) bs) n′ s z (rowsOf k) (ordered k) j h at (t .0) (t .1)
+
+-- THEOREM: "A refusal carries its number only; .. lent bytes stay as they were"
 pub change-refused : (m : ℕ) (extended : Bool) (bs : List ℕ) (s : ℕ) (z : ℤ) (w : Refusal) → changeOf m extended bs s z ≡ Refused w
     → bytesAfter bs (changeOf m extended bs s z) ≡ bs
 change-refused m extended bs s z w e = ap (bytesAfter bs) e

@@ -4,12 +4,10 @@ use mathlib.Core.Path.{_≡_, sym, ap, ap₂, _∙_, subst}
 use mathlib.Core.Bool.{Bool}
 use mathlib.Core.List.{List}
 use Prim.Native.Nat.{ℕ, _^_, _≤_, _<_}
-use lib.Dec.{eqb}
 use lib.IntN.{ℤ}
 use lib.ListN.{length, getD}
 use mir.Val.{toZ, ofZ, SFits}
 use mir.Syntax.{w64}
-use borrow.Author.Tests.{eqb-true}
 use Rattle.signal.specs.Signal.{putBits}
 use Rattle.payload.specs.Payload.{numberOf}
 use Rattle.payload.specs.Order as order
@@ -18,15 +16,17 @@ use Rattle.signal.proofs.RawLaws.{bits-lt}
 use Rattle.page_rows.specs.declared.Row.{Row}
 use Rattle.page_rows.specs.declared.Found.the-variants.{At}
 use Rattle.page_read.specs.declared.Judged.the-variants.{Frame}
-use Rattle.page_rows.specs.Table.{rows, noRow, bigOf, firstAt, hasKind, isSignal}
+use Rattle.page_rows.specs.Table.{rows, noRow, rowAt, bigOf, firstAt, isSignal}
+use Rattle.page_rows.specs.Listed.{SignalAt}
 use Rattle.page_read.specs.Judge.{judgeOf}
 use Rattle.page_write.specs.Raws.{putRaw}
 use Rattle.page_change.specs.Change.{changeOf}
-use Rattle.page_rows.proofs.Rules.{both-true, row-fine, row-among, among-kept, row-message}
-use Rattle.page_rows.proofs.Firsts.{found-in}
+use Rattle.page_change.specs.Changed.{Changed}
+use Rattle.page_rows.proofs.Rules.{among-kept, row-message}
+use Rattle.page_rows.proofs.Listed.{found-signal}
 use Rattle.page_write.proofs.Trips.{accepts}
 use Rattle.page_write.proofs.AtRow.{bits-row}
-use Rattle.page_change.proofs.Changes.{Changed, changed}
+use Rattle.page_change.proofs.Changes.{changed, one-row, signal-fine}
 
 pub record Storing (r : Row) (bs : List ℕ) (k n v : ℕ) : Type 0 where
   pub same : r .big ≡ bigOf k
@@ -37,23 +37,20 @@ pub record Storing (r : Row) (bs : List ℕ) (k n v : ℕ) : Type 0 where
 
 -- the row that is found is the one that the change was made by
 row-is : (m : ℕ) (x : Bool) (bs : List ℕ) (s : ℕ) (z : ℤ) (k n i k′ n′ : ℕ) → judgeOf m x bs ≡ Frame k n → firstAt (isSignal k s) 0 rows ≡ At i
-    → (c : Changed m x bs s z k′ n′) → c .place ≡ i
+    → (c : Changed m x bs s z k′ n′) → rowAt i ≡ c .row
 row-is m x bs s z k n i k′ n′ j f c =
     let a : judgeOf m x bs ≡ Frame k′ (numberOf (bigOf k′) bs) = accepts m x bs k′ (numberOf (bigOf k′) bs) (c .read) in
     let same : k ≡ k′ = cc in
-    let g : firstAt (isSignal k s) 0 rows ≡ At (c .place) = subst (λ (y : ℕ). firstAt (isSignal y s) 0 rows ≡ At (c .place)) (sym same) (c .found) in
-    cc
+    one-row k′ s (c .row) (rowAt i) (c .signal) (subst (λ (y : ℕ). SignalAt y s (rowAt i)) same (found-signal k s i f))
 
 pub storing : (m : ℕ) (x : Bool) (bs : List ℕ) (s : ℕ) (z : ℤ) (k n i k′ n′ v : ℕ) (r : Row) → judgeOf m x bs ≡ Frame k n → firstAt (isSignal k s) 0 rows ≡ At i
     → r ≡ getD rows i noRow → changeOf m x bs s z ≡ Frame k′ n′ → SFits w64 z → v ≡ bitsOf (r .signed) (r .width) (toZ w64 (ofZ w64 z)) → Storing r bs k′ n′ v
 storing m x bs s z k n i k′ n′ v r j f q e h w =
     let c = changed m x bs s z k′ n′ e in
-    let t = getD rows (c .place) noRow in
-    let same : r ≡ getD rows (c .place) noRow = q ∙ ap (λ (y : ℕ). getD rows y noRow) (sym (row-is m x bs s z k n i k′ n′ j f c)) in
-    let p = found-in (isSignal k′ s) (c .place) (c .found) in
-    let kind = eqb-true (t .kind) k′ (both-true (hasKind k′ t) (eqb (t .start) s) (p .1) .0) in
-    let among = row-among k′ (c .place) (p .0) kind in
-    let fine = row-fine (c .place) (p .0) in
+    let t = c .row in
+    let same : r ≡ c .row = q ∙ row-is m x bs s z k n i k′ n′ j f c in
+    let among = c .signal .isSignal in
+    let fine = signal-fine k′ s t (c .signal) in
     let kept = among-kept k′ t among in
     let says = row-message k′ t among in
     let size : t .bytes ≡ length bs = says .2 ∙ sym (c .read .sized) in

@@ -16,12 +16,15 @@ use Rattle.page_rows.specs.Table.{rows, noRow, bigOf, firstAt, isSignal, takes}
 use Rattle.page_read.specs.Judge.{judgeOf}
 use Rattle.page_write.specs.Raws.{putRaw}
 
--- 7, then 5 for the new label, with the start of the changed signal
-abbrev pub changedRow : Row → ℕ → ℕ → ℤ → Judged
-changedRow r k n z =
-    cond (fitsIn (r .signed) (r .width) z)
-    (cond (takes (r .labels) (bitsIn (r .signed) (r .width) z)) (Frame k (putRaw r n z)) (Refused (NoLabel (r .start))))
+-- 7, then 5 for the new label, with the start of the changed signal: by whether the number fits, and whether it has a label
+abbrev pub changedBy : Row → ℕ → ℕ → ℤ → Bool → Bool → Judged
+changedBy r k n z fits labelled =
+    cond fits
+    (cond labelled (Frame k (putRaw r n z)) (Refused (NoLabel (r .start))))
     (Refused NoRawNumber)
+
+abbrev pub changedRow : Row → ℕ → ℕ → ℤ → Judged
+changedRow r k n z = changedBy r k n z (fitsIn (r .signed) (r .width) z) (takes (r .labels) (bitsIn (r .signed) (r .width) z))
 
 -- 13 before them
 abbrev pub changedAt : ℕ → ℕ → ℤ → Found → Judged

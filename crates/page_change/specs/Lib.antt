@@ -1,1 +1,3 @@
 pub mod Change
+pub mod Changed
+pub mod Refusing

@@ -1,4 +1,7 @@
 pub mod Covered
 pub mod Gaps
+pub mod Answers
+pub mod Strays
 pub mod Offenders
+pub mod Refusing
 pub mod Starts

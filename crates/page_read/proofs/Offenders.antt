@@ -1,6 +1,5 @@
 -- 02, Req 02. Refusal 5 is given where "a label signal holds a number without a label" and carries "the start bit of the first offending signal,
--- lowest start first" (`first-offence`, `lowest-given`): a message's rows stand in order by start, so that the loop's first offence is the lowest.
--- Before it 4 "when too short, 15 when too long" (`too-short`, `too-long`).
+-- lowest start first" (`first-offence`, `offence-given`): a message's rows stand in order by start, so that the loop's first offence is the lowest.
 -- Assumes nothing.
 use mathlib.Core.Path.{_≡_, refl, sym, ap, _∙_}
 use mathlib.Core.Bool.{Bool, true, false, cond, not, _||_}
@@ -9,20 +8,21 @@ use mathlib.Core.List.{List, [], _∷_}
 use Prim.Native.Nat.{ℕ, suc, _*_, _^_, _<_, _≤_, min}
 use native.Mathlib.Omega.{arith}
 use lib.Dec.{eqb}
-use lib.ListN.{length, getD}
-use borrow.Author.Tests.{eq-eqb, ne-eqb, lt-ltb, le-ltb}
+use lib.ListN.{length}
 use Rattle.payload.specs.Payload.{numberOf}
 use Rattle.page_rows.specs.declared.Row.{Row}
-use Rattle.page_rows.specs.declared.Found.the-variants.{At}
 use Rattle.page_read.specs.declared.Offence.{Offence}
 use Rattle.page_read.specs.declared.Offence.the-variants.{Start, Nothing}
 use Rattle.page_read.specs.declared.Judged.the-variants.{Frame, Refused}
-use Rattle.refusals.specs.declared.Refusal.the-variants.{TooShort, TooLong, NoLabel, UncoveredBit}
-use Rattle.page_rows.specs.Table.{rows, noRow, rowsOf, lengthOf, firstAt, hasId, bitsAt, takes}
-use Rattle.page_read.specs.Judge.{unlabelled, offends, offender, strayBelow, judgedNumber, judgedRow, judgeOf}
+use Rattle.refusals.specs.declared.Refusal.the-variants.{NoLabel, UncoveredBit}
+use Rattle.page_rows.specs.Table.{rowAt, rowsOf, lengthOf, bitsAt, takes}
+use Rattle.page_rows.specs.Listed.{Among}
+use Rattle.page_read.specs.Judge.{unlabelled, offends, offender, strayBelow, judgedNumber, judgeOf}
+use Rattle.page_read.specs.Refusing.{numberIn, SomeOffence, FirstOffence}
 use Rattle.page_read.specs.Steps.{offenceOf, cleared, judgedBy}
-use Rattle.page_rows.proofs.Rules.{not-both, Ordered, ordered, Among}
-use Rattle.page_read.proofs.Gaps.{cleared-test, Reached, reached}
+use Rattle.page_rows.proofs.Rules.{not-both, Ordered, ordered}
+use Rattle.page_read.proofs.Gaps.{cleared-test}
+use Rattle.page_read.proofs.Answers.{Reached, reached, fifth, reached-kind, reached-number, of-kind}
 
 -- ---- the least start of the rows that offend
 
@@ -107,88 +107,44 @@ judged-by k n h =
     go false true e = rw e
     go false false e = rw e
 
--- ---- the length
-
-pub row-short : (bs : List ℕ) (r : Row) → length bs < r .bytes → judgedRow r bs ≡ Refused TooShort
-row-short bs r l = rw (ne-eqb (length bs) (r .bytes) (λ e. omega arith), lt-ltb (length bs) (r .bytes) l)
-
-pub row-long : (bs : List ℕ) (r : Row) → r .bytes < length bs → judgedRow r bs ≡ Refused TooLong
-row-long bs r l = rw (ne-eqb (length bs) (r .bytes) (λ e. omega arith), le-ltb (length bs) (r .bytes) (omega arith))
-
 -- ---- 02's words, over what reading answers
 
--- a signal of the message with identifier m in this form starts at s and holds a number without a label, and no such signal of the message starts lower
-pub record FirstOffence (m : ℕ) (extended : Bool) (s : ℕ) (bs : List ℕ) : Type 0 where
-  pub place : ℕ
-  pub found : firstAt (hasId m extended) 0 rows ≡ At place
-  pub signal : Row
-  pub isSignal : Among signal (rowsOf (getD rows place noRow .kind))
-  pub start : signal .start ≡ s
-  pub offending : offends (numberOf (getD rows place noRow .big) bs) signal ≡ true
-  pub lowest : (q : Row) → Among q (rowsOf (getD rows place noRow .kind)) → offends (numberOf (getD rows place noRow .big) bs) q ≡ true → s ≤ q .start
-
--- a number that is answered 5
-fifth : (k bits n s : ℕ) → judgedNumber k bits n ≡ Refused (NoLabel s) → (unlabelled n (rowsOf k) ≡ true) × (offender n (rowsOf k) ≡ s)
-unfolding judgedNumber
-fifth k bits n s e = go (unlabelled n (rowsOf k)) (strayBelow bits n (rowsOf k)) refl e
-  where
-    go : (u x : Bool) → unlabelled n (rowsOf k) ≡ u
-        → cond u (Refused (NoLabel (offender n (rowsOf k)))) (cond x (Refused UncoveredBit) (Frame k n)) ≡ Refused (NoLabel s)
-        → (unlabelled n (rowsOf k) ≡ true) × (offender n (rowsOf k) ≡ s)
-    go true x p e = (p, cc)
-    go false true p e = absurd (let z : _≡_ {A = ℕ} 0 1 = cc in omega arith)
-    go false false p e = absurd (let z : _≡_ {A = ℕ} 0 1 = cc in omega arith)
-
--- refusal 5 carries the start bit of the first offending signal
-pub first-offence : (m : ℕ) (extended : Bool) (bs : List ℕ) (s : ℕ) → judgeOf m extended bs ≡ Refused (NoLabel s) → FirstOffence m extended s bs
-first-offence m extended bs s e =
-    go (reached m extended bs (Refused (NoLabel s)) e (λ q. let z : _≡_ {A = ℕ} 0 1 = cc in omega arith) (λ q. let z : _≡_ {A = ℕ} 0 1 = cc in omega arith)
+-- THEOREM: refusal 5 carries the start bit of the first offending signal
+pub first-offence : (m : ℕ) (x : Bool) (bs : List ℕ) (s : ℕ) → judgeOf m x bs ≡ Refused (NoLabel s) → FirstOffence m x bs s
+first-offence m x bs s e =
+    go (reached m x bs (Refused (NoLabel s)) e (λ q. let z : _≡_ {A = ℕ} 0 1 = cc in omega arith) (λ q. let z : _≡_ {A = ℕ} 0 1 = cc in omega arith)
     (λ q. let z : _≡_ {A = ℕ} 0 1 = cc in omega arith))
   where
-    go : Reached m extended bs (Refused (NoLabel s)) → FirstOffence m extended s bs
+    go : Reached m x bs (Refused (NoLabel s)) → FirstOffence m x bs s
     go c =
-        let k = getD rows (c .place) noRow .kind in
-        let n = numberOf (getD rows (c .place) noRow .big) bs in
+        let k = rowAt (c .place) .kind in
+        let n = numberOf (rowAt (c .place) .big) bs in
+        let same : numberIn k bs ≡ n = reached-number m x bs (Refused (NoLabel s)) c in
         let f = fifth k (8 * length bs) n s (c .judged) in
         let o = offender-is (8 * lengthOf k) 0 n (rowsOf k) (ordered k) (f .0) in
         record {
-          place = c .place;
-          found = c .found;
+          kind = k;
+          frame = reached-kind m x bs (Refused (NoLabel s)) c;
           signal = o .0;
-          isSignal = o .1;
-          start = o .2 ∙ f .1;
-          offending = o .3;
-          lowest = λ q a h. omega (arith, offender-least n q (rowsOf k) a h, f .1);
+          isSignal = record { isSignal = o .1; start = o .2 ∙ f .1 };
+          offending = ap (λ (y : ℕ). offends y (o .0)) same ∙ o .3;
+          lowest = λ q a h. omega (arith, offender-least n q (rowsOf k) a (ap (λ (y : ℕ). offends y q) (sym same) ∙ h), f .1);
         }
 
-module _ (m : ℕ) (extended : Bool) (place : ℕ) (bs : List ℕ) (found : firstAt (hasId m extended) 0 rows ≡ At place) where
-  -- the frame's number, read in the message's byte order
-  abbrev pub number : ℕ
-  number = numberOf (getD rows place noRow .big) bs
+-- a frame of a kind with a signal that offends gets 5, with the lowest start
+pub offence-answer : (m : ℕ) (x : Bool) (bs : List ℕ) (o : SomeOffence m x bs) → judgeOf m x bs ≡ Refused (NoLabel (offender (numberIn (o .kind) bs) (rowsOf (o .kind))))
+unfolding judgedNumber
+offence-answer m x bs o =
+    of-kind m x bs (o .kind) (o .frame) ∙ rw (unlabelled-by (numberIn (o .kind) bs) (o .signal) (rowsOf (o .kind)) (o .isSignal) (o .offending))
 
-  -- and given where a signal offends, once 3, 4 and 15 are passed
-  pub offence-given : length bs ≡ getD rows place noRow .bytes → (q : Row) → Among q (rowsOf (getD rows place noRow .kind))
-      → offends number q ≡ true → judgeOf m extended bs ≡ Refused (NoLabel (offender number (rowsOf (getD rows place noRow .kind))))
-  unfolding judgeOf judgedNumber
-  offence-given l q a h =
-      rw (found, eq-eqb (length bs) (getD rows place noRow .bytes) l, unlabelled-by number q (rowsOf (getD rows place noRow .kind)) a h)
-
-  -- with that signal's own start where none that offends starts lower
-  pub lowest-given : length bs ≡ getD rows place noRow .bytes → (q : Row) → Among q (rowsOf (getD rows place noRow .kind)) → offends number q ≡ true
-      → ((r : Row) → Among r (rowsOf (getD rows place noRow .kind)) → offends number r ≡ true → q .start ≤ r .start)
-      → judgeOf m extended bs ≡ Refused (NoLabel (q .start))
-  lowest-given l q a h f =
-      let k = getD rows place noRow .kind in
-      let n = number in
-      let o = offender-is (8 * lengthOf k) 0 n (rowsOf k) (ordered k) (unlabelled-by n q (rowsOf k) a h) in
-      let e : offender n (rowsOf k) ≡ q .start = omega (arith, offender-least n q (rowsOf k) a h, f (o .0) (o .1) (o .3), o .2) in
-      offence-given l q a h ∙ ap (λ (s : ℕ). Refused (NoLabel s)) e
-
-  -- "4 when too short, 15 when too long"
-  pub too-short : length bs < getD rows place noRow .bytes → judgeOf m extended bs ≡ Refused TooShort
-  unfolding judgeOf
-  too-short l = rw found (row-short bs (getD rows place noRow) l)
-
-  pub too-long : getD rows place noRow .bytes < length bs → judgeOf m extended bs ≡ Refused TooLong
-  unfolding judgeOf
-  too-long l = rw found (row-long bs (getD rows place noRow) l)
+-- THEOREM: and is given there
+pub offence-given : (m : ℕ) (x : Bool) (bs : List ℕ) (s : ℕ) → FirstOffence m x bs s → judgeOf m x bs ≡ Refused (NoLabel s)
+offence-given m x bs s f =
+    let k = f .kind in
+    let n = numberIn k bs in
+    let a = f .isSignal .isSignal in
+    let o = offender-is (8 * lengthOf k) 0 n (rowsOf k) (ordered k) (unlabelled-by n (f .signal) (rowsOf k) a (f .offending)) in
+    let e : offender n (rowsOf k) ≡ s
+    = omega (arith, offender-least n (f .signal) (rowsOf k) a (f .offending), f .isSignal .start, f .lowest (o .0) (o .1) (o .3), o .2) in
+    offence-answer m x bs (record { kind = k; frame = f .frame; signal = f .signal; isSignal = a; offending = f .offending })
+    ∙ ap (λ (y : ℕ). Refused (NoLabel y)) e

@@ -27,12 +27,12 @@ use Rattle.page_rows.proofs.Below.{allBelow, below-at}
 -- ---- the two rules, computed over the table
 
 -- a row says of its message what the message says
-abbrev agrees : Row → Bool
+abbrev pub agrees : Row → Bool
 agrees r =
     let m = messageOf (r .kind) in
     ltb (r .kind) kindCount && eqb (m .0) (r .id) && same (m .1) (r .extended) && eqb (m .2) (r .bytes) && same (m .3) (r .big)
 
-rows-agree : every agrees rows ≡ true
+pub rows-agree : every agrees rows ≡ true
 unfolding rows
 rows-agree = refl
 
@@ -47,14 +47,14 @@ all-placed = refl
 
 -- ---- what they tell
 
-record Agreed (r : Row) : Type 0 where
-  kind : r .kind < kindCount
-  id : messageOf (r .kind) .0 ≡ r .id
-  extended : messageOf (r .kind) .1 ≡ r .extended
-  bytes : messageOf (r .kind) .2 ≡ r .bytes
-  big : messageOf (r .kind) .3 ≡ r .big
+pub record Agreed (r : Row) : Type 0 where
+  pub kind : r .kind < kindCount
+  pub id : messageOf (r .kind) .0 ≡ r .id
+  pub extended : messageOf (r .kind) .1 ≡ r .extended
+  pub bytes : messageOf (r .kind) .2 ≡ r .bytes
+  pub big : messageOf (r .kind) .3 ≡ r .big
 
-agreed : (r : Row) → agrees r ≡ true → Agreed r
+pub agreed : (r : Row) → agrees r ≡ true → Agreed r
 agreed r e =
     let m = messageOf (r .kind) in
     let a = ltb (r .kind) kindCount in
@@ -126,11 +126,11 @@ key-same i j true false e = absurd (omega arith)
 key-same i j false true e = absurd (omega arith)
 
 -- that of kind k
-abbrev kindKey : ℕ → ℕ
+abbrev pub kindKey : ℕ → ℕ
 kindKey k = keyOf (messageOf k .0) (messageOf k .1)
 
 -- it is that of kind k, whose first row is the first with the identifier
-id-place : (m : ℕ) (x : Bool) (k : ℕ) → k < kindCount → kindKey k ≡ keyOf m x
+pub id-place : (m : ℕ) (x : Bool) (k : ℕ) → k < kindCount → kindKey k ≡ keyOf m x
     → (firstAt (hasId m x) 0 rows ≡ At (messageOf k .4)) × (rowAt (messageOf k .4) .kind ≡ k)
 id-place m x k h e =
     let p = first-place k h in

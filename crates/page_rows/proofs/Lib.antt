@@ -6,3 +6,4 @@ pub mod Below
 pub mod Heads
 pub mod Walk
 pub mod PageBits
+pub mod Listed

@@ -2,55 +2,34 @@
 -- and what is read from there are those bits (`page-bit`).
 -- Assumes nothing.
 use mathlib.Core.Path.{_≡_, refl, sym, ap, ap₂, _∙_, subst}
-use mathlib.Core.Bool.{Bool, true, false, _&&_, _||_}
+use mathlib.Core.Bool.{Bool, true, false, _||_}
 use mathlib.Core.Logic.{inl, inr}
 use mathlib.Core.List.{List, [], _∷_}
-use Prim.Native.Nat.{ℕ, _+_, _-_, _*_, _/_, _%_, _≤_, _<_}
+use Prim.Native.Nat.{ℕ, _*_, _<_}
 use native.Mathlib.Omega.{arith}
-use lib.Dec.{leb, ltb}
-use lib.ListN.{length, List·getD-eq-default}
-use borrow.Author.Tests.{le-leb, lt-ltb, leb-true, ltb-true}
+use lib.ListN.{length}
 use Rattle.signal.specs.Signal.{getBits, covers}
 use Rattle.payload.specs.Payload.{numberOf, bitAt, Bytes}
 use Rattle.payload.specs.Order.{place, bitOf}
 use Rattle.payload.specs.Order as order
-use Rattle.signal.proofs.Laws.{get-zero}
-use Rattle.payload.proofs.Words.{place-place, bit-place, signal-bit}
+use Rattle.payload.proofs.Words.{has-covers, covers-has, signal-bit}
 use Rattle.page_rows.specs.declared.Row.{Row}
 use Rattle.page_rows.specs.Table.{rowsOf, lengthOf, bigOf, lowest, HasBit, bitsAt, covered}
-use Rattle.page_rows.proofs.Rules.{both-true, either-false, not-both, Kept, Among, among-kept, row-message}
-
-pub covers-in : (s w i : ℕ) → covers s w i ≡ true → (s ≤ i) × (i < s + w)
-covers-in s w i e =
-    let p = both-true (leb s i) (ltb i (s + w)) e in
-    (leb-true s i (p .0), ltb-true i (s + w) (p .1))
+use Rattle.page_rows.specs.Listed.{Among}
+use Rattle.page_rows.proofs.Rules.{either-false, not-both, Kept, among-kept, row-message}
 
 -- ---- one row
 
 module _ (r : Row) (kept : Kept r) (b : ℕ) where
-  has-covers : HasBit r b → covers (lowest r) (r .width) (place (r .big) (r .bytes) b) ≡ true
-  has-covers h =
-      let j = h .0 in
-      let p = bit-place (r .big) (r .bytes) (r .start) (r .width) j (kept .within) (h .1) in
-      let e : place (r .big) (r .bytes) b ≡ lowest r + j
-      = ap (place (r .big) (r .bytes)) (sym (h .2)) ∙ p .1 ∙ ap (λ (x : ℕ). x + j) (sym (kept .lowestBit)) in
-      ap (covers (lowest r) (r .width)) e
-      ∙ ap₂ (λ (x y : Bool). x && y) (le-leb (lowest r) (lowest r + j) (omega arith)) (lt-ltb (lowest r + j) (lowest r + r .width) (omega (arith, h .1)))
+  row-covers : HasBit r b → covers (lowest r) (r .width) (place (r .big) (r .bytes) b) ≡ true
+  row-covers h =
+      ap (λ (l : ℕ). covers l (r .width) (place (r .big) (r .bytes) b)) (kept .lowestBit)
+      ∙ has-covers (r .big) (r .bytes) (r .start) (r .width) (kept .within) b h
 
-  covers-has : b < 8 * r .bytes → covers (lowest r) (r .width) (place (r .big) (r .bytes) b) ≡ true → HasBit r b
-  covers-has inside e =
-      let i = place (r .big) (r .bytes) b in
-      let c = covers-in (lowest r) (r .width) i e in
-      let j = i - lowest r in
-      let l : j < r .width = omega (arith, c .0, c .1) in
-      let p = bit-place (r .big) (r .bytes) (r .start) (r .width) j (kept .within) l in
-      let q : place (r .big) (r .bytes) (bitOf (r .big) (r .start) (r .width) j) ≡ i = omega (arith, p .1, kept .lowestBit, c .0) in (
-        j,
-        l,
-        sym (place-place (r .big) (r .bytes) (bitOf (r .big) (r .start) (r .width) j) (p .0))
-            ∙ ap (place (r .big) (r .bytes)) q
-            ∙ place-place (r .big) (r .bytes) b inside,
-      )
+  covers-row : b < 8 * r .bytes → covers (lowest r) (r .width) (place (r .big) (r .bytes) b) ≡ true → HasBit r b
+  covers-row inside e =
+      covers-has (r .big) (r .bytes) (r .start) (r .width) (kept .within) b inside
+      (ap (λ (l : ℕ). covers l (r .width) (place (r .big) (r .bytes) b)) (sym (kept .lowestBit)) ∙ e)
 
 -- ---- the rows of a kind
 
@@ -74,7 +53,7 @@ module _ (k b : ℕ) where
   bit-covers : (r : Row) → Among r (rowsOf k) → HasBit r b → coversBit k b r ≡ true
   bit-covers r m h =
       let s = row-message k r m in
-      ap₂ (λ (x : Bool) (y : ℕ). covers (lowest r) (r .width) (place x y b)) (sym (s .3)) (sym (s .2)) ∙ has-covers r (among-kept k r m) b h
+      ap₂ (λ (x : Bool) (y : ℕ). covers (lowest r) (r .width) (place x y b)) (sym (s .3)) (sym (s .2)) ∙ row-covers r (among-kept k r m) b h
 
   pub bit-not-covered : (r : Row) → Among r (rowsOf k) → b < 8 * lengthOf k → (HasBit r b → ⊥) → coversBit k b r ≡ false
   bit-not-covered r m l n = go (coversBit k b r) refl
@@ -82,7 +61,7 @@ module _ (k b : ℕ) where
       go : (x : Bool) → coversBit k b r ≡ x → x ≡ false
       go true e =
           let s = row-message k r m in
-          absurd (n (covers-has r (among-kept k r m) b (omega (arith, s .2))
+          absurd (n (covers-row r (among-kept k r m) b (omega (arith, s .2))
           (ap₂ (λ (x : Bool) (y : ℕ). covers (lowest r) (r .width) (place x y b)) (s .3) (s .2) ∙ e)))
       go false e = refl
 
@@ -107,9 +86,3 @@ page-bit k bs r j m hb l h =
     ap₂ (λ (x : Bool) (y : ℕ). getBits (getBits (numberOf x bs) y (r .width)) j 1) (sym (s .3))
     (kept .lowestBit ∙ ap (λ (x : ℕ). order.lowest (r .big) x (r .start) (r .width)) size)
     ∙ signal-bit (r .big) bs (r .start) (r .width) j hb (subst (λ (x : ℕ). order.Inside (r .big) x (r .start) (r .width)) size (kept .within)) h
-
--- ---- past the payload's end
-
-pub bit-past : (bs : List ℕ) (b : ℕ) → 8 * length bs ≤ b → bitAt bs b ≡ 0
-unfolding bitAt
-bit-past bs b h = ap (λ (x : ℕ). getBits x (b % 8) 1) (List·getD-eq-default bs 0 {n = b / 8} (omega arith)) ∙ get-zero (b % 8) 1

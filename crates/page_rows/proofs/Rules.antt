@@ -19,6 +19,7 @@ use Rattle.signal.proofs.Complement.{half-of}
 use Rattle.page_rows.specs.declared.Row.{Row}
 use Rattle.page_rows.specs.Messages.{same}
 use Rattle.page_rows.specs.Table.{rows, rowCount, noRow, hasForm, hasKind, hasId, keep, ofKind, rowsOf, headRow, identifierOf, extendedOf, lengthOf, bigOf, lowest, Fine, labelled, signalCount}
+use Rattle.page_rows.specs.Listed.{Among}
 use Rattle.page_rows.specs.Rules.{every, above, rowFine, apart, oneMessage, twoMessages, inTurn, allInTurn, hasRoom, tableFine}
 
 pub table-fine : tableFine ≡ true
@@ -300,10 +301,6 @@ kinds-of k (r ∷ rs) = go (hasKind k r) refl (kinds-of k rs)
     go true e i = rw e i
     go false e i = i
 
-abbrev pub Among : Row → List Row → Type 0
-Among r [] = ⊥
-Among r (q ∷ rs) = (r ≡ q) ⊎ Among r rs
-
 -- rows that start at p or above, inside the n lowest bits: each a fine one, which starts below those that follow and shares no bit with them
 abbrev pub Ordered : ℕ → ℕ → List Row → Type 0
 Ordered n p [] = Unit {0}
@@ -416,6 +413,21 @@ among-apart n p r q (x ∷ rs) o (inl e) (inr b) = inr (subst (λ (y : Row). Row
 among-apart n p r q (x ∷ rs) o (inr a) (inl f) =
     inr (apart-sym (lowest q) (q .width) (lowest r) (r .width) (subst (λ (y : Row). RowsApart y r) (sym f) (o .4 r a)))
 among-apart n p r q (x ∷ rs) o (inr a) (inr b) = among-apart n (suc (x .start)) r q rs (o .3) a b
+
+-- rows in order start at p or above, and two that start at one bit are one
+pub among-from : (n p : ℕ) (q : Row) (rs : List Row) → Ordered n p rs → Among q rs → p ≤ q .start
+among-from n p q [] o m = absurd m
+among-from n p q (r ∷ rs) o (inl e) = omega (arith, o .0, ap (λ (x : Row). x .start) e)
+among-from n p q (r ∷ rs) o (inr m) = omega (arith, o .0, among-from n (suc (r .start)) q rs (o .3) m)
+
+pub among-start : (n p : ℕ) (r q : Row) (rs : List Row) → Ordered n p rs → Among r rs → Among q rs → r .start ≡ q .start → q ≡ r
+among-start n p r q [] o a b s = absurd a
+among-start n p r q (x ∷ rs) o (inl e) (inl f) s = f ∙ sym e
+among-start n p r q (x ∷ rs) o (inl e) (inr b) s =
+    absurd (omega (arith, among-from n (suc (x .start)) q rs (o .3) b, ap (λ (y : Row). y .start) e))
+among-start n p r q (x ∷ rs) o (inr a) (inl f) s =
+    absurd (omega (arith, among-from n (suc (x .start)) r rs (o .3) a, ap (λ (y : Row). y .start) f))
+among-start n p r q (x ∷ rs) o (inr a) (inr b) s = among-start n (suc (x .start)) r q rs (o .3) a b s
 
 -- the rows of a kind say of the message what the first says
 head-says : (k : ℕ) (q : Row) (l : List Row) → every (hasKind k) l ≡ true → allInTurn l ≡ true → Among q l → Agree (headRow l) q

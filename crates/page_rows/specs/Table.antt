@@ -1,5 +1,5 @@
--- The table: 01, "The message and signal layouts are one constant table". Messages holds its messages, Charger and Safety its rows: identifiers, lengths, starts,
--- widths, signs and labels stand there and nowhere else.
+-- The table: 01, "The message and signal layouts are one constant table". Messages holds its messages, Charger and Safety its rows: identifiers, lengths,
+-- starts, widths, signs and labels stand there and nowhere else.
 use Prim.Native.Nat.{ℕ, suc, _+_, _/_, _%_, _^_, _≤_, _<_}
 use mathlib.Core.Path.{_≡_}
 use mathlib.Core.Bool.{Bool, true, false, cond, _&&_, _||_}
@@ -108,7 +108,7 @@ lowest r = r .low
 
 -- the payload's bit b is one of the signal's, by the page's own words
 abbrev pub HasBit : Row → ℕ → Type 0
-HasBit r b = (j : ℕ) × (j < r .width) × (order.bitOf (r .big) (r .start) (r .width) j ≡ b)
+HasBit r b = order.Has (r .big) (r .start) (r .width) b
 
 -- the signal's bits in a payload number
 abbrev pub bitsAt : ℕ → Row → ℕ

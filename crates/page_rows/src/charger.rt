@@ -79,51 +79,87 @@ pub const BYTE4: Line = Line(8, 32, 8, 32, false, 0);
 
 pub const BYTE5: Line = Line(8, 40, 8, 40, false, 0);
 
-// A `match` and no array: of an index that is not known beforehand the compiler builds the whole array on the stack at each call.
+// 01: "layouts are one constant table". The rows in their order.
+const LINES: [Line; 30] = [
+    // Power_Modules_Status
+    PRESENT_VOLTAGE,
+    PRESENT_CURRENT,
+    POWER_MODULES_TEMPERATURE,
+    ENCLOSURE_TEMPERATURE,
+    SYSTEM_ENABLE,
+    INSULATION_RESISTANCE,
+    // DC_Power_Parameters
+    MAXIMUM_VOLTAGE,
+    MAXIMUM_CHARGE_CURRENT,
+    MAXIMUM_DISCHARGE_CURRENT,
+    RANGE_TARGET_CURRENT,
+    // Advantics_Controller_Status
+    CONTROLLER_STATE,
+    // New_Charge_Session
+    COMMUNICATION_PROTOCOL,
+    PLUG_AND_PINS,
+    // Charge_Status_Change
+    VEHICLE_READY_FOR_CHARGING,
+    // DC_Power_Control
+    TARGET_VOLTAGE,
+    CURRENT_RANGE_MAX,
+    CURRENT_RANGE_MIN,
+    POWER_FUNCTION,
+    RESERVED,
+    SETPOINTS_MODE,
+    OUTPUT_CONTACTORS,
+    LOWER_OUTPUT_VOLTAGE,
+    // Charge_Session_Finished
+    FINISHED_STATE,
+    // Emergency_Stop
+    STOP_ORIGIN,
+    // EV_ID_CCS_Part2_DIN
+    BYTE0,
+    BYTE1,
+    BYTE2,
+    BYTE3,
+    BYTE4,
+    BYTE5,
+];
+
+// In each arm the index is known beforehand, and the compiler makes look-up tables of the array; of one that is not known it builds the whole array
+// on the stack at each call.
 pub fn line_at(i: usize) -> Line
     requires { ⌜ i < 30 ⌝ }
     ensures { λ l. ⌜ rowOf l ≡ getD rows i noRow ⌝ }
 {
+    let lines = LINES;
     match i {
-        // Power_Modules_Status
-        0 => PRESENT_VOLTAGE,
-        1 => PRESENT_CURRENT,
-        2 => POWER_MODULES_TEMPERATURE,
-        3 => ENCLOSURE_TEMPERATURE,
-        4 => SYSTEM_ENABLE,
-        5 => INSULATION_RESISTANCE,
-        // DC_Power_Parameters
-        6 => MAXIMUM_VOLTAGE,
-        7 => MAXIMUM_CHARGE_CURRENT,
-        8 => MAXIMUM_DISCHARGE_CURRENT,
-        9 => RANGE_TARGET_CURRENT,
-        // Advantics_Controller_Status
-        10 => CONTROLLER_STATE,
-        // New_Charge_Session
-        11 => COMMUNICATION_PROTOCOL,
-        12 => PLUG_AND_PINS,
-        // Charge_Status_Change
-        13 => VEHICLE_READY_FOR_CHARGING,
-        // DC_Power_Control
-        14 => TARGET_VOLTAGE,
-        15 => CURRENT_RANGE_MAX,
-        16 => CURRENT_RANGE_MIN,
-        17 => POWER_FUNCTION,
-        18 => RESERVED,
-        19 => SETPOINTS_MODE,
-        20 => OUTPUT_CONTACTORS,
-        21 => LOWER_OUTPUT_VOLTAGE,
-        // Charge_Session_Finished
-        22 => FINISHED_STATE,
-        // Emergency_Stop
-        23 => STOP_ORIGIN,
-        // EV_ID_CCS_Part2_DIN
-        24 => BYTE0,
-        25 => BYTE1,
-        26 => BYTE2,
-        27 => BYTE3,
-        28 => BYTE4,
-        29 => BYTE5,
+        0 => lines[0],
+        1 => lines[1],
+        2 => lines[2],
+        3 => lines[3],
+        4 => lines[4],
+        5 => lines[5],
+        6 => lines[6],
+        7 => lines[7],
+        8 => lines[8],
+        9 => lines[9],
+        10 => lines[10],
+        11 => lines[11],
+        12 => lines[12],
+        13 => lines[13],
+        14 => lines[14],
+        15 => lines[15],
+        16 => lines[16],
+        17 => lines[17],
+        18 => lines[18],
+        19 => lines[19],
+        20 => lines[20],
+        21 => lines[21],
+        22 => lines[22],
+        23 => lines[23],
+        24 => lines[24],
+        25 => lines[25],
+        26 => lines[26],
+        27 => lines[27],
+        28 => lines[28],
+        29 => lines[29],
         _ => NO_LINE,
     }
 }

@@ -53,23 +53,25 @@ const MESSAGES: [Message; 12] = [
 // No message: what a number that is no kind says.
 const NO_MESSAGE: Message = Message(0, false, 0, false, 0);
 
-// A `match` and not `MESSAGES[kind]`: of an index that is not known beforehand the compiler builds the whole array on the stack at each call.
+// In each arm the index is known beforehand, and the compiler makes look-up tables of the array; of one that is not known it builds the whole array
+// on the stack at each call.
 pub fn message_at(kind: usize) -> Message
     ensures { λ m. ⌜ m ≡ getD messages kind noMessage ⌝ }
 {
+    let messages = MESSAGES;
     match kind {
-        0 => POWER_MODULES_STATUS,
-        1 => DC_POWER_PARAMETERS,
-        2 => ADVANTICS_CONTROLLER_STATUS,
-        3 => NEW_CHARGE_SESSION,
-        4 => CHARGE_STATUS_CHANGE,
-        5 => DC_POWER_CONTROL,
-        6 => CHARGE_SESSION_FINISHED,
-        7 => EMERGENCY_STOP,
-        8 => EV_ID_CCS_PART2_DIN,
-        9 => CHARGE_CONTROL1,
-        10 => CHARGE_STATE1,
-        11 => PT1000_STATE,
+        0 => messages[0],
+        1 => messages[1],
+        2 => messages[2],
+        3 => messages[3],
+        4 => messages[4],
+        5 => messages[5],
+        6 => messages[6],
+        7 => messages[7],
+        8 => messages[8],
+        9 => messages[9],
+        10 => messages[10],
+        11 => messages[11],
         _ => NO_MESSAGE,
     }
 }

@@ -1,4 +1,7 @@
 pub mod AtRow
 pub mod Places
 pub mod Trips
+pub mod WrittenBits
+pub mod Worked
+pub mod Refusing
 pub mod Words

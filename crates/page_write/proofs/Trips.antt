@@ -16,7 +16,7 @@ use borrow.Author.Tests.{eq-eqb, le-leb, leb-true, not-false}
 use Rattle.signal.specs.Signal.{getBits, putBits, covers}
 use Rattle.payload.specs.Payload.{numberOf, bytesOf, Bytes}
 use Rattle.signal.specs.Raw.{fitsIn, bitsIn, valueIn}
-use Rattle.signal.proofs.Laws.{get-lt, get-get, get-zero, get-put, get-put-apart, bit-put, bit-kept, put-lt, same-bits, Apart}
+use Rattle.signal.proofs.Laws.{get-lt, get-get, get-zero, get-put, get-put-apart, bit-put, bit-kept, put-lt, same-bits, covers-in, Apart}
 use Rattle.signal.proofs.RawLaws.{value-bits, bits-value, value-fits, bits-lt}
 use Rattle.payload.proofs.Orders.{number-bound, length-of, number-of, bytes-of}
 use Rattle.page_rows.specs.declared.Row.{Row}
@@ -24,23 +24,16 @@ use Rattle.page_read.specs.declared.Judged.the-variants.{Frame}
 use Rattle.page_rows.specs.Table.{rows, noRow, rowsOf, headRow, identifierOf, extendedOf, lengthOf, bigOf, lowest, bitsAt, Fine, covered, takes}
 use Rattle.page_read.specs.Judge.{unlabelled, strayBelow, judgedNumber, judgeOf}
 use Rattle.page_rows.specs.Table.{signalCount}
-use Rattle.page_write.specs.Raws.{wholeAt, wholesOf, pad, rawsOf, rowTakes, allTake, putRaw, packedOn, canWrite}
-use Rattle.page_rows.proofs.Rules.{both-true, either-false, Ordered, ordered, Among, apart-sym, few}
+use Rattle.page_write.specs.Raws.{wholeAt, wholesOf, pad, rawsOf, allBy, rowTakes, allTake, putRaw, packedOn, canWrite}
+use Rattle.page_rows.specs.Listed.{Among}
+use Rattle.page_write.specs.Taken.{Taken}
+use Rattle.page_write.specs.Trips.{Back, There}
+use Rattle.page_rows.proofs.Rules.{both-true, either-false, not-both, Ordered, ordered, apart-sym, few}
 use Rattle.page_rows.proofs.Firsts.{id-kind, first-kind, first-id, known}
-use Rattle.page_rows.proofs.PageBits.{covers-in}
-use Rattle.page_read.proofs.Gaps.{reached-frame, taken, stray-none, stray-zero}
+use Rattle.page_read.proofs.Gaps.{stray-none, stray-zero}
+use Rattle.page_read.proofs.Answers.{reached-frame, taken}
 
 -- ---- an accepted frame
-
--- what an accepted frame passed: it has the identifier, its form and the length of its kind, a label where there are labels, and no stray bit
-pub record Taken (m : ℕ) (extended : Bool) (bs : List ℕ) (k n : ℕ) : Type 0 where
-  pub identifier : identifierOf k ≡ m
-  pub form : extendedOf k ≡ extended
-  pub sized : length bs ≡ lengthOf k
-  pub number : n ≡ numberOf (bigOf k) bs
-  pub some : 1 ≤ length (rowsOf k)
-  pub labelled : unlabelled n (rowsOf k) ≡ false
-  pub clean : strayBelow (8 * length bs) n (rowsOf k) ≡ false
 
 pub accepted : (m : ℕ) (extended : Bool) (bs : List ℕ) (k n : ℕ) → judgeOf m extended bs ≡ Frame k n → Taken m extended bs k n
 unfolding identifierOf extendedOf lengthOf bigOf
@@ -92,6 +85,35 @@ all-take r rs z zs e =
     let q = row-takes r z (p .0) in
     (q .0, q .1, p .1)
 
+-- each of them, and of rows that do not all pass one that does not
+pub by-at : (p : Row → ℤ → Bool) (rs : List Row) (zs : List ℤ) → allBy p rs zs ≡ true → (j : ℕ) → j < length rs → p (getD rs j noRow) (getD zs j (pos 0)) ≡ true
+by-at p [] zs e j h = absurd (not-suc-le-zero h)
+by-at p (r ∷ rs) [] e j h = absurd (let z : _≡_ {A = ℕ} 0 1 = cc in omega arith)
+by-at p (r ∷ rs) (z ∷ zs) e zero h = both-true (p r z) (allBy p rs zs) e .0
+by-at p (r ∷ rs) (z ∷ zs) e (suc j) h = by-at p rs zs (both-true (p r z) (allBy p rs zs) e .1) j (le-of-suc-le-suc h)
+
+pub not-by : (p : Row → ℤ → Bool) (rs : List Row) (zs : List ℤ) → length rs ≤ length zs → allBy p rs zs ≡ false
+    → (j : ℕ) × (j < length rs) × (p (getD rs j noRow) (getD zs j (pos 0)) ≡ false)
+not-by p [] zs l e = absurd (not-both true refl e)
+not-by p (r ∷ rs) [] l e = absurd (not-suc-le-zero l)
+not-by p (r ∷ rs) (z ∷ zs) l e = go (p r z) refl e (not-by p rs zs (le-of-suc-le-suc l))
+  where
+    Told : List Row → List ℤ → Type 0
+    Told rs zs = (j : ℕ) × (j < length rs) × (p (getD rs j noRow) (getD zs j (pos 0)) ≡ false)
+
+    go : (b : Bool) → p r z ≡ b → b && allBy p rs zs ≡ false → (allBy p rs zs ≡ false → Told rs zs) → Told (r ∷ rs) (z ∷ zs)
+    go true t e f = let c = f e in (suc (c .0), omega (arith, c .1), c .2)
+    go false t e f = (0, omega arith, t)
+
+pub take-by : (rs : List Row) (zs : List ℤ) → allTake rs zs ≡ allBy rowTakes rs zs
+unfolding allTake
+take-by [] zs = refl
+take-by (r ∷ rs) [] = refl
+take-by (r ∷ rs) (z ∷ zs) = ap (λ (b : Bool). rowTakes r z && b) (take-by rs zs)
+
+pub takes-at : (rs : List Row) (zs : List ℤ) → allTake rs zs ≡ true → (j : ℕ) → j < length rs → rowTakes (getD rs j noRow) (getD zs j (pos 0)) ≡ true
+takes-at rs zs e j h = by-at rowTakes rs zs (sym (take-by rs zs) ∙ e) j h
+
 none-take : (r : Row) (rs : List Row) → allTake (r ∷ rs) [] ≡ true → ⊥
 unfolding allTake
 none-take r rs e = let z : _≡_ {A = ℕ} 0 1 = cc in omega arith
@@ -136,6 +158,15 @@ packed-bits k p n r rs z zs o e =
     packed-apart k (suc (r .start)) (putRaw r n z) rs zs (lowest r) (r .width) (o .3) (t .2)
     (λ q m. apart-sym (lowest r) (r .width) (lowest q) (q .width) (o .4 q m))
     ∙ bits-put r n z (o .2) (t .0)
+
+pub packed-at : (k p n : ℕ) (rs : List Row) (zs : List ℤ) → Ordered k p rs → allTake rs zs ≡ true → (i : ℕ) → i < length rs
+    → bitsAt (packedOn n rs zs) (getD rs i noRow) ≡ bitsIn (getD rs i noRow .signed) (getD rs i noRow .width) (getD zs i (pos 0))
+unfolding packedOn
+packed-at k p n [] zs o e i h = absurd (not-suc-le-zero h)
+packed-at k p n (r ∷ rs) [] o e i h = absurd (none-take r rs e)
+packed-at k p n (r ∷ rs) (z ∷ zs) o e zero h = packed-bits k p n r rs z zs o e
+packed-at k p n (r ∷ rs) (z ∷ zs) o e (suc i) h =
+    packed-at k (suc (r .start)) (putRaw r n z) rs zs (o .3) (all-take r rs z zs e .2) i (le-of-suc-le-suc h)
 
 pub packed-wholes : (k p n : ℕ) (rs : List Row) (zs : List ℤ) → Ordered k p rs → allTake rs zs ≡ true
     → wholesOf (packedOn n rs zs) rs ≡ take (length rs) zs
@@ -261,12 +292,7 @@ can-write k zs e =
 pub packed-lt : (k : ℕ) (zs : List ℤ) → canWrite k zs ≡ true → packedOn 0 (rowsOf k) zs < 2 ^ (8 * lengthOf k)
 packed-lt k zs e = packed-on-lt (8 * lengthOf k) 0 0 (rowsOf k) zs (ordered k) (can-write k zs e .1) (pow-pos (8 * lengthOf k))
 
--- an accepted frame's raw numbers can be written, and give its number and its bytes again
-pub record Back (k n : ℕ) (bs : List ℕ) : Type 0 where
-  pub writes : canWrite k (rawsOf k n) ≡ true
-  pub number : packedOn 0 (rowsOf k) (rawsOf k n) ≡ n
-  pub bytes : bytesOf (bigOf k) (lengthOf k) n ≡ bs
-
+-- THEOREM: an accepted frame's raw numbers can be written, and give its number and its bytes again
 pub raws-back : (m : ℕ) (extended : Bool) (bs : List ℕ) (k n : ℕ) → judgeOf m extended bs ≡ Frame k n → Bytes bs → Back k n bs
 unfolding rawsOf
 raws-back m extended bs k n e hb = go (accepted m extended bs k n e)
@@ -285,11 +311,7 @@ raws-back m extended bs k n e hb = go (accepted m extended bs k n e)
           bytes = ap₂ (bytesOf (bigOf k)) (sym (t .sized)) (t .number) ∙ bytes-of (bigOf k) bs hb;
         }
 
--- raw numbers that can be written make a frame that is accepted, and that has them again: one for each row
-pub record There (k : ℕ) (zs : List ℤ) (n : ℕ) : Type 0 where
-  pub reads : judgeOf (identifierOf k) (extendedOf k) (bytesOf (bigOf k) (lengthOf k) n) ≡ Frame k n
-  pub raws : wholesOf n (rowsOf k) ≡ take (length (rowsOf k)) zs
-
+-- THEOREM: raw numbers that can be written make a frame that is accepted, and that has them again
 pub raws-there : (k : ℕ) (zs : List ℤ) → canWrite k zs ≡ true → There k zs (packedOn 0 (rowsOf k) zs)
 raws-there k zs e = go (packedOn 0 (rowsOf k) zs) refl (can-write k zs e)
   where

@@ -1,2 +1,5 @@
 pub mod Raws
+pub mod Taken
+pub mod Trips
+pub mod Refusing
 pub mod Steps

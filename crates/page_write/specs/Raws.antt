@@ -35,6 +35,12 @@ rawsOf k n = pad signalCount (wholesOf n (rowsOf k))
 
 -- ---- writing
 
+-- each row passes a test with its number
+abbrev pub allBy : (Row → ℤ → Bool) → List Row → List ℤ → Bool
+allBy p [] zs = true
+allBy p (r ∷ rs) [] = false
+allBy p (r ∷ rs) (z ∷ zs) = p r z && allBy p rs zs
+
 -- a raw number fits its signal, and has a label where the signal has labels
 abbrev pub rowTakes : Row → ℤ → Bool
 rowTakes r z = fitsIn (r .signed) (r .width) z && takes (r .labels) (bitsIn (r .signed) (r .width) z)
@@ -57,12 +63,15 @@ packedOn n (r ∷ rs) (z ∷ zs) = packedOn (putRaw r n z) rs zs
 abbrev pub canWrite : ℕ → List ℤ → Bool
 canWrite k zs = leb 1 (length (rowsOf k)) && allTake (rowsOf k) zs
 
--- 7, then 8
-unfoldable pub writeRawsOf : ℕ → List ℤ → List ℕ → Written
-writeRawsOf k zs buf =
-    cond (canWrite k zs)
-    (cond (leb (lengthOf k) (length buf)) (Wrote (identifierOf k) (lengthOf k)) (Refused ShortBuffer))
+-- 7, then 8: by whether the numbers can be written, and whether there is room for the message
+abbrev pub writtenBy : ℕ → Bool → Bool → Written
+writtenBy k fits room =
+    cond fits
+    (cond room (Wrote (identifierOf k) (lengthOf k)) (Refused ShortBuffer))
     (Refused NoRawNumber)
+
+unfoldable pub writeRawsOf : ℕ → List ℤ → List ℕ → Written
+writeRawsOf k zs buf = writtenBy k (canWrite k zs) (leb (lengthOf k) (length buf))
 
 -- 01: "Writing into a longer buffer changes only the message's bytes, from index 0", and a refusal nothing
 unfoldable pub bufferAfter : ℕ → List ℤ → List ℕ → List ℕ

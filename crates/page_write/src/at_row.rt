@@ -1,5 +1,5 @@
-// What packing does at one row of a message. No branch hangs on the row's sign or on its having labels, so that range and bits of a number are worked out once, and
-// rows are looked up in tables: of a yes or no that is branched on the compiler makes a jump for each row instead.
+// What packing does at one row of a message. No branch hangs on the row's sign or on its having labels, so that range and bits of a number are worked out
+// once, and rows are looked up in tables: of a yes or no that is branched on the compiler makes a jump for each row instead.
 ghost use mathlib.Core.Path.{_≡_};
 ghost use mathlib.Core.Bool.{true, cond};
 ghost use Prim.Native.Nat.{_-_, _^_, _≤_, _<_, min};
@@ -46,8 +46,8 @@ fn has_label(labels: u64, v: u64) -> bool
     (labels_or_all(labels) >> at_most_63(v)) % 2 == 1
 }
 
-// Whether a signal takes the raw number: it fits (counted from the signal's lowest number on it needs no more bits than the signal has), and has a label where the
-// signal has labels.
+// Whether a signal takes the raw number: it fits (counted from the signal's lowest number on it needs no more bits than the signal has), and has a label
+// where the signal has labels.
 pub fn row_takes(r: Row, z: i64) -> bool
     requires { ⌜ Fine r × (r .labels < 2 ^ 63) ⌝ }
     ensures { λ b. ⌜ b ≡ rowTakes r z ⌝ }

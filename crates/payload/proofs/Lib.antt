@@ -4,3 +4,4 @@ pub mod Orders
 pub mod Words
 pub mod Stored
 pub mod WholeBytes
+pub mod Written

@@ -2,7 +2,7 @@
 -- signal's own bytes in their place, since each byte is either one of the signal's or apart from it.
 -- Assumes nothing.
 use mathlib.Core.Path.{_≡_, sym, ap, ap₂, _∙_, subst}
-use mathlib.Core.Bool.{Bool, true, false, cond}
+use mathlib.Core.Bool.{Bool, true, false}
 use mathlib.Core.Logic.{_⊎_, inl, inr}
 use mathlib.Core.List.{List, _++_}
 use Prim.Native.Nat.{ℕ, _+_, _-_, _*_, _/_, _%_, _^_, _≤_, _<_}
@@ -11,20 +11,11 @@ use lib.ListN.{length, getD, take, drop, length-append, length-drop, List·getD-
 use lib.Seq.{ext-getD, length-take-le, getD-take, getD-drop, getD-append-add}
 use Rattle.signal.specs.Signal.{getBits, putBits}
 use Rattle.payload.specs.Payload.{numberOf, bytesOf, Bytes}
-use Rattle.payload.specs.Order.{spot, lowest, Inside}
-use Rattle.signal.proofs.Laws.{get-get, get-put, get-put-apart, Apart}
+use Rattle.payload.specs.Order.{spot, lowest, Inside, edge}
+use Rattle.signal.proofs.Laws.{get-put-apart, get-put-part, Apart}
 use Rattle.signal.proofs.Complement.{half-of}
 use Rattle.payload.proofs.Orders.{length-of}
 use Rattle.payload.proofs.Words.{byte-of, byte-in}
-
--- the bit of a byte at which a signal of whole bytes starts: the lowest, or where byte 0 is highest the highest
-abbrev pub edge : Bool → ℕ
-edge big = cond big 7 0
-
--- a part of what was put is a part of v
-get-put-part : (n s w v s′ w′ : ℕ) → v < 2 ^ w → s′ + w′ ≤ w → getBits (putBits n s w v) (s + s′) w′ ≡ getBits v s′ w′
-get-put-part n s w v s′ w′ hv h =
-    sym (get-get (putBits n s w v) s w s′ w′ h) ∙ ap (λ (x : ℕ). getBits x s′ w′) (get-put n s w v hv)
 
 -- the elements of two lists, one behind the other
 at-first : (xs ys : List ℕ) (a i : ℕ) → length xs ≡ a → i < a → getD (xs ++ ys) i 0 ≡ getD xs i 0

@@ -1,21 +1,22 @@
--- The definitions say what the papers say, in both byte orders: "Bit n of a payload is bit n mod 8 of byte n / 8, bit 0 lowest. A signal with start s and width w has its lowest bit at s" (01);
--- "There the start names the highest bit, and the signal runs down to bit 0 of that byte and on at bit 7 of the next" (02, Req 04).
+-- The definitions say what the papers say, in both byte orders: "Bit n of a payload is bit n mod 8 of byte n / 8, bit 0 lowest. A signal with start s and width
+-- w has its lowest bit at s" (01); "There the start names the highest bit, and the signal runs down to bit 0 of that byte and on at bit 7 of the next" (02,
+-- Req 04).
 -- Assumes nothing.
-use mathlib.Core.Path.{_≡_, sym, ap, _∙_}
-use mathlib.Core.Bool.{Bool, true, false}
+use mathlib.Core.Path.{_≡_, refl, sym, ap, ap₂, _∙_}
+use mathlib.Core.Bool.{Bool, true, false, _&&_}
 use mathlib.Core.Logic.{_⊎_, inl, inr}
 use mathlib.Core.List.{List, [], _∷_}
 use Prim.Native.Nat.{ℕ, zero, suc, _+_, _-_, _*_, _/_, _%_, _^_, _≤_, _<_}
 use native.Mathlib.Nat.{sub-zero, le-of-suc-le, mul-suc, add-comm, div-one, mod-eq-of-lt, le-of-suc-le-suc, not-suc-le-zero}
 use native.Mathlib.Omega.{arith}
 use lib.Arith.{digits-div, digits-mod}
-use lib.ListN.{length, getD}
+use lib.ListN.{length, getD, List·getD-eq-default}
 use lib.Pow.{low, high}
-use borrow.Author.Tests.{eq-eqb, ne-eqb}
-use Rattle.signal.specs.Signal.{getBits}
+use borrow.Author.Tests.{eq-eqb, ne-eqb, le-leb, lt-ltb}
+use Rattle.signal.specs.Signal.{getBits, covers}
 use Rattle.payload.specs.Payload.{leNumber, leBytes, beNumber, beBytes, numberOf, bytesOf, bitAt, Bytes}
-use Rattle.payload.specs.Order.{spot, place, lowest, Inside, next, walk, bitOf}
-use Rattle.signal.proofs.Laws.{get-of-mod, get-of-div, get-get}
+use Rattle.payload.specs.Order.{spot, place, lowest, Inside, next, walk, bitOf, Has}
+use Rattle.signal.proofs.Laws.{get-of-mod, get-of-div, get-get, get-zero, covers-in}
 use Rattle.signal.proofs.Complement.{half-of}
 use Rattle.payload.proofs.BigBytes.{be-lt}
 
@@ -81,6 +82,11 @@ bit-in big k n i h =
     ap (λ (x : ℕ). getBits x (i % 8) 1) (byte-in big k n (i / 8) (omega arith))
     ∙ get-get n (8 * spot big k (i / 8)) 8 (i % 8) 1 (omega arith)
 
+-- past the payload's end stands 0
+pub bit-past : (bs : List ℕ) (b : ℕ) → 8 * length bs ≤ b → bitAt bs b ≡ 0
+unfolding bitAt
+bit-past bs b h = ap (λ (x : ℕ). getBits x (b % 8) 1) (List·getD-eq-default bs 0 {n = b / 8} (omega arith)) ∙ get-zero (b % 8) 1
+
 -- ---- signals
 
 -- one step of the way is one bit down in the number
@@ -128,3 +134,30 @@ signal-bit big bs s w j hb hi hj =
     get-get (numberOf big bs) (lowest big (length bs) s w) w j 1 (omega arith)
     ∙ ap (λ (x : ℕ). getBits (numberOf big bs) x 1) (sym (r .1))
     ∙ bit-of big bs (bitOf big s w j) hb (r .0)
+
+-- ---- a signal's bits: the payload's bit b is one of them exactly where its place in the number is covered
+
+module _ (big : Bool) (k s w : ℕ) (hi : Inside big k s w) (b : ℕ) where
+  pub has-covers : Has big s w b → covers (lowest big k s w) w (place big k b) ≡ true
+  has-covers h =
+      let low = lowest big k s w in
+      let j = h .0 in
+      let e : place big k b ≡ low + j = ap (place big k) (sym (h .2)) ∙ bit-place big k s w j hi (h .1) .1 in
+      ap (covers low w) e ∙ ap₂ (λ (x y : Bool). x && y) (le-leb low (low + j) (omega arith)) (lt-ltb (low + j) (low + w) (omega (arith, h .1)))
+
+  pub covers-has : b < 8 * k → covers (lowest big k s w) w (place big k b) ≡ true → Has big s w b
+  covers-has l e =
+      let low = lowest big k s w in
+      let c = covers-in low w (place big k b) e in
+      let j = place big k b - low in
+      let h : j < w = omega (arith, c .0, c .1) in
+      let p = bit-place big k s w j hi h in
+      let q : place big k (bitOf big s w j) ≡ place big k b = omega (arith, p .1, c .0) in
+      (j, h, sym (place-place big k (bitOf big s w j) (p .0)) ∙ ap (place big k) q ∙ place-place big k b l)
+
+  pub not-has : b < 8 * k → (Has big s w b → ⊥) → covers (lowest big k s w) w (place big k b) ≡ false
+  not-has l n = go (covers (lowest big k s w) w (place big k b)) refl
+    where
+      go : (x : Bool) → covers (lowest big k s w) w (place big k b) ≡ x → x ≡ false
+      go true e = absurd (n (covers-has l e))
+      go false e = refl

@@ -1,5 +1,6 @@
--- Where a signal lies in a payload, in both byte orders: a start names the lowest bit where byte 0 is lowest, and the highest bit where byte 0 is highest (`big`).
+-- Where a signal lies in a payload, in both byte orders: a start names the lowest bit where byte 0 is lowest, and the highest where byte 0 is highest (`big`).
 use Prim.Native.Nat.{ℕ, zero, suc, _+_, _-_, _*_, _/_, _%_, _≤_, _<_}
+use mathlib.Core.Path.{_≡_}
 use mathlib.Core.Bool.{Bool, true, false, cond, _&&_}
 use lib.Dec.{eqb, leb, ltb}
 
@@ -44,3 +45,11 @@ walk s (suc i) = next (walk s i)
 abbrev pub bitOf : Bool → ℕ → ℕ → ℕ → ℕ
 bitOf false s w j = s + j
 bitOf true s w j = walk s (w - 1 - j)
+
+-- the payload's bit b is one of the signal's
+abbrev pub Has : Bool → ℕ → ℕ → ℕ → Type 0
+Has big s w b = (j : ℕ) × (j < w) × (bitOf big s w j ≡ b)
+
+-- 02, Req 06: the bit of a byte at which a signal of whole bytes starts: the lowest, or where byte 0 is highest the highest
+abbrev pub edge : Bool → ℕ
+edge big = cond big 7 0

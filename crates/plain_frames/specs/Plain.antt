@@ -1,5 +1,5 @@
 -- Frames over the C interface, in numbers and bytes alone: reading to raw numbers, writing from them, changing one signal.
-use Prim.Native.Nat.{ℕ, _%_}
+use Prim.Native.Nat.{ℕ}
 use mathlib.Core.Bool.{Bool, cond}
 use mathlib.Core.List.{List, _++_}
 use lib.Dec.{leb}
@@ -14,41 +14,44 @@ use Rattle.page_read.specs.Judge.{judgeOf}
 use Rattle.page_rows.specs.Table.{signalCount}
 use Rattle.page_write.specs.Raws.{rawsOf, writeRawsOf, bufferAfter}
 use Rattle.page_change.specs.Change.{changeOf}
-use Rattle.plain_words.specs.Words.{refusalWord}
+use Rattle.plain_words.specs.Words.{Outcome, answers, refuses, outcomeWord}
 
--- ---- reading: the kind, or the refusal; 8 where the lent numbers are fewer than a message's signals can be. Kinds and lengths are below 65,536
+-- ---- reading: the kind, or the refusal; 8 where the lent numbers are fewer than a message's signals can be
 
-abbrev pub readAnswer : Judged → ℕ → ℕ
-readAnswer (judged.Frame k n) room = cond (leb signalCount room) (k % 65536) (refusalWord ShortBuffer)
-readAnswer (judged.Refused w) room = refusalWord w
+abbrev pub readOutcome : Judged → ℕ → Outcome
+readOutcome (judged.Frame k n) room = cond (leb signalCount room) (answers k) (refuses ShortBuffer)
+readOutcome (judged.Refused w) room = refuses w
 
 abbrev pub rawsLeft : Judged → List ℤ → List ℤ
 rawsLeft (judged.Frame k n) raws = cond (leb signalCount (length raws)) (rawsOf k n ++ drop signalCount raws) raws
 rawsLeft (judged.Refused w) raws = raws
 
 unfoldable pub readWord : ℕ → Bool → List ℕ → List ℤ → ℕ
-readWord m x bs raws = readAnswer (judgeOf m x bs) (length raws)
+readWord m x bs raws = outcomeWord (readOutcome (judgeOf m x bs) (length raws))
 
 unfoldable pub rawsAfter : ℕ → Bool → List ℕ → List ℤ → List ℤ
 rawsAfter m x bs raws = rawsLeft (judgeOf m x bs) raws
 
 -- ---- writing: the number of bytes, or the refusal; 7 too where the lent numbers are too few
 
-abbrev pub writtenWord : Written → ℕ
-writtenWord (written.Wrote i k) = k % 65536
-writtenWord (written.Refused w) = refusalWord w
+abbrev pub writtenOutcome : Written → Outcome
+writtenOutcome (written.Wrote i n) = answers n
+writtenOutcome (written.Refused w) = refuses w
+
+abbrev pub writeOutcome : ℕ → List ℤ → List ℕ → Outcome
+writeOutcome k raws buf = cond (leb signalCount (length raws)) (writtenOutcome (writeRawsOf k (take signalCount raws) buf)) (refuses NoRawNumber)
 
 unfoldable pub writeWord : ℕ → List ℤ → List ℕ → ℕ
-writeWord k raws buf = cond (leb signalCount (length raws)) (writtenWord (writeRawsOf k (take signalCount raws) buf)) (refusalWord NoRawNumber)
+writeWord k raws buf = outcomeWord (writeOutcome k raws buf)
 
 unfoldable pub bufferLeft : ℕ → List ℤ → List ℕ → List ℕ
 bufferLeft k raws buf = cond (leb signalCount (length raws)) (bufferAfter k (take signalCount raws) buf) buf
 
 -- ---- changing: 0, or the refusal
 
-abbrev pub changedWord : Judged → ℕ
-changedWord (judged.Frame k n) = 0
-changedWord (judged.Refused w) = refusalWord w
+abbrev pub changedOutcome : Judged → Outcome
+changedOutcome (judged.Frame k n) = answers 0
+changedOutcome (judged.Refused w) = refuses w
 
 unfoldable pub changeWord : ℕ → Bool → List ℕ → ℕ → ℤ → ℕ
-changeWord m x bs s z = changedWord (changeOf m x bs s z)
+changeWord m x bs s z = outcomeWord (changedOutcome (changeOf m x bs s z))

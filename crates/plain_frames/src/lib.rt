@@ -51,7 +51,7 @@ pub extern "C" fn rokemaipu_read(id: u32, extended: bool, payload: &[u8], raws: 
                 return refusal_word(Refusal::ShortBuffer);
             }
             store_raws(raws, page_write::raws_of(kind, n));
-            (kind % 65536) as u32
+            kind as u32
         }
         Judged::Refused(w) => refusal_word(w),
     }
@@ -69,7 +69,7 @@ pub extern "C" fn rokemaipu_write(kind: u32, raws: &[i64], buf: &mut [u8]) -> u3
     let zs = load_raws(raws);
     let w = page_write::write_raws(kind as usize, zs, buf);
     match w {
-        Written::Wrote(_, len) => (len % 65536) as u32,
+        Written::Wrote(_, len) => len as u32,
         Written::Refused(r) => refusal_word(r),
     }
 }

@@ -1,1 +1,1 @@
-pub mod Logging
+pub mod LogWords

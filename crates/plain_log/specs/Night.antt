@@ -1,5 +1,5 @@
 -- The night log over the C interface, in numbers and bytes alone.
-use Prim.Native.Nat.{ℕ, _≤_}
+use Prim.Native.Nat.{ℕ}
 use mathlib.Core.Bool.{cond}
 use mathlib.Core.List.{List, [], _∷_, _++_}
 use lib.Dec.{leb}
@@ -10,18 +10,16 @@ use Rattle.log_records.specs.declared.Found.{Found}
 use Rattle.log_records.specs.declared.Found.the-variants as found
 use Rattle.log_write.specs.declared.Logged.{Logged}
 use Rattle.log_write.specs.declared.Logged.the-variants as logged
-use Rattle.log_records.specs.Record.{longestRecord}
-use Rattle.plain_words.specs.Words.{refusalWord}
+use Rattle.plain_words.specs.Words.{Outcome, answers, refuses, outcomeWord}
 
 -- ---- writing a record: the number of its bytes, or the refusal
 
-abbrev pub loggedWord : Logged → ℕ
-loggedWord (logged.Bytes n) = n
-loggedWord (logged.Refused w) = refusalWord w
+abbrev pub loggedOutcome : Logged → Outcome
+loggedOutcome (logged.Bytes n) = answers n
+loggedOutcome (logged.Refused w) = refuses w
 
-abbrev pub Short : Logged → Type 0
-Short (logged.Bytes n) = n ≤ longestRecord
-Short (logged.Refused w) = Unit {0}
+abbrev pub loggedWord : Logged → ℕ
+loggedWord w = outcomeWord (loggedOutcome w)
 
 -- ---- what stands at a byte of a log
 
@@ -33,11 +31,14 @@ abbrev pub entryNumbers : Entry → List ℕ
 entryNumbers e = cond (e .tick) 1 0 ∷ e .time ∷ e .channel ∷ e .id ∷ cond (e .extended) 1 0 ∷ e .start ∷ e .length ∷ e .next ∷ []
 
 -- 0 a record, 1 the end, 2 a piece of a record, or the refusal; 8, judged last, where a record is found and the lent places are too few
+abbrev pub foundOutcome : Found → ℕ → Outcome
+foundOutcome (found.Record e) places = cond (leb entryCount places) (answers 0) (refuses ShortBuffer)
+foundOutcome found.End places = answers 1
+foundOutcome (found.Cut at) places = answers 2
+foundOutcome (found.Refused w at) places = refuses w
+
 abbrev pub foundWord : Found → ℕ → ℕ
-foundWord (found.Record e) places = cond (leb entryCount places) 0 (refusalWord ShortBuffer)
-foundWord found.End places = 1
-foundWord (found.Cut at) places = 2
-foundWord (found.Refused w at) places = refusalWord w
+foundWord f places = outcomeWord (foundOutcome f places)
 
 -- only a record that is handed out changes the lent numbers, and only the first of them
 abbrev pub entryLeft : Found → List ℕ → List ℕ

@@ -4,10 +4,11 @@ ghost use mathlib.Core.Path.{_≡_};
 ghost use mathlib.Core.List.{_++_};
 ghost use Prim.Native.Nat.{_≤_};
 ghost use lib.ListN.{length, drop};
-ghost use Rattle.log_records.specs.Record.{tick, frame};
+ghost use Rattle.log_records.specs.Record.{tick, frame, longestRecord};
 ghost use Rattle.log_records.specs.Reading.{foundAt};
 ghost use Rattle.log_write.specs.Writing.{writtenOf, bufferAfter};
-ghost use Rattle.plain_log.specs.Night.{loggedWord, Short, entryCount, entryNumbers, foundWord, entryLeft};
+ghost use Rattle.plain_words.specs.Words.{Within};
+ghost use Rattle.plain_log.specs.Night.{loggedOutcome, loggedWord, entryCount, entryNumbers, foundWord, entryLeft};
 use log_records::Entry;
 use log_records::Found;
 use log_write::Logged;
@@ -18,7 +19,7 @@ use refusals::Refusal;
 // ---- writing
 
 fn logged_word(w: Logged) -> u32
-    requires { ⌜ Short w ⌝ }
+    requires { ⌜ Within longestRecord (loggedOutcome w) ⌝ }
     ensures { λ r. ⌜ r ≡ loggedWord w ⌝ }
 {
     match w {

@@ -1,13 +1,21 @@
--- 02, Req 02: "Every caller that hands a refusal on now hands the start bit on too". A refusal's word tells its number and its start
--- (`word-tells`): the number is below 256 and the start a byte.
+-- What the word of a call tells. `NoLabel s` is a refusal for every number s, and a start of 256 or more could not be taken out of the word again: but no
+-- entry hands such a start on (`Within`, which each entry's law `..-within` shows), and so its word tells all (`word-tells`).
 -- Assumes nothing.
-use mathlib.Core.Path.{_≡_}
-use Prim.Native.Nat.{_-_, _/_, _%_, _<_}
+use mathlib.Core.Path.{_≡_, refl, sym}
+use mathlib.Core.Bool.{Bool, true, false, cond, true≢false}
+use Prim.Native.Nat.{ℕ, _≤_, _<_}
 use native.Mathlib.Omega.{arith}
+use lib.Dec.{ltb}
+use borrow.Author.Tests.{lt-ltb, le-ltb}
 use Rattle.refusals.specs.declared.Refusal.{Refusal}
-use Rattle.refusals.specs.declared.Refusal.the-variants.{ChannelFree, Earlier, UnknownIdentifier, TooShort, NoLabel, UncoveredBit, NoRawNumber, ShortBuffer, NoSuchPost, NoSuchChannel, ChannelTaken, LimitOutside, NoSignal, NotSetUp, TooLong, IllNumber, LogChannel, LogStandard, LogExtended, LogLength, LogTick}
-use Rattle.refusals.specs.Refusals.{numberOf, startOf}
-use Rattle.plain_words.specs.Words.{refusalWord}
+use Rattle.refusals.specs.declared.Refusal.the-variants.{ChannelFree, Earlier, UnknownIdentifier, TooShort, NoLabel, UncoveredBit, NoRawNumber, ShortBuffer, NoSuchPost, NoSuchChannel, ChannelTaken, LimitOutside, NoSignal, NotSetUp, TooLong, IllNumber, LogChannel, LogStandard, LogExtended, LogLength, LogTick, BatchBytes, BatchRecord, BatchAnswers}
+use Rattle.refusals.specs.Refusals.{numberOf}
+use Rattle.plain_words.specs.Words.{Outcome, answers, refuses, refusalWord, outcomeWord, numberIn, startIn, isAccepted, numberGiven, startGiven, Within, Told}
+
+-- what holds of both holds of either
+pub either : {A : Type 0} (P : A → Type 0) (b : Bool) {x y : A} → P x → P y → P (cond b x y)
+either P true p q = p
+either P false p q = q
 
 pub number-small : (w : Refusal) → numberOf w < 256
 number-small ChannelFree = omega arith
@@ -31,6 +39,25 @@ number-small LogStandard = omega arith
 number-small LogExtended = omega arith
 number-small LogLength = omega arith
 number-small LogTick = omega arith
+number-small BatchBytes = omega arith
+number-small BatchRecord = omega arith
+number-small BatchAnswers = omega arith
 
-pub word-tells : (w : Refusal) → startOf w < 256 → ((refusalWord w - 65536) % 256 ≡ numberOf w) × ((refusalWord w - 65536) / 256 ≡ startOf w)
-word-tells w h = (omega (arith, number-small w), omega (arith, number-small w))
+pub word-tells : (most : ℕ) (o : Outcome) → most < 65536 → Within most o → Told most o (outcomeWord o)
+word-tells most (answers n) l h =
+    let t = lt-ltb n 65536 (omega arith) in
+    record { bounded = λ e. h; told = t; number = rw t; start = rw t; low = rw t (omega arith) }
+word-tells most (refuses w) l h =
+    let t = le-ltb (refusalWord w) 65536 (omega arith) in
+    record {
+      bounded = λ e. absurd (true≢false (sym e));
+      told = t;
+      number = rw t (omega (arith, number-small w));
+      start = rw t (omega (arith, number-small w));
+      low = rw t (omega (arith, number-small w));
+    }
+
+-- from 65,536 on it was refused
+pub not-accepted : (most : ℕ) (o : Outcome) → most < 65536 → Within most o → 65536 ≤ outcomeWord o → isAccepted o ≡ false
+not-accepted most (answers n) l h m = absurd (let z : ⊥ = omega arith in z)
+not-accepted most (refuses w) l h m = refl

@@ -6,7 +6,7 @@ ghost use lib.ListN.{length};
 ghost use Rattle.log_records.specs.Reading.{recOf, foundAt};
 ghost use Rattle.playing_line.specs.Lines.{lineRoom, lineOf, laid};
 ghost use Rattle.playing_nights.specs.Fed.{fedWith};
-ghost use Rattle.playing_nights.specs.Step.{lineCall, onFound, nextBy, bufferBy, nextLine, bufferAfter, Within};
+ghost use Rattle.playing_nights.specs.Call.{lineCall, onFound, nextBy, bufferBy, nextLine, bufferAfter, Within};
 use log_records::Entry;
 use log_records::Found;
 use playing_nights::Course;
@@ -75,6 +75,7 @@ fn told(r: Replay, log: &[u8], e: Entry, line: &mut [u8]) -> Next
             course: Course::Records,
         },
         answer: Played::Line { bytes, next },
+        heard: answer,
     }
 }
 
@@ -89,14 +90,17 @@ fn read_on(r: Replay, log: &[u8], at: usize, line: &mut [u8]) -> Next
         Found::End => Next {
             replay: r,
             answer: Played::End,
+            heard: Answer::Findings(0),
         },
         Found::Cut(byte) => Next {
             replay: r,
             answer: Played::Cut(byte),
+            heard: Answer::Findings(0),
         },
         Found::Refused(w, byte) => Next {
             replay: r,
             answer: Played::Bad(w, byte),
+            heard: Answer::Findings(0),
         },
     }
 }
@@ -112,6 +116,7 @@ pub fn next_line(r: Replay, log: &[u8], at: usize, line: &mut [u8]) -> Next
         return Next {
             replay: r,
             answer: Played::Short,
+            heard: Answer::Findings(0),
         };
     }
     let course = r.course;
@@ -121,6 +126,7 @@ pub fn next_line(r: Replay, log: &[u8], at: usize, line: &mut [u8]) -> Next
         Course::Refused(w) => Next {
             replay: r,
             answer: Played::SetUp(w),
+            heard: Answer::Findings(0),
         },
     }
 }

@@ -1,4 +1,5 @@
--- A record's line. 02, Req 05: "count from 1, post (dash for refusal 1), then A with the decimal finding number or R with the refusal, one space between, a line feed after; refusal 5 adds a space and the start bit."
+-- A record's line. 02, Req 05: "count from 1, post (dash for refusal 1), then A with the decimal finding number or R with the refusal, one space between,
+-- a line feed after; refusal 5 adds a space and the start bit."
 use Prim.Native.Nat.{ℕ, _^_, _≤_, _<_}
 use mathlib.Core.Bool.{Bool, true, false, cond}
 use mathlib.Core.List.{List, [], _∷_, _++_}

@@ -1,5 +1,5 @@
-// A record's line of a replay (02, Req 05), for playing_calls alone: what stands in it (specs/Lines.antt), and its words put into a lent buffer. No function here
-// calls the pen more than three times: that is what the checker follows by itself. The public function takes any input.
+// A record's line of a replay (02, Req 05), for playing_calls alone: what stands in it (specs/Lines.antt), and its words put into a lent buffer.
+// No function here calls the pen more than three times: that is what the checker follows by itself. The public function takes any input.
 ghost use mathlib.Core.Path.{_≡_};
 ghost use mathlib.Core.List.{[], _∷_, _++_};
 ghost use Rattle.text_numbers.specs.Numbers.{numeral};

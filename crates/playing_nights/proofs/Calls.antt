@@ -1,4 +1,5 @@
--- What a call and a set-up leave alone, and where a line leads. 02, Req 05: "a line buffer under 40 bytes gets 8 first"; "Set-ups come before the first record".
+-- What a call and a set-up leave alone, and where a line leads. 02, Req 05: "a line buffer under 40 bytes gets 8 first"; "Set-ups come before the first
+-- record".
 use Prim.Native.Nat.{ℕ, _≤_, _<_}
 use native.Mathlib.Omega.{arith}
 use mathlib.Core.Path.{_≡_, refl, sym, ap, _∙_}
@@ -13,6 +14,7 @@ use Rattle.log_records.specs.declared.Found.{Found}
 use Rattle.log_records.specs.declared.Found.the-variants as found
 use Rattle.log_records.specs.Reading.{recOf, foundAt}
 use Rattle.playing_nights.specs.declared.Course.{Course}
+use Rattle.watch_rules.specs.declared.Answer.the-variants.{Findings}
 use Rattle.playing_nights.specs.declared.Course.the-variants.{SetUps, Records, Refused}
 use Rattle.playing_nights.specs.declared.Replay.{Replay}
 use Rattle.playing_nights.specs.declared.Preparing.the-variants.{Late}
@@ -20,14 +22,14 @@ use Rattle.playing_nights.specs.declared.Played.{Played}
 use Rattle.playing_nights.specs.declared.Played.the-variants.{Line, Short}
 use Rattle.playing_line.specs.Lines.{lineRoom}
 use Rattle.playing_nights.specs.Fed.{lineFor}
-use Rattle.playing_nights.specs.Step.{setUpIn, Call, line, other, nextBy, bufferBy, nextCount, lineCall, onFound, onCourse, callOf, nextLine, bufferAfter}
+use Rattle.playing_nights.specs.Call.{setUpIn, Call, line, other, nextBy, bufferBy, nextCount, lineCall, onFound, onCourse, callOf, nextLine, bufferAfter}
 use Rattle.playing_nights.specs.Answers.{isLine}
-use Rattle.playing_nights.proofs.Entries.{entry-lies}
+use Rattle.log_records.proofs.Entries.{entry-lies}
 use Rattle.playing_nights.proofs.Steps.{call-short, set-up-on}
 
 module _ (r : Replay) (s : List ℕ) (at : ℕ) (out : List ℕ) where
   -- before all else, also where a set-up was refused or the log is bad
-  pub short-first : length out < lineRoom → (nextLine r s at (length out) ≡ record { replay = r; answer = Short }) × (bufferAfter r s at out ≡ out)
+  pub short-first : length out < lineRoom → (nextLine r s at (length out) ≡ record { replay = r; answer = Short; heard = Findings 0 }) × (bufferAfter r s at out ≡ out)
   short-first h =
       let e : callOf r s at (length out) ≡ other Short = sym (call-short r s at (length out) h) in
       (ap (nextBy r) e, ap (bufferBy out) e)
@@ -37,7 +39,7 @@ module _ (r : Replay) (s : List ℕ) (at : ℕ) (out : List ℕ) where
   no-line = go (callOf r s at (length out))
     where
       go : (x : Call) → isLine (nextBy r x .answer) ≡ false → (nextBy r x .replay ≡ r) × (bufferBy out x ≡ out)
-      go (line text next q) h = absurd (true≢false h)
+      go (line a text next q) h = absurd (true≢false h)
       go (other p) h = (refl, refl)
 
   module _ (bytes next : ℕ) (told : nextLine r s at (length out) .answer ≡ Line bytes next) where
@@ -46,7 +48,7 @@ module _ (r : Replay) (s : List ℕ) (at : ℕ) (out : List ℕ) where
     behind-line = go (callOf r s at (length out)) told
       where
         go : (x : Call) → nextBy r x .answer ≡ Line bytes next → drop bytes (bufferBy out x) ≡ drop bytes out
-        go (line text n q) h = let z : length text ≡ bytes = cc in rw (← z) (drop-append-seam text (drop (length text) out))
+        go (line a text n q) h = let z : length text ≡ bytes = cc in rw (← z) (drop-append-seam text (drop (length text) out))
         go (other p) h = refl
 
     -- a line is that of a record at the byte

@@ -24,9 +24,9 @@ use Rattle.playing_nights.specs.declared.Replay.{Replay}
 use Rattle.playing_nights.specs.declared.Played.the-variants.{End, SetUp}
 use Rattle.playing_line.specs.Lines.{lineRoom, laid}
 use Rattle.playing_nights.specs.Fed.{fedWith, lineFor, linesFrom}
-use Rattle.playing_nights.specs.Step.{fresh, courseAfter, setUpIn, Call, line, other, nextBy, bufferBy, nextCount, lineCall, onFound, onCourse, callOf}
+use Rattle.playing_nights.specs.Call.{fresh, courseAfter, setUpIn, Call, line, other, nextBy, bufferBy, nextCount, lineCall, onFound, onCourse, callOf}
 use Rattle.playing_nights.specs.Night.{Wanted, Ready, ready, stopped, onSetting, preparedFrom, Night, endingOf, nightOf, setUpsFrom, stop, onPlayed, callsFrom, runOf}
-use Rattle.playing_nights.proofs.Entries.{entry-lies}
+use Rattle.log_records.proofs.Entries.{entry-lies}
 use Rattle.playing_nights.proofs.Steps.{call-on}
 
 -- ---- a call, and those behind it
@@ -66,7 +66,7 @@ end-night k r s at out g h l = call-is k r s at out (other End) (found-call r s 
 
 line-call : (r : Replay) (s : List ℕ) (e : Entry)
     → lineCall r s e
-    ≡ line (lineFor (r .table) (nextCount (r .count)) (recOf s e)) (e .next) (record { table = fedWith (r .table) (recOf s e) .table; count = nextCount (r .count); course = Records })
+    ≡ line (fedWith (r .table) (recOf s e) .answer) (lineFor (r .table) (nextCount (r .count)) (recOf s e)) (e .next) (record { table = fedWith (r .table) (recOf s e) .table; count = nextCount (r .count); course = Records })
 unfolding lineCall
 line-call r s e = refl
 
@@ -85,7 +85,7 @@ turn k r s at out (found.Record e) eq g h few go =
     let l : Log = readFrom k s (e .next) in
     let ih : callsFrom (suc k) q s (e .next) (laid text out) ≡ rest (q .table) n l =
     go q (e .next) (laid text out) tt (omega (arith, laid-room text out)) (entry-lies s at e eq .1) (omega arith) in
-    call-is (suc k) r s at out (line text (e .next) q) (found-call r s at (length out) (found.Record e) g h eq ∙ line-call r s e)
+    call-is (suc k) r s at out (line (fedWith (r .table) x .answer) text (e .next) q) (found-call r s at (length out) (found.Record e) g h eq ∙ line-call r s e)
     ∙ ap (λ (y : Night). record { lines = take (length text) (laid text out) ∷ y .lines; ending = y .ending }) ih
     ∙ ap (λ (y : List ℕ). record { lines = y ∷ linesFrom (q .table) n (recordsIn l); ending = endingOf l }) (take-append-seam text (drop (length text) out))
     ∙ ap (λ (m : ℕ). record { lines = lineFor (r .table) m x ∷ linesFrom (q .table) m (recordsIn l); ending = endingOf l }) one

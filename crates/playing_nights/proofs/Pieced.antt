@@ -15,7 +15,7 @@ use Rattle.playing_nights.specs.declared.Replay.{Replay}
 use Rattle.playing_nights.specs.declared.Played.{Played}
 use Rattle.playing_nights.specs.declared.Played.the-variants.{Line, End, Cut, Bad, SetUp, Short}
 use Rattle.playing_nights.specs.declared.Next.{Next}
-use Rattle.playing_nights.specs.Step.{fresh, nextLine, bufferAfter}
+use Rattle.playing_nights.specs.Call.{fresh, nextLine, bufferAfter}
 use Rattle.playing_nights.specs.Night.{Wanted, Night, setUpsFrom, onPlayed, callsFrom, runOf}
 use Rattle.playing_nights.specs.Pieces.{movedNext, isFirm, Piece, onMore, onMoved, pieceCall, inPieces}
 use Rattle.playing_nights.proofs.Calls.{line-lies}

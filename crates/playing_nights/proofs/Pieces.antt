@@ -20,19 +20,19 @@ use Rattle.playing_nights.specs.declared.Replay.{Replay}
 use Rattle.playing_nights.specs.declared.Played.the-variants.{Short}
 use Rattle.playing_line.specs.Lines.{lineRoom}
 use Rattle.playing_nights.specs.Fed.{fedWith, lineFor}
-use Rattle.playing_nights.specs.Step.{Call, line, other, nextBy, bufferBy, nextCount, lineCall, onFound, onCourse, callOf, nextLine, bufferAfter}
+use Rattle.playing_nights.specs.Call.{Call, line, other, nextBy, bufferBy, nextCount, lineCall, onFound, onCourse, callOf, nextLine, bufferAfter}
 use Rattle.playing_nights.specs.Pieces.{movedAnswer, movedNext, isFirm}
 
 abbrev movedCall : ℕ → Call → Call
-movedCall a (line text next q) = line text (a + next) q
+movedCall a (line h text next q) = line h text (a + next) q
 movedCall a (other p) = other (movedAnswer a p)
 
 next-moved : (r : Replay) (a : ℕ) (x : Call) → nextBy r (movedCall a x) ≡ movedNext a (nextBy r x)
-next-moved r a (line text next q) = refl
+next-moved r a (line h text next q) = refl
 next-moved r a (other p) = refl
 
 buffer-moved : (out : List ℕ) (a : ℕ) (x : Call) → bufferBy out (movedCall a x) ≡ bufferBy out x
-buffer-moved out a (line text next q) = refl
+buffer-moved out a (line h text next q) = refl
 buffer-moved out a (other p) = refl
 
 -- what was found decides whether the answer is firm
@@ -50,7 +50,7 @@ module _ (r : Replay) (s : List ℕ) (a k i : ℕ) where
   found-moved : (f : Found) → foundAt p i ≡ f → onFound r s (moved a f) ≡ movedCall a (onFound r p f)
   unfolding lineCall
   found-moved (found.Record e) h =
-      ap (λ (x : Rec). line (lineFor (r .table) (nextCount (r .count)) x) (a + e .next) (record { table = fedWith (r .table) x .table; count = nextCount (r .count); course = Records }))
+      ap (λ (x : Rec). line (fedWith (r .table) x .answer) (lineFor (r .table) (nextCount (r .count)) x) (a + e .next) (record { table = fedWith (r .table) x .table; count = nextCount (r .count); course = Records }))
       (same-record s a k i e h)
   found-moved found.End h = refl
   found-moved (found.Cut b) h = refl

@@ -13,7 +13,7 @@ use Rattle.log_records.specs.Pieces.{pieceOf}
 use Rattle.playing_nights.specs.declared.Replay.{Replay}
 use Rattle.playing_nights.specs.declared.Played.{Played}
 use Rattle.playing_nights.specs.declared.Played.the-variants.{Line, End, Cut, Bad, SetUp, Short}
-use Rattle.playing_nights.specs.Step.{fresh, nextLine, bufferAfter}
+use Rattle.playing_nights.specs.Call.{fresh, nextLine, bufferAfter}
 use Rattle.playing_nights.specs.Night.{Wanted, Night, setUpsFrom, stop, runOf}
 use Rattle.playing_nights.specs.Pieces.{movedAnswer, isFirm, Piece, AllRoomy, onMore, onMoved, inPieces}
 use Rattle.playing_nights.proofs.Calls.{line-lies}

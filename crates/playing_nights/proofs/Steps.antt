@@ -18,7 +18,7 @@ use Rattle.playing_nights.specs.declared.Played.the-variants.{Line, Shor
 use Rattle.playing_nights.specs.declared.Next.{Next}
 use Rattle.playing_line.specs.Lines.{lineRoom, lineOf, laid}
 use Rattle.playing_nights.specs.Fed.{fedWith, channelOf, lineFor}
-use Rattle.playing_nights.specs.Step.{courseAfter, answered, preparedBy, setUpOn, setUpIn, Call, line, other, nextBy, bufferBy, nextCount, lineCall, onFound, onCourse, callOf}
+use Rattle.playing_nights.specs.Call.{courseAfter, answered, preparedBy, setUpOn, setUpIn, Call, line, other, nextBy, bufferBy, nextCount, lineCall, onFound, onCourse, callOf}
 use Rattle.playing_nights.proofs.Entries.{channel-of}
 
 -- ---- set-ups
@@ -54,7 +54,7 @@ module _ (r : Replay) (s : List ℕ) (at room : ℕ) where
 module _ (r : Replay) (s : List ℕ) (e : Entry) (out : List ℕ) {f : Fed} {n i bytes : ℕ} {after : List ℕ} where
   pub line-told : f ≡ fedWith (r .table) (recOf s e) → n ≡ nextCount (r .count) → i ≡ placeOf (r .table .posts) (e .channel)
       → (bytes ≡ length (lineOf n i (f .answer))) × (after ≡ laid (lineOf n i (f .answer)) out)
-      → (record { replay = record { table = f .table; count = n; course = Records }; answer = Line bytes (e .next) } ≡ nextBy r (lineCall r s e)) × (after ≡ bufferBy out (lineCall r s e))
+      → (record { replay = record { table = f .table; count = n; course = Records }; answer = Line bytes (e .next); heard = f .answer } ≡ nextBy r (lineCall r s e)) × (after ≡ bufferBy out (lineCall r s e))
   unfolding lineCall
   line-told fed count post h =
       let same : lineOf n i (f .answer) ≡ lineFor (r .table) (nextCount (r .count)) (recOf s e) =

@@ -1,5 +1,5 @@
 pub mod Fed
-pub mod Step
+pub mod Call
 pub mod Answers
 pub mod Night
 pub mod Pieces

@@ -14,7 +14,7 @@ use Rattle.playing_nights.specs.declared.Replay.{Replay}
 use Rattle.playing_nights.specs.declared.Played.{Played}
 use Rattle.playing_nights.specs.declared.Played.the-variants.{Line, End, Cut, Bad, SetUp, Short}
 use Rattle.playing_nights.specs.Fed.{linesFrom, lines01From}
-use Rattle.playing_nights.specs.Step.{fresh, setUpIn, nextLine, bufferAfter}
+use Rattle.playing_nights.specs.Call.{fresh, setUpIn, nextLine, bufferAfter}
 
 -- ---- set-ups
 

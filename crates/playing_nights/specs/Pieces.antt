@@ -11,7 +11,7 @@ use Rattle.playing_nights.specs.declared.Replay.{Replay}
 use Rattle.playing_nights.specs.declared.Played.{Played}
 use Rattle.playing_nights.specs.declared.Played.the-variants.{Line, End, Cut, Bad, SetUp, Short}
 use Rattle.playing_nights.specs.declared.Next.{Next}
-use Rattle.playing_nights.specs.Step.{nextLine, bufferAfter}
+use Rattle.playing_nights.specs.Call.{nextLine, bufferAfter}
 use Rattle.playing_nights.specs.Night.{Night, stop}
 
 -- with a bytes in front
@@ -24,7 +24,7 @@ movedAnswer a (SetUp w) = SetUp w
 movedAnswer a Short = Short
 
 abbrev pub movedNext : ℕ → Next → Next
-movedNext a x = record { replay = x .replay; answer = movedAnswer a (x .answer) }
+movedNext a x = record { replay = x .replay; answer = movedAnswer a (x .answer); heard = x .heard }
 
 -- whatever bytes follow; an end or a cut may only be the piece's own
 abbrev pub isFirm : Played → Bool
@@ -58,7 +58,8 @@ onMoved out go (Bad w at) = some (stop (Bad w at))
 onMoved out go (SetUp w) = some (stop (SetUp w))
 onMoved out go Short = some (stop Short)
 
--- the call for byte `at` of the log s, over the piece that begins at its byte a and has k bytes; a piece that neither is firm nor reaches the log's end was asked in vain
+-- the call for byte `at` of the log s, over the piece that begins at its byte a and has k bytes;
+-- a piece that neither is firm nor reaches the log's end was asked in vain
 abbrev pub pieceCall : Replay → List ℕ → ℕ → ℕ → ℕ → List ℕ → (Replay → ℕ → List ℕ → Option Night) → Option Night
 pieceCall r s a k at out go =
     cond (isFirm (nextLine r (pieceOf s a k) (at - a) (length out) .answer) || leb (length s) (a + k))

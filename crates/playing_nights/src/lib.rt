@@ -1,6 +1,7 @@
 // What a replay of a night is (02, Req 05), without functions: one set-up and one call, whole nights, nights over pieces of a log, and the laws that hold them
 // to the records fed singly and to 01's rules. Whoever checks a replay against 02 reads this crate; playing_setups and playing_calls answer by it.
 use refusals::Refusal;
+use watch_rules::Answer;
 use watch_rules::Table;
 
 // What a replay stands at: its set-ups may still come; records were fed; or a set-up was refused, which ended it.
@@ -40,7 +41,9 @@ pub enum Played {
     Short,
 }
 
+// Beside a line stands what it tells: the watch's answer to the record, for callers that count. Where there is no line it is no finding.
 pub struct Next {
     pub replay: Replay,
     pub answer: Played,
+    pub heard: Answer,
 }

@@ -2,7 +2,7 @@
 // function takes any input.
 ghost use mathlib.Core.Path.{_≡_};
 ghost use Rattle.watch_rules.specs.Table.{setUpOf};
-ghost use Rattle.playing_nights.specs.Step.{fresh, preparedBy, setUpIn};
+ghost use Rattle.playing_nights.specs.Call.{fresh, preparedBy, setUpIn};
 use playing_nights::Course;
 use playing_nights::Prepared;
 use playing_nights::Preparing;

@@ -1,16 +1,18 @@
-// One post of the session watch, by value: a post that is set up, and its head stepped by a tick or a frame, with the event's findings. For the tables of posts.
-// A step has two promises: what it is for every head, and, for whatever history the head stands for, that its findings are 01's over that history and that the post with what it leaves stands for the longer one.
+// One post of the session watch, by value: a post that is set up, and its head stepped by a tick or a frame, with the event's findings. For the tables of
+// posts.
+// A step has two promises: what it is for every head, and, for whatever history the head stands for,
+// that its findings are 01's over that history and that the post with what it leaves stands for the longer one.
 ghost use mathlib.Core.Path.{_≡_};
-ghost use Rattle.rules.specs.Right.{tickAt, frameAt, StepRight};
-ghost use Rattle.rules.specs.Step.{tickStep, frameStep, newPost, freePost, freshPost};
+ghost use Rattle.rules.specs.Right.{tickAt, frameAt, AfterRight};
+ghost use Rattle.rules.specs.After.{afterTick, afterFrame, newPost, freePost, freshPost};
 
 mod step; // step.rt: a head after one event more
 
 use rule_limits::PlainLimits;
+use rules::AfterEvent;
 use rules::Head;
 use rules::KINDS;
 use rules::Post;
-use rules::Stepped;
 
 // A post that nothing was heard of.
 fn new_post(used: u32, channel: u32, limits: PlainLimits) -> Post
@@ -56,13 +58,13 @@ pub fn fresh_post(channel: u32, limits: PlainLimits) -> Post
 }
 
 // The head goes to the event's time first, and is judged there; then the frame is put in. A tick is the first half.
-pub fn tick(h: Head, time: u32) -> Stepped
-    ensures by_record { λ r. ⌜ r ≡ tickStep h time ⌝ }
-    ensures by_history { λ r. ⌜ StepRight h (tickAt time) r ⌝ }
+pub fn tick(h: Head, time: u32) -> AfterEvent
+    ensures by_record { λ r. ⌜ r ≡ afterTick h time ⌝ }
+    ensures by_history { λ r. ⌜ AfterRight h (tickAt time) r ⌝ }
 {
     let g = step::aged(h, post_times::stamp(h, time));
     let slot = step::no_slot();
-    Stepped {
+    AfterEvent {
         head: g,
         slot,
         at: KINDS,
@@ -70,15 +72,15 @@ pub fn tick(h: Head, time: u32) -> Stepped
     }
 }
 
-pub fn frame(h: Head, time: u32, kind: usize, raw: u64) -> Stepped
-    ensures by_record { λ r. ⌜ r ≡ frameStep h time kind raw ⌝ }
-    ensures by_history { λ r. ⌜ StepRight h (frameAt time kind raw) r ⌝ }
+pub fn frame(h: Head, time: u32, kind: usize, raw: u64) -> AfterEvent
+    ensures by_record { λ r. ⌜ r ≡ afterFrame h time kind raw ⌝ }
+    ensures by_history { λ r. ⌜ AfterRight h (frameAt time kind raw) r ⌝ }
 {
     let g = step::aged(h, post_times::stamp(h, time));
     let findings = post_times::any_findings(g) + post_findings::message_findings(g, kind, raw);
     let slot = step::slot_at(g.time, raw);
     let f = step::with_frame(g, kind, slot);
-    Stepped {
+    AfterEvent {
         head: f,
         slot,
         at: kind,

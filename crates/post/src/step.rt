@@ -2,7 +2,7 @@
 ghost use mathlib.Core.Path.{_≡_};
 ghost use Prim.Native.Nat.{_<_};
 ghost use Rattle.rules.specs.Record.{unknown, slotAt, closedSession};
-ghost use Rattle.rules.specs.Step.{keptCount, keptPut, openedBy, sessionAfter, agedTo, putAt, withFrame};
+ghost use Rattle.rules.specs.After.{keptCount, keptPut, openedBy, sessionAfter, agedTo, putAt, withFrame};
 use message_types::CONTROL;
 use message_types::CONTROLLER;
 use message_types::FINISHED;

@@ -7,7 +7,7 @@ use Rattle.message_parts.specs.Parts.{parametersIn}
 use Rattle.rules.specs.declared.Slot.{Slot}
 use Rattle.rule_limits.specs.Limits.{capped}
 use Rattle.rules.specs.Record.{isSet}
-use Rattle.rules.specs.Step.{limitIn}
+use Rattle.rules.specs.After.{limitIn}
 
 pub limit-known : (number : DcPowerParameters → ℕ) (most : ℕ) (l : Slot) {q : DcPowerParameters} {r : ℕ}
     → isSet (l .known) ≡ true → q ≡ parametersIn (l .raw) → r ≡ capped most (number q) → r ≡ limitIn most number l

@@ -1,7 +1,7 @@
 // F3 to F11: what is found of a frame by its message, on a head that was aged to the frame's time. For the post's step.
 ghost use mathlib.Core.Path.{_≡_};
 ghost use Prim.Native.Nat.{_≤_};
-ghost use Rattle.rules.specs.Step.{unreadyAfter, unreadyIn, carryingAfter, carryingIn, limitIn, controlFindings, statusFindings, openingFindings, finishedFindings, messageFindings};
+ghost use Rattle.rules.specs.After.{unreadyAfter, unreadyIn, carryingAfter, carryingIn, limitIn, controlFindings, statusFindings, openingFindings, finishedFindings, messageFindings};
 use message_types::CONTROL;
 use message_types::DcPowerControl;
 use message_types::FINISHED;

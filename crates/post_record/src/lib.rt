@@ -5,7 +5,7 @@ ghost use mathlib.Core.Path.{_≡_};
 ghost use Rattle.rules.specs.History.{receivedOf, countFrom};
 ghost use Rattle.rules.specs.Record.{kindCount, unknown};
 ghost use Rattle.rules.specs.Right.{RecordRight};
-ghost use Rattle.rules.specs.Step.{datedIn, partIn, lastIn, recordIn};
+ghost use Rattle.rules.specs.After.{datedIn, partIn, lastIn, postRecord};
 use message_types::CONTROL;
 use message_types::STATUS;
 use rule_asks::is_set;
@@ -91,8 +91,8 @@ fn messages_of(now: u64, slots: [Slot; KINDS]) -> [Latest; KINDS]
     latest
 }
 
-pub fn record_in(p: Post) -> Record
-    ensures by_record { λ r. ⌜ r ≡ recordIn p ⌝ }
+pub fn of_post(p: Post) -> Record
+    ensures by_record { λ r. ⌜ r ≡ postRecord p ⌝ }
     ensures by_history { λ r. ⌜ RecordRight p r ⌝ }
 {
     let slots = p.latest;

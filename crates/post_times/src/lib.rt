@@ -1,8 +1,9 @@
-// What is asked of an event's time, of one post: 2, whether it is earlier than the post's latest, and F1 and F2, which any event may raise. For the post's step and for who refuses an event.
+// What is asked of an event's time, of one post: 2, whether it is earlier than the post's latest, and F1 and F2, which any event may raise.
+// For the post's step and for who refuses an event.
 ghost use mathlib.Core.Path.{_≡_};
 ghost use Prim.Native.Nat.{_≤_};
 ghost use Rattle.rules.specs.History.{earlier, elapsed};
-ghost use Rattle.rules.specs.Step.{stampIn, isEarly, laterOf, silentIn, lateAfter, anyFindings};
+ghost use Rattle.rules.specs.After.{stampIn, isEarly, laterOf, silentIn, lateAfter, anyFindings};
 use rule_asks::flag;
 use rule_asks::is_set;
 use rules::Head;

@@ -1,7 +1,7 @@
 -- 01, "Numbers given back": the number of each refusal, and the start bit that 5 carries.
 use Prim.Native.Nat.{ℕ}
 use Rattle.refusals.specs.declared.Refusal.{Refusal}
-use Rattle.refusals.specs.declared.Refusal.the-variants.{ChannelFree, Earlier, UnknownIdentifier, TooShort, NoLabel, UncoveredBit, NoRawNumber, ShortBuffer, NoSuchPost, NoSuchChannel, ChannelTaken, LimitOutside, NoSignal, NotSetUp, TooLong, IllNumber, LogChannel, LogStandard, LogExtended, LogLength, LogTick}
+use Rattle.refusals.specs.declared.Refusal.the-variants.{ChannelFree, Earlier, UnknownIdentifier, TooShort, NoLabel, UncoveredBit, NoRawNumber, ShortBuffer, NoSuchPost, NoSuchChannel, ChannelTaken, LimitOutside, NoSignal, NotSetUp, TooLong, IllNumber, LogChannel, LogStandard, LogExtended, LogLength, LogTick, BatchBytes, BatchRecord, BatchAnswers}
 
 abbrev pub numberOf : Refusal → ℕ
 -- channel above 31, or held by no post
@@ -46,6 +46,13 @@ numberOf LogExtended = 19
 numberOf LogLength = 20
 -- length 9 with another identifier part than 0
 numberOf LogTick = 21
+-- ---- 02, Req 07, a batch: "each refuse the whole batch with a number of their own"
+-- a slice above 4,096 bytes
+numberOf BatchBytes = 22
+-- a malformed or cut record
+numberOf BatchRecord = 23
+-- an answers slice shorter than the records
+numberOf BatchAnswers = 24
 
 -- 02, Req 02: 5 "is to carry the start bit of the first offending signal"; no other refusal has one
 abbrev pub startOf : Refusal → ℕ
@@ -70,3 +77,6 @@ startOf LogStandard = 0
 startOf LogExtended = 0
 startOf LogLength = 0
 startOf LogTick = 0
+startOf BatchBytes = 0
+startOf BatchRecord = 0
+startOf BatchAnswers = 0

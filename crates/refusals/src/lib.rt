@@ -4,7 +4,7 @@ ghost use mathlib.Core.Path.{_≡_};
 ghost use Rattle.refusals.specs.Refusals.{numberOf, startOf};
 
 // 01, "Numbers given back": a case for each number, in their order (`numberOf` in specs/). Those of 02 follow: a length above the table's
-// (Req 02), and the night log's (Req 01). 5 carries the start bit of the signal (02, Req 02).
+// (Req 02), the night log's (Req 01) and a batch's (Req 07). 5 carries the start bit of the signal (02, Req 02).
 pub enum Refusal {
     ChannelFree,
     Earlier,
@@ -27,6 +27,9 @@ pub enum Refusal {
     LogExtended,
     LogLength,
     LogTick,
+    BatchBytes,
+    BatchRecord,
+    BatchAnswers,
 }
 
 pub fn refusal_number(w: Refusal) -> u32
@@ -54,6 +57,9 @@ pub fn refusal_number(w: Refusal) -> u32
         Refusal::LogExtended => 19,
         Refusal::LogLength => 20,
         Refusal::LogTick => 21,
+        Refusal::BatchBytes => 22,
+        Refusal::BatchRecord => 23,
+        Refusal::BatchAnswers => 24,
     }
 }
 

@@ -18,11 +18,11 @@ fn run(posts: &[u8], log: &[u8]) {
     if !p.ready {
         return;
     }
-    let w = night::played(p.replay, log);
-    if w.failed {
+    let n = night::played(p.replay, log);
+    if n.course.failed {
         return;
     }
-    summary::say(w);
+    summary::say(n);
 }
 
 fn main() {

@@ -1,119 +1,132 @@
-// The records of a piece of the log, one after the other.
+// The records of a piece of the log, one after the other: log_walk says where they end, and the replay, the lines and the tally go along.
 use crate::paper;
 use crate::tally;
 use crate::tally::Tally;
+use log_walk::Seen;
+use log_walk::Walk;
+use log_walk::file;
 use playing_nights::Played;
 use playing_nights::Replay;
-use refusals::Refusal;
 use text_pen::Pen;
+use watch_rules::Answer;
 
-// What stands behind the records of a piece: Going while a record may follow.
-pub enum Behind {
-    Going,
-    End,
-    Cut,
-    Bad(Refusal),
-    Failed,
-}
-
-// `at` is the byte of the piece where the next record begins.
+// A walk over the log, with what goes along: the byte of the piece where it stands, and whether the piece may hold more; failed where something could not
+// be read or written, which was said.
 pub struct Course {
     pub tally: Tally,
     pub pen: Pen,
+    pub walk: Walk,
     pub at: usize,
     pub more: bool,
-    pub behind: Behind,
+    pub failed: bool,
 }
 
-// The replay stands apart from the course, which functions hand on for each record: with its table it is large.
+// The replay stands apart from the course, which most functions hand on alone: with its table it is large.
 pub struct Read {
     pub replay: Replay,
     pub course: Course,
 }
 
-pub fn begun(tally: Tally, pen: Pen) -> Course {
+pub fn begun(size: u64) -> Course {
+    let tally = tally::none();
+    let walk = log_walk::start(size);
     Course {
         tally,
-        pen,
+        pen: Pen { at: 0, full: false },
+        walk,
         at: 0,
         more: true,
-        behind: Behind::Going,
+        failed: false,
     }
 }
 
-fn ended(c: Course, behind: Behind) -> Course {
-    let tally = c.tally;
-    let pen = c.pen;
-    Course {
-        tally,
-        pen,
-        at: c.at,
-        more: false,
-        behind,
-    }
-}
-
-// A line was written: it is counted and goes to the output.
-fn told(c: Course, line: &[u8], next: usize, out: &mut [u8]) -> Course {
-    let t = c.tally;
-    let p = c.pen;
-    let pen = paper::put(out, p, line);
-    let tally = tally::counted(t, line);
-    let d = Course {
-        tally,
-        pen,
-        at: next,
-        more: true,
-        behind: Behind::Going,
-    };
-    if pen.full {
-        return ended(d, Behind::Failed);
-    }
+pub fn failed(c: Course) -> Course {
+    let mut d = c;
+    d.more = false;
+    d.failed = true;
     d
 }
 
-fn answered(c: Course, answer: Played, line: &[u8], out: &mut [u8]) -> Course {
-    match answer {
-        Played::Line { bytes, next } => {
-            if bytes > line.len() {
-                return ended(c, Behind::Failed);
-            }
-            told(c, &line[0..bytes], next, out)
-        }
-        Played::End => ended(c, Behind::End),
-        Played::Cut(_) => ended(c, Behind::Cut),
-        Played::Bad(why, _) => ended(c, Behind::Bad(why)),
-        Played::SetUp(_) => ended(c, Behind::Failed),
-        Played::Short => ended(c, Behind::Failed),
+fn passed(c: Course, length: usize, seen: Seen) -> Course {
+    let w = c.walk;
+    let tally = c.tally;
+    let pen = c.pen;
+    let walk = log_walk::passed(w, length, seen);
+    Course {
+        tally,
+        pen,
+        walk,
+        at: log_walk::place(walk),
+        more: log_walk::is_within(walk),
+        failed: false,
     }
 }
 
-// A record has at least four bytes, so the turns are enough.
-pub fn played(
-    replay: Replay,
-    start: Course,
-    piece: &[u8],
-    line: &mut [u8],
+// A line was written: its answer is counted, and it goes to the output.
+fn told(c: Course, heard: Answer, line: &[u8], out: &mut [u8]) -> Course {
+    let t = c.tally;
+    let p = c.pen;
+    let walk = c.walk;
+    let pen = paper::put(out, p, line);
+    let tally = tally::counted(t, heard);
+    Course {
+        tally,
+        pen,
+        walk,
+        at: c.at,
+        more: c.more,
+        failed: pen.full,
+    }
+}
+
+fn behind(c: Course, length: usize, next: usize) -> Course {
+    if c.failed {
+        return failed(c);
+    }
+    passed(c, length, Seen::Record(next))
+}
+
+fn answered(
+    c: Course,
+    answer: Played,
+    heard: Answer,
+    length: usize,
+    line: &[u8],
     out: &mut [u8],
-) -> Read {
-    let mut r = replay;
-    let mut c = start;
-    let mut turns = piece.len();
+) -> Course {
+    match answer {
+        Played::Line { bytes, next } => {
+            let d = told(c, heard, file::front(line, bytes), out);
+            behind(d, length, next)
+        }
+        Played::End => passed(c, length, Seen::End),
+        Played::Cut(_) => passed(c, length, Seen::Cut),
+        Played::Bad(why, _) => passed(c, length, Seen::Bad(why)),
+        Played::SetUp(_) => failed(c),
+        Played::Short => failed(c),
+    }
+}
+
+// One record further.
+fn stepped(n: Read, piece: &[u8], line: &mut [u8], out: &mut [u8]) -> Read {
+    let c = n.course;
+    let m = playing_calls::next_line(n.replay, piece, c.at, line);
+    let replay = m.replay;
+    let answer = m.answer;
+    let heard = m.heard;
+    let course = answered(c, answer, heard, piece.len(), line, out);
+    Read { replay, course }
+}
+
+pub fn played(start: Read, piece: &[u8], line: &mut [u8], out: &mut [u8]) -> Read {
+    let mut n = start;
+    let mut turns = u64::MAX;
     while turns > 0 {
-        let n = playing_calls::next_line(r, piece, c.at, line);
-        r = n.replay;
-        let answer = n.answer;
-        c = answered(c, answer, line, out);
-        if !c.more {
-            return Read {
-                replay: r,
-                course: c,
-            };
+        n = stepped(n, piece, line, out);
+        if !n.course.more {
+            return n;
         }
         turns -= 1;
     }
-    Read {
-        replay: r,
-        course: c,
-    }
+    n
 }

@@ -37,6 +37,13 @@ pub fn fail(name: &[u8], doing: &[u8]) {
     failed(q.at, &out);
 }
 
+pub fn changed(name: &[u8]) {
+    let mut out = io::large_buffer();
+    let p = named(name, &mut out);
+    let q = text_pen::put(&mut out, p, b": the file changed while it was read\n");
+    written(q.at, &out);
+}
+
 pub fn too_long(name: &[u8]) {
     let mut out = io::large_buffer();
     let p = named(name, &mut out);

@@ -1,18 +1,19 @@
 // How the log ended, and the counts: on standard error, behind the lines.
-use crate::night::Night;
-use crate::piece::Behind;
+use crate::piece::Read;
 use crate::say;
 use crate::tally::Tally;
+use log_walk::Stand;
 use text_pen::Pen;
 
 // desk.md: `END`, `CUT@BYTE` or `BAD R<n>@BYTE`
-fn put_ending(out: &mut [u8], pen: Pen, behind: Behind, at: u64) -> Pen {
-    match behind {
-        Behind::Going => pen,
-        Behind::End => text_pen::put(out, pen, b"END"),
-        Behind::Cut => notation_endings::ending::cut(out, pen, at),
-        Behind::Bad(why) => notation_endings::ending::bad(out, pen, why, at),
-        Behind::Failed => pen,
+fn put_ending(out: &mut [u8], pen: Pen, stand: Stand, at: u64) -> Pen {
+    match stand {
+        Stand::Within => pen,
+        Stand::Seam => pen,
+        Stand::End => text_pen::put(out, pen, b"END"),
+        Stand::Cut => notation_endings::ending::cut(out, pen, at),
+        Stand::Bad(why) => notation_endings::ending::bad(out, pen, why, at),
+        Stand::Short => pen,
     }
 }
 
@@ -56,13 +57,14 @@ fn put_tally(out: &mut [u8], pen: Pen, records: u64, t: Tally) -> Pen {
     put_numbers(out, q, b"F", findings)
 }
 
-pub fn say(w: Night) {
-    let behind = w.behind;
-    let at = w.at;
-    let records = w.replay.count;
+pub fn say(n: Read) {
+    let c = n.course;
+    let w = c.walk;
+    let stand = w.stand;
+    let records = n.replay.count;
     let mut out = io::large_buffer();
-    let p = put_ending(&mut out, Pen { at: 0, full: false }, behind, at);
+    let p = put_ending(&mut out, Pen { at: 0, full: false }, stand, w.at);
     let q = notation_answers::answer::line_end(&mut out, p);
-    let r = put_tally(&mut out, q, records, w.tally);
+    let r = put_tally(&mut out, q, records, c.tally);
     say::written(r.at, &out);
 }

@@ -78,7 +78,8 @@ outside z charge discharge = ltZ (pos charge) z || ltZ z (negℤ (pos discharge)
 unfoldable pub leaking : PowerModulesStatus → Bool
 leaking s = ltb (s .insulation * 100) (s .voltage)
 
--- 02, Req 03: "For a yes/no sensor F9's insulation test is raw 0 and nothing else; for a measuring one F9 stays." Insulation is twice the raw number: 0 exactly where that is 0.
+-- 02, Req 03: "For a yes/no sensor F9's insulation test is raw 0 and nothing else; for a measuring one F9 stays."
+-- Insulation is twice the raw number: 0 exactly where that is 0.
 unfoldable pub badInsulation : Sensor → PowerModulesStatus → Bool
 badInsulation Measuring s = leaking s
 badInsulation YesNo s = eqb (s .insulation) 0

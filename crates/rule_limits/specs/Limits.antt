@@ -4,7 +4,8 @@ use mathlib.Core.Bool.{Bool, cond, _&&_}
 use lib.Dec.{eqb, leb}
 use Rattle.rule_limits.specs.declared.PlainLimits.{PlainLimits}
 
--- 01: "default voltage 1 to 65,535 tenths of a volt, default charge current 1 to 32,767 tenths of an ampere, default discharge current 0 to 32,767, power module silence W 100 to 60,000 ms"; 02, Req 03: a sensor kind by its number
+-- 01: "default voltage 1 to 65,535 tenths of a volt, default charge current 1 to 32,767 tenths of an ampere, default discharge current 0 to 32,767,
+-- power module silence W 100 to 60,000 ms"; 02, Req 03: a sensor kind by its number
 unfoldable pub limitsFit : PlainLimits → Bool
 limitsFit lim =
     leb 1 (lim .voltage) && (leb (lim .voltage) 65535

@@ -14,7 +14,7 @@ use Rattle.rule_asks.specs.Judgements.{bit, differs, isCarrying}
 use Rattle.rules.specs.declared.Session.{Session}
 use Rattle.rules.specs.Rules.{ask, isOpen, sessionStatus, sessionControl, laterTime, limitBy, limitOf, unready, f1, f2, f3, f4, f5, f6, f7, f8, f9, f10, f11, findings01}
 use Rattle.rules.specs.Record.{isSet, slotOf, keptOf, sessionOf, session01, headAt}
-use Rattle.rules.specs.Step.{laterOf, silentIn, lateAfter, anyFindings, limitIn, unreadyAfter, unreadyIn, carryingAfter, carryingIn, controlFindings, statusFindings, openingFindings, finishedFindings, messageFindings}
+use Rattle.rules.specs.After.{laterOf, silentIn, lateAfter, anyFindings, limitIn, unreadyAfter, unreadyIn, carryingAfter, carryingIn, controlFindings, statusFindings, openingFindings, finishedFindings, messageFindings}
 use Rattle.rules.proofs.ByKind.{by-kind}
 use Rattle.rules.proofs.Unasked.{unasked-frame, messageBits, no-bits, only-f1-f2}
 

@@ -1,3 +1,4 @@
+pub mod BothSides
 pub mod Counted
 pub mod Unmapped
 pub mod ByKind

@@ -1,4 +1,5 @@
--- The inner step is looking back over one event more: a head that stands for a history goes to the one that stands for the longer history, and its findings and its post's record are 01's.
+-- The inner step is looking back over one event more: a head that stands for a history goes to the one that stands for the longer history,
+-- and its findings and its post's record are 01's.
 use Prim.Native.Nat.{ℕ, _<_}
 use native.Mathlib.Omega.{arith}
 use mathlib.Core.Path.{_≡_, refl, sym}
@@ -13,8 +14,8 @@ use Rattle.rule_limits.specs.declared.PlainLimits.{PlainLimits}
 use Rattle.rules.specs.declared.Latest.{Latest}
 use Rattle.rules.specs.History.{frame, tick, History, newest, ofKind, sinceFinished, opening, inSession, stampOf, earlierIn, countFrom}
 use Rattle.rules.specs.Rules.{sessionStatus, sessionControl, findings01}
-use Rattle.rules.specs.Record.{kindCount, datedOf, lastOf, partOf, latestTime, recordAt, recordOf, unknown, slotAt, slotOf, keptOf, sessionOf, session01, headAt, headOf, latests, postOf}
-use Rattle.rules.specs.Step.{putAt, agedTo, withFrame, isEarly, tickStep, frameStep, keepIn, stored, freshPost, latestIn, datedIn, partIn, lastIn, recordIn}
+use Rattle.rules.specs.Record.{kindCount, datedOf, lastOf, partOf, latestTime, recordAsOf, recordOf, unknown, slotAt, slotOf, keptOf, sessionOf, session01, headAt, headOf, latests, postOf}
+use Rattle.rules.specs.After.{putAt, agedTo, withFrame, isEarly, afterTick, afterFrame, keepIn, stored, freshPost, latestIn, datedIn, partIn, lastIn, postRecord}
 use Rattle.rules.proofs.Counted.{count-at, count-same, count-set}
 use Rattle.rules.proofs.SessionLook.{session-stays, session-frame}
 use Rattle.rules.proofs.FindingsLook.{findings-tick, findings-frame}
@@ -130,15 +131,15 @@ module _ (c : ℕ) (lim : PlainLimits) where
   early-look (e ∷ h) t = refl
 
   pub tick-look : (h : History) (t : ℕ)
-      → tickStep (headOf c lim h) t
+      → afterTick (headOf c lim h) t
       ≡ record { head = headOf c lim (tick (stampOf h t) ∷ h); slot = unknown; at = kindCount; findings = findings01 lim h (tick (stampOf h t)) }
-  unfolding tickStep
+  unfolding afterTick
   tick-look h t = rw (aged-look h t, findings-tick c lim h t, head-tick h t)
 
   pub frame-look : (h : History) (t k raw : ℕ)
-      → frameStep (headOf c lim h) t k raw
+      → afterFrame (headOf c lim h) t k raw
       ≡ record { head = headOf c lim (frame (stampOf h t) k raw ∷ h); slot = slotAt (stampOf h t) raw; at = k; findings = findings01 lim h (frame (stampOf h t) k raw) }
-  unfolding frameStep
+  unfolding afterFrame
   frame-look h t k raw = rw (aged-look h t, findings-frame c lim h t k raw, head-frame h t k raw)
 
   -- the post with what a step left of it
@@ -151,6 +152,6 @@ module _ (c : ℕ) (lim : PlainLimits) where
   pub stored-still : (h : History) → stored (postOf c lim h) (headOf c lim h) kindCount unknown ≡ postOf c lim h
   stored-still h = refl
 
-  pub record-look : (h : History) → recordIn (postOf c lim h) ≡ recordOf c lim h
-  unfolding recordIn recordAt headAt
+  pub record-look : (h : History) → postRecord (postOf c lim h) ≡ recordOf c lim h
+  unfolding postRecord recordAsOf headAt
   record-look h = rw (last-look h, messages-look (latestTime h) h, session-look (latestTime h) h)

@@ -9,7 +9,7 @@ use Rattle.message_parts.specs.Parts.{statusKind, sessionKind, controlKind, fin
 use Rattle.rules.specs.declared.Session.{Session}
 use Rattle.rules.specs.History.{Event, frame, History, first, oldest, onlyIf, afterOldest, openingOf, sinceFinished, opening, inSession}
 use Rattle.rules.specs.Record.{slotAt, keptOf, sessionOf, session01}
-use Rattle.rules.specs.Step.{sessionAfter}
+use Rattle.rules.specs.After.{sessionAfter}
 use Rattle.rules.proofs.ByKind.{by-kind}
 use Rattle.rules.proofs.Unasked.{Unasked, unasked-frame}
 

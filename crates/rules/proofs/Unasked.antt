@@ -1,4 +1,5 @@
--- 02, Req 04: "raise only F1 and F2". An event of a kind that none of F3 to F11 asks for has none of them, whatever came before it, whenever it comes and whatever it says.
+-- 02, Req 04: "raise only F1 and F2". An event of a kind that none of F3 to F11 asks for has none of them, whatever came before it,
+-- whenever it comes and whatever it says.
 use Prim.Native.Nat.{ℕ, _+_, _≤_}
 use native.Mathlib.Omega.{arith}
 use mathlib.Core.Path.{_≡_}

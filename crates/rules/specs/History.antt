@@ -85,7 +85,8 @@ finishedOf = ofKind finishedKind
 
 -- ---- the session
 
--- 01: "A session opens at a New_Charge_Session accepted while none is open, and closes at Charge_Session_Finished. Repeats of New_Charge_Session .. do not open it anew."
+-- 01: "A session opens at a New_Charge_Session accepted while none is open, and closes at Charge_Session_Finished.
+-- Repeats of New_Charge_Session .. do not open it anew."
 -- So it opened at the first New_Charge_Session since the latest Charge_Session_Finished, and the session's events are those after it.
 unfoldable pub sinceFinished : History → History
 sinceFinished h = sinceNewest finishedOf h

@@ -1,5 +1,5 @@
 pub mod History
 pub mod Rules
 pub mod Record
-pub mod Step
+pub mod After
 pub mod Right

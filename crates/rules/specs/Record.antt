@@ -1,5 +1,7 @@
--- A post's record, read by looking back: 01, "A post's record is: its channel and limits, its latest accepted time, the latest accepted message of each kind with its time,
--- whether a session is open, since when and with which first protocol and plug, and the latest Power_Modules_Status and DC_Power_Control accepted in that session, each possibly none.
+-- A post's record, read by looking back: 01, "A post's record is: its channel and limits, its latest accepted time,
+-- the latest accepted message of each kind with its time,
+-- whether a session is open, since when and with which first protocol and plug, and the latest Power_Modules_Status and DC_Power_Control accepted in that
+-- session, each possibly none.
 -- With no session open all of the session's part is none."
 use Prim.Native.Nat.{ℕ}
 use mathlib.Core.List.{List, [], _∷_, map}
@@ -53,8 +55,8 @@ abbrev pub latestTime : History → ℕ
 latestTime [] = 0
 latestTime (e ∷ h) = timeOf e
 
-unfoldable pub recordAt : ℕ → PlainLimits → ℕ → History → Record
-recordAt c lim now h =
+unfoldable pub recordAsOf : ℕ → PlainLimits → ℕ → History → Record
+recordAsOf c lim now h =
     record {
       channel = c;
       limits = limitsOf lim;
@@ -64,7 +66,7 @@ recordAt c lim now h =
     }
 
 abbrev pub recordOf : ℕ → PlainLimits → History → Record
-recordOf c lim h = recordAt c lim (latestTime h) h
+recordOf c lim h = recordAsOf c lim (latestTime h) h
 
 -- ---- as the table keeps it: frames by time and payload number, flags as words
 

@@ -5,12 +5,12 @@ use mathlib.Core.List.{_∷_}
 use Rattle.rule_limits.specs.declared.PlainLimits.{PlainLimits}
 use Rattle.rules.specs.declared.Head.{Head}
 use Rattle.rules.specs.declared.Post.{Post}
-use Rattle.rules.specs.declared.Stepped.{Stepped}
+use Rattle.rules.specs.declared.AfterEvent.{AfterEvent}
 use Rattle.rules.specs.declared.Record.{Record}
 use Rattle.rules.specs.History.{Event, frame, tick, History, stampOf}
 use Rattle.rules.specs.Rules.{findings01}
 use Rattle.rules.specs.Record.{headOf, postOf, recordOf}
-use Rattle.rules.specs.Step.{stored}
+use Rattle.rules.specs.After.{stored}
 
 -- an event that is received at t, over the history before it
 abbrev pub tickAt : ℕ → History → Event
@@ -20,14 +20,14 @@ abbrev pub frameAt : ℕ → ℕ → ℕ → History → Event
 frameAt t k raw h = frame (stampOf h t) k raw
 
 -- the findings are 01's over the history before the event, and the post with what the step leaves stands for the history with it
-pub record Steps01 (c : ℕ) (lim : PlainLimits) (h : History) (e : Event) (r : Stepped) : Type 0 where
+pub record After01 (c : ℕ) (lim : PlainLimits) (h : History) (e : Event) (r : AfterEvent) : Type 0 where
   pub findings : r .findings ≡ findings01 lim h e
   pub head : r .head ≡ headOf c lim (e ∷ h)
   pub post : stored (postOf c lim h) (r .head) (r .at) (r .slot) ≡ postOf c lim (e ∷ h)
 
 -- of a head that stands for some history
-abbrev pub StepRight : Head → (History → Event) → Stepped → Type 0
-StepRight p e r = (c : ℕ) (lim : PlainLimits) (h : History) → p ≡ headOf c lim h → Steps01 c lim h (e h) r
+abbrev pub AfterRight : Head → (History → Event) → AfterEvent → Type 0
+AfterRight p e r = (c : ℕ) (lim : PlainLimits) (h : History) → p ≡ headOf c lim h → After01 c lim h (e h) r
 
 -- of a post that stands for some history
 abbrev pub RecordRight : Post → Record → Type 0

@@ -87,7 +87,8 @@ f8 lim h e =
     (λ s. isOpen (opening h)
     && outside (statusIn (s .1) .current) (limitOf (lim .charge) (λ p. p .charge) h) (limitOf (lim .discharge) (λ p. p .discharge) h))
 
--- "Power_Modules_Status, session open whose latest DC_Power_Control is precharge or power transfer: under 100 Ohm per volt of the same message's voltage"; 02, Req 03: or, for a yes/no sensor, raw 0
+-- "Power_Modules_Status, session open whose latest DC_Power_Control is precharge or power transfer: under 100 Ohm per volt of the same message's voltage";
+-- 02, Req 03: or, for a yes/no sensor, raw 0
 unfoldable pub f9 : Rule
 f9 lim h e =
     ask (statusOf e)

@@ -2,7 +2,7 @@
 //   specs/History.antt    a post's accepted frames and ticks, newest first, and looking back over them: the session, times
 //   specs/Rules.antt      F1 to F11, each over the history before an event and the event
 //   specs/Record.antt     the record that is handed out, and the post that the table keeps, each read off the history
-//   specs/Step.antt       the same step by step, as the code of `post` takes it; proofs/Look.antt has the laws that make it looking back
+//   specs/After.antt       the same step by step, as the code of `post` takes it; proofs/Look.antt has the laws that make it looking back
 // For every crate that steps a post or hands out its record. What a rule asks of a message's fields stands in `rule_asks`, limits in `rule_limits`.
 use message_types::Message;
 use message_types::Plug;
@@ -59,7 +59,7 @@ pub struct Post {
 }
 
 // A head after an event, the slot that the event fills and its kind (KINDS where it fills none), and the event's findings.
-pub struct Stepped {
+pub struct AfterEvent {
     pub head: Head,
     pub slot: Slot,
     pub at: usize,

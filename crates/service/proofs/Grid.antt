@@ -1,4 +1,5 @@
--- In units of the smallest f32, 2 ^ -149: of all m * 2 ^ a with m of 24 digits, as every f32 is, the rounded one (`grid`) is nearest to n / 10, and alone in that. Assumes nothing.
+-- In units of the smallest f32, 2 ^ -149: of all m * 2 ^ a with m of 24 digits, as every f32 is, the rounded one (`grid`) is nearest to n / 10,
+-- and alone in that. Assumes nothing.
 use mathlib.Core.Path.{_≡_, sym, ap, _∙_}
 use mathlib.Core.Bool.{Bool, true, false, not}
 use Prim.Native.Nat.{ℕ, suc, _+_, _-_, _*_, _/_, _%_, _^_, _≤_, _<_}

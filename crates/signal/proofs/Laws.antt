@@ -1,18 +1,19 @@
 -- The laws of a signal's getting and putting, once over start and width.
 -- Assumes nothing.
 use mathlib.Core.Path.{_≡_, sym, ap, ap₂, _∙_, subst}
-use mathlib.Core.Bool.{Bool, false, cond, _&&_}
+use mathlib.Core.Bool.{Bool, true, false, cond, _&&_}
 use mathlib.Core.Logic.{_⊎_, inl, inr}
 use Prim.Native.Nat.{ℕ, zero, suc, _+_, _-_, _*_, _/_, _%_, _^_, _≤_, _<_}
 use native.Mathlib.Nat.{mod-lt, mul-comm, mul-assoc, add-mul, sub-add-cancel, add-sub-of-le, lt-of-lt-of-le, zero-div, zero-mod, div-eq-of-lt}
 use native.Mathlib.Numerals.{one-add}
 use native.Mathlib.Omega.{arith}
 use lib.Arith.{digits-lt, lt-one}
-use lib.Dec.{ltb}
+use lib.Dec.{leb, ltb}
 use lib.Pow.{pow-pos, pow-add, pow-mono, shr-shr, shr-lt, split, high, low, field, mod-mod-pow, recompose}
-use borrow.Author.Tests.{lt-ltb, le-ltb, le-leb, lt-leb}
+use borrow.Author.Tests.{lt-ltb, le-ltb, le-leb, lt-leb, leb-true, ltb-true}
 use Rattle.signal.specs.Signal.{getBits, putBits, covers}
 use Rattle.signal.proofs.Complement.{half-of}
+use Rattle.signal.proofs.RawLaws.{both}
 
 -- ---- what a getting looks at
 
@@ -77,6 +78,11 @@ pub get-put : (n s w v : ℕ) → v < 2 ^ w → getBits (putBits n s w v) s w �
 unfolding getBits
 get-put n s w v h = ap (λ (x : ℕ). x % 2 ^ w) (put-shr n s w v) ∙ low (n / 2 ^ (s + w)) w h
 
+-- a part of what was put is a part of v
+pub get-put-part : (n s w v s′ w′ : ℕ) → v < 2 ^ w → s′ + w′ ≤ w → getBits (putBits n s w v) (s + s′) w′ ≡ getBits v s′ w′
+get-put-part n s w v s′ w′ hv h =
+    sym (get-get (putBits n s w v) s w s′ w′ h) ∙ ap (λ (x : ℕ). getBits x s′ w′) (get-put n s w v hv)
+
 -- two signals that share no bit
 abbrev pub Apart : (s w s′ w′ : ℕ) → Type 0
 Apart s w s′ w′ = (s′ + w′ ≤ s) ⊎ (s + w ≤ s′)
@@ -132,6 +138,12 @@ same-bits (suc k) a b ha hb e =
     ∙ recompose 1 k (subst (λ (x : ℕ). b < 2 ^ x) (sym (one-add k)) hb)
 
 -- ---- bit by bit
+
+-- a bit that is the signal's
+pub covers-in : (s w i : ℕ) → covers s w i ≡ true → (s ≤ i) × (i < s + w)
+covers-in s w i e =
+    let p : (leb s i ≡ true) × (ltb i (s + w) ≡ true) = both (leb s i) (ltb i (s + w)) e in
+    (leb-true s i (p .0), ltb-true i (s + w) (p .1))
 
 -- the bit of a number with a signal put
 pub bit-put : (n s w v i : ℕ) → v < 2 ^ w → getBits (putBits n s w v) i 1 ≡ cond (covers s w i) (getBits v (i - s) 1) (getBits n i 1)

@@ -48,8 +48,8 @@ pub fn tick(t: Table, channel: u32, time: u32) -> Fed
     ensures by_record { λ r. ⌜ r ≡ feedOf t channel time ticking ⌝ }
     ensures by_history { λ r. ⌜ ((s : Steps) → Kept t s → FeedRight s channel time ticking r) ⌝ }
 {
-    let i = some_place(t, channel);
-    let p = t.posts[i];
+    let at = some_place(t, channel);
+    let p = t.posts[at];
     let h = p.head;
-    fed(t, i, hear(h, channel, time, Arrival::Tick))
+    fed(t, at, hear(h, channel, time, Arrival::Tick))
 }

@@ -1,4 +1,5 @@
-// One post hears what comes to it: 1 where it does not hold the channel, 2, then the reader's 3 to 6, then the findings. For every way to step a table of posts.
+// One post hears what comes to it: 1 where it does not hold the channel, 2, then the reader's 3 to 6, then the findings. For every way to step a table of
+// posts.
 ghost use mathlib.Core.Path.{_≡_};
 ghost use Rattle.watch_rules.specs.Steps.{HearRight};
 ghost use Rattle.watch_rules.specs.Table.{arrivalFor, turnedAway, heardOf};

@@ -13,7 +13,7 @@ use watch_rules::Table;
 fn no_record() -> Record
     ensures { λ r. ⌜ r ≡ noRecord ⌝ }
 {
-    post_record::record_in(post::free_post())
+    post_record::of_post(post::free_post())
 }
 
 pub fn look_up(t: Table, post: u32) -> LookedUp
@@ -37,6 +37,6 @@ pub fn look_up(t: Table, post: u32) -> LookedUp
     }
     LookedUp {
         answer: Setting::Done,
-        shown: post_record::record_in(p),
+        shown: post_record::of_post(p),
     }
 }

@@ -1,7 +1,7 @@
 // The places of the table: which numbers are posts, who holds a channel, and what is stored in a place. For what feeds, sets up and releases posts.
 ghost use mathlib.Core.Path.{_≡_};
 ghost use Prim.Native.Nat.{_≤_, _<_};
-ghost use Rattle.rules.specs.Step.{stored};
+ghost use Rattle.rules.specs.After.{stored};
 ghost use Rattle.watch_rules.specs.Table.{postCount, isPost, holds, placeOf, somePlace, putIn};
 use rules::Head;
 use rules::KINDS;

@@ -70,7 +70,8 @@ module _ (rs : List Request) (i c : ℕ) (lim : PlainLimits) (h : History) (low 
       let range : InRange (held c lim h) = subst InRange own (run-kept rs .ranges i low) in
       rw (holder-is (accepted rs) (run-kept rs .apart) i c low has, lt-ltb i postCount low, own, range .0)
 
-  -- The same for the post that holds the channel, over its limits and its own history: 2 where the time is earlier than its latest, else the findings of 01's rules.
+  -- The same for the post that holds the channel, over its limits and its own history:
+  -- 2 where the time is earlier than its latest, else the findings of 01's rules.
   pub own-tick : (t : ℕ) → reply (run rs) (tick c t) ≡ fed (cond (earlierIn h t) (Refused Earlier) (Findings (findings01 lim h (history.tick t))))
   own-tick t = every-answer rs (tick c t) ∙ ap fed (feed-own t ticking)
 
@@ -134,7 +135,8 @@ holder-own : (rs : List Request) (i c : ℕ) (lim : PlainLimits) (h : History) �
 holder-own rs i c lim h own =
     holder-is (accepted rs) (run-kept rs .apart) i c (subst (InTable i) own (in-table rs i)) (ap (λ (x : Standing). holdsIn x c) own ∙ eq-eqb c c refl)
 
--- ---- a post's standing, request by request: a refused one adds nothing, one about another post neither (`others-standing`), and an accepted one of its own this
+-- ---- a post's standing, request by request: a refused one adds nothing, one about another post neither (`others-standing`),
+-- and an accepted one of its own this
 
 -- 01: "The table starts with no post set up."
 pub counted-none : (i : ℕ) → standing i (accepted []) ≡ free

@@ -8,7 +8,7 @@ use Rattle.rule_limits.specs.declared.PlainLimits.{PlainLimits}
 use Rattle.rules.specs.declared.Head.{Head}
 use Rattle.rules.specs.History.{History, stampOf, earlierIn}
 use Rattle.rules.specs.Record.{headOf}
-use Rattle.rules.specs.Step.{isEarly}
+use Rattle.rules.specs.After.{isEarly}
 use Rattle.rules.proofs.Look.{used-look, channel-look, early-look, tick-look, frame-look, stored-tick, stored-frame, stored-still}
 use Rattle.watch_rules.specs.declared.Heard.{Heard}
 use Rattle.watch_rules.specs.declared.Arrival.{Arrival}

@@ -1,3 +1,4 @@
+pub mod BothSides
 pub mod Standings
 pub mod Hears
 pub mod Tables

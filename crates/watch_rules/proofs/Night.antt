@@ -1,4 +1,5 @@
--- Demand 3's theorems on a night: each premise holds there, and each says something. Post 0 is charging on channel 4, post 1 stands idle on channel 9, and a third post, wired to channel 4 too, was refused.
+-- Demand 3's theorems on a night: each premise holds there, and each says something.
+-- Post 0 is charging on channel 4, post 1 stands idle on channel 9, and a third post, wired to channel 4 too, was refused.
 use Prim.Native.Nat.{ℕ, _<_}
 use native.Mathlib.Omega.{arith}
 use borrow.Author.Tests.{ltb-true}

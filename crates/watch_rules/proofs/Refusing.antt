@@ -10,7 +10,7 @@ use Rattle.refusals.specs.declared.Refusal.the-variants.{ChannelFree, Earlier}
 use Rattle.rule_limits.specs.declared.PlainLimits.{PlainLimits}
 use Rattle.rules.specs.declared.Post.{Post}
 use Rattle.rules.specs.Record.{isSet}
-use Rattle.rules.specs.Step.{isEarly}
+use Rattle.rules.specs.After.{isEarly}
 use Rattle.watch_rules.specs.declared.Table.{Table}
 use Rattle.watch_rules.specs.declared.Answer.{Answer}
 use Rattle.watch_rules.specs.declared.Answer.the-variants.{Findings, Refused}

@@ -1,4 +1,5 @@
--- What comes to `somePlace` is the table's step: the post that holds the channel hears it, and where none does, the first post turns it away and is stored as it was.
+-- What comes to `somePlace` is the table's step: the post that holds the channel hears it, and where none does,
+-- the first post turns it away and is stored as it was.
 use Prim.Native.Nat.{ℕ, suc, _<_, _≤_}
 use native.Mathlib.Omega.{arith}
 use mathlib.Core.Path.{_≡_, refl, ap}

@@ -1,4 +1,5 @@
--- Each operation on a table with the posts that accepted steps leave is looking back over them: its answer is 01's, and its posts are those that the steps leave with one more, or as they were.
+-- Each operation on a table with the posts that accepted steps leave is looking back over them:
+-- its answer is 01's, and its posts are those that the steps leave with one more, or as they were.
 use Prim.Native.Nat.{ℕ, zero, suc, _+_, _<_}
 use native.Mathlib.Nat.{zero-add}
 use native.Mathlib.Omega.{arith}
@@ -15,7 +16,7 @@ use Rattle.rule_limits.specs.Limits.{limitsFit}
 use Rattle.rules.specs.declared.Post.{Post}
 use Rattle.rules.specs.History.{Event, History, countFrom}
 use Rattle.rules.specs.Record.{isSet, postOf}
-use Rattle.rules.specs.Step.{stored, freePost, freshPost, recordIn}
+use Rattle.rules.specs.After.{stored, freePost, freshPost, postRecord}
 use Rattle.rules.proofs.Counted.{count-at, count-same, count-set}
 use Rattle.rules.proofs.Look.{used-look, channel-look, limits-look, fresh-look, record-look}
 use Rattle.watch_rules.specs.declared.Table.{Table}
@@ -189,7 +190,7 @@ module _ (t : Table) (s : Steps) (same : t .posts ≡ postsOf s) where
   unfolding lookUpOf lookUp01
   lookUp-look i = go (isPost i) refl
     where
-      shown : (x : Standing) → cond (isSet (keptPost x .head .used)) (record { answer = setting.Done; shown = recordIn (keptPost x) }) (notFound NotSetUp) ≡ shownIn x
+      shown : (x : Standing) → cond (isSet (keptPost x .head .used)) (record { answer = setting.Done; shown = postRecord (keptPost x) }) (notFound NotSetUp) ≡ shownIn x
       shown free = refl
       shown (held c lim h) = rw (record-look c lim h, used-look c lim h)
 

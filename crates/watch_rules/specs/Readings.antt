@@ -1,11 +1,12 @@
--- 01, "Readings from both sides of each edge": E1* to E13*, and 02, Req 02 to 04: one table under one statement, closed by computing the definitions. What the watch answers is read by looking back.
+-- 01, "Readings from both sides of each edge": E1* to E13*, and 02, Req 02 to 04: one table under one statement, closed by computing the definitions.
+-- What the watch answers is read by looking back.
 use Prim.Native.Nat.{ℕ}
 use mathlib.Core.Path.{_≡_, refl}
 use mathlib.Core.Bool.{true, false}
 use mathlib.Core.List.{List, [], _∷_}
 use lib.IntN.{pos, negsuc}
 use lib.ListN.{getD}
-use Rattle.refusals.specs.declared.Refusal.the-variants.{UnknownIdentifier, TooShort, TooLong, NoLabel, UncoveredBit, ChannelTaken, LimitOutside}
+use Rattle.refusals.specs.declared.Refusal.the-variants.{ChannelFree, Earlier, UnknownIdentifier, TooShort, TooLong, NoLabel, UncoveredBit, ChannelTaken, LimitOutside, NoSuchPost, NotSetUp}
 use Rattle.page_rows.specs.Table.{rows, ofKind, firstAt, covered}
 use Rattle.page_read.specs.Judge.{unlabelled, offender, strayBelow, judgedNumber, judgeOf}
 use Rattle.page_write.specs.Raws.{wholesOf, pad, rawsOf}
@@ -31,15 +32,17 @@ use Rattle.rules.specs.declared.Record.{Record}
 use Rattle.rules.specs.History.{sinceFinished, opening, inSession, earlierIn}
 use Rattle.rule_asks.specs.Judgements.{lowersBadly, outside, leaking, badInsulation, differs}
 use Rattle.rules.specs.Rules.{sessionStatus, sessionControl, limitOf, f1, f2, f3, f4, f5, f6, f7, f8, f9, f10, f11, findings01}
-use Rattle.rules.specs.Record.{recordAt}
+use Rattle.rules.specs.Record.{recordAsOf}
 use Rattle.watch_rules.specs.declared.Answer.the-variants.{Findings, Refused}
 use Rattle.watch_rules.specs.declared.Setting.the-variants as setting
 use Rattle.watch_rules.specs.declared.LookedUp.{LookedUp}
 use Rattle.rule_limits.specs.Limits.{limitsFit}
+use Rattle.watch_rules.specs.Table.{notFound}
 use Rattle.watch_rules.specs.Steps.{standing, findFrom, holder, otherHolds, feed01, setUp01, release01, lookUp01, feedSteps, setUpSteps, releaseSteps}
-use Rattle.watch_rules.specs.Run.{Request, setUp, frame, tick, Reply, set, fed, acceptedFrom, replies01From}
+use Rattle.watch_rules.specs.Run.{Request, setUp, release, frame, tick, Reply, set, fed, acceptedFrom, replies01From}
 
--- a reading of frames and messages (E1 to E7); requests to the empty table in order of arrival, with their replies; such requests, and a post's record after them, or the sensor kind in it, or its latest message of a kind
+-- a reading of frames and messages (E1 to E7); requests to the empty table in order of arrival, with their replies;
+-- such requests, and a post's record after them, or the sensor kind in it, or its latest message of a kind
 pub data Case : Type 0 where
   codec : messages.Case → Case
   answers : List Request → List Reply → Case
@@ -85,8 +88,8 @@ done = set setting.Done
 abbrev found : ℕ → Reply
 found n = fed (Findings n)
 
--- frames on channel 4: Power_Modules_Status (Allowed, 0 A) by the voltage's two bytes and the insulation, DC_Power_Parameters by Maximum_Voltage, Advantics_Controller_Status Charging,
--- New_Charge_Session 02 01, DC_Power_Control by Target_Voltage and byte 6
+-- frames on channel 4: Power_Modules_Status (Allowed, 0 A) by the voltage's two bytes and the insulation, DC_Power_Parameters by Maximum_Voltage,
+-- Advantics_Controller_Status Charging, New_Charge_Session 02 01, DC_Power_Control by Target_Voltage and byte 6
 abbrev status : ℕ → ℕ → ℕ → ℕ → Request
 status t low high raw = frame 4 t 0x63000 true (low ∷ high ∷ 0 ∷ 0 ∷ 65 ∷ 65 ∷ 1 ∷ raw ∷ [])
 
@@ -102,7 +105,8 @@ session t = frame 4 t 0x6b001 true (2 ∷ 1 ∷ [])
 abbrev control : ℕ → ℕ → ℕ → ℕ → Request
 control t low high last = frame 4 t 0x6b003 true (low ∷ high ∷ 0 ∷ 0 ∷ 0 ∷ 0 ∷ last ∷ [])
 
--- frames of the safety controller on channel 4, each with 53.3 % and PWM active or -10.0 °C: ChargeControl1 and ChargeState1 with both contactors closed, PT1000State
+-- frames of the safety controller on channel 4, each with 53.3 % and PWM active or -10.0 °C:
+-- ChargeControl1 and ChargeState1 with both contactors closed, PT1000State
 abbrev safetyControl : ℕ → Request
 safetyControl t = frame 4 t 6 false (0x82 ∷ 0x15 ∷ 3 ∷ 0 ∷ 0 ∷ 0 ∷ 0 ∷ 0 ∷ [])
 
@@ -123,14 +127,15 @@ abbrev e1to7 : List messages.Case → List Case → List Case
 e1to7 [] rest = rest
 e1to7 (c ∷ cs) rest = codec c ∷ e1to7 cs rest
 
-abbrev e8to13 : List Case
+abbrev pub e8to13 : List Case
 e8to13 =
     -- E8: under precharge, voltage raw 5000: insulation raw 25 no F9, raw 24 F9
     answers (set-up ∷ session 0 ∷ status 10 0 0 255 ∷ control 20 0x88 0x13 0x04 ∷ status 30 0x88 0x13 25 ∷ status 40 0x88 0x13 24 ∷ [])
     (done ∷ found 0 ∷ found 0 ∷ found 0 ∷ found 0 ∷ found 256 ∷ [])
     -- E9: controller status at 1000: tick at 1200 answers 0, at 1201 answers 2
     ∷ answers (set-up ∷ controller 1000 ∷ tick 4 1200 ∷ tick 4 1201 ∷ []) (done ∷ found 0 ∷ found 0 ∷ found 2 ∷ [])
-    -- E10: W 500, session opened at 0, no controller status: tick at 500 answers 0; Power_Modules_Status at 501, all else in order, 1; tick at 1001 0; tick at 1002 1
+    -- E10: W 500, session opened at 0, no controller status: tick at 500 answers 0; Power_Modules_Status at 501, all else in order, 1; tick at 1001 0;
+    -- tick at 1002 1
     ∷ answers (set-up ∷ session 0 ∷ tick 4 500 ∷ status 501 0 0 255 ∷ tick 4 1001 ∷ tick 4 1002 ∷ []) (done ∷ found 0 ∷ found 0 ∷ found 1 ∷ found 0 ∷ found 1 ∷ [])
     -- E11: closed contactors and power transfer before any session, target within limit, no lowering: 12
     ∷ answers (set-up ∷ control 0 0x88 0x13 0x48 ∷ []) (done ∷ found 12 ∷ [])
@@ -141,6 +146,17 @@ e8to13 =
     ∷ answers (set-up ∷ parameters 0 0 0 ∷ control 1 0x88 0x13 1 ∷ control 2 0x89 0x13 1 ∷ []) (done ∷ found 0 ∷ found 0 ∷ found 64 ∷ [])
     ∷ answers (set-up ∷ parameters 0 0x70 0x17 ∷ control 1 0x88 0x13 1 ∷ control 2 0x89 0x13 1 ∷ []) (done ∷ found 0 ∷ found 0 ∷ found 64 ∷ [])
     ∷ answers (set-up ∷ parameters 0 0xA0 0x0F ∷ control 1 0xA0 0x0F 1 ∷ control 2 0xA1 0x0F 1 ∷ []) (done ∷ found 0 ∷ found 0 ∷ found 64 ∷ [])
+    -- E14: after time 100: 99 gets 2, 100 is accepted; an unknown identifier at 99 gets 2 too, the lowest number that applies, and at 100 it gets 3
+    ∷ answers (set-up ∷ tick 4 100 ∷ tick 4 99 ∷ tick 4 100 ∷ frame 4 99 0x63003 true (0 ∷ []) ∷ frame 4 100 0x63003 true (0 ∷ []) ∷ [])
+    (done ∷ found 0 ∷ fed (Refused Earlier) ∷ found 0 ∷ fed (Refused Earlier) ∷ fed (Refused UnknownIdentifier) ∷ [])
+    -- each post has a clock of its own, and a frame goes to the post that holds its channel: the session of post 0 opens at 501, whatever post 1 hears
+    ∷ answers (set-up ∷ setUp 1 9 limits ∷ tick 9 700 ∷ session 501 ∷ tick 9 1300 ∷ tick 4 1001 ∷ tick 4 1002 ∷ []) (done ∷ done ∷ found 0 ∷ found 0 ∷ found 0 ∷ found 0 ∷ found 1 ∷ [])
+    -- 11 before 12
+    ∷ answers (set-up ∷ setUp 1 4 (limitsWith 2) ∷ setUp 1 5 (limitsWith 2) ∷ []) (done ∷ set (setting.Refused ChannelTaken) ∷ set (setting.Refused LimitOutside) ∷ [])
+    -- 01: "Release frees the channel and drops the record"; 14 for a post that is not set up
+    ∷ answers (set-up ∷ release 0 ∷ tick 4 6 ∷ release 0 ∷ setUp 1 4 limits ∷ []) (done ∷ done ∷ fed (Refused ChannelFree) ∷ set (setting.Refused NotSetUp) ∷ done ∷ [])
+    ∷ shows (set-up ∷ release 0 ∷ []) 0 (notFound NotSetUp)
+    ∷ shows (set-up ∷ []) 8 (notFound NoSuchPost)
     -- 02, Req 02: the watch hands the start bit on, "lowest start first"; a byte too few is 4, one too many 15
     ∷ answers (set-up ∷ frame 4 0 0x6b001 true (8 ∷ 5 ∷ []) ∷ frame 4 0 0x6b001 true (2 ∷ 5 ∷ []) ∷ frame 4 0 0x6b001 true (8 ∷ []) ∷ frame 4 0 0x6b001 true (8 ∷ 5 ∷ 0 ∷ []) ∷ [])
     (done ∷ fed (Refused (NoLabel 0)) ∷ fed (Refused (NoLabel 8)) ∷ fed (Refused TooShort) ∷ fed (Refused TooLong) ∷ [])
@@ -157,7 +173,8 @@ e8to13 =
     -- the record shows the kind of the latest set-up
     ∷ senses (sensing 0 ∷ sensing 1 ∷ []) 0 YesNo
     ∷ senses (sensing 1 ∷ sensing 0 ∷ []) 0 Measuring
-    -- 02, Req 04: the safety controller's frames "raise only F1 and F2": nothing with no session open, though contactors are closed; F2 with a late controller; F1 in a silent session
+    -- 02, Req 04: the safety controller's frames "raise only F1 and F2": nothing with no session open, though contactors are closed;
+    -- F2 with a late controller; F1 in a silent session
     ∷ answers (set-up ∷ safetyControl 0 ∷ safetyState 10 ∷ probes 20 ∷ []) (done ∷ found 0 ∷ found 0 ∷ found 0 ∷ [])
     ∷ answers (set-up ∷ controller 1000 ∷ safetyState 1200 ∷ safetyControl 1201 ∷ safetyState 1201 ∷ probes 1201 ∷ []) (done ∷ found 0 ∷ found 0 ∷ found 2 ∷ found 2 ∷ found 2 ∷ [])
     ∷ answers (set-up ∷ session 0 ∷ safetyState 500 ∷ safetyControl 501 ∷ safetyState 501 ∷ probes 501 ∷ []) (done ∷ found 0 ∷ found 0 ∷ found 1 ∷ found 1 ∷ found 1 ∷ [])
@@ -213,5 +230,5 @@ joined [] rest a b = b
 joined (c ∷ cs) rest a b = (a .0, joined cs rest (a .1) b)
 
 pub readings : All table
-unfolding standing findFrom holder otherHolds feed01 setUp01 release01 lookUp01 feedSteps setUpSteps releaseSteps limitsFit sinceFinished opening inSession earlierIn lowersBadly outside leaking badInsulation differs sessionStatus sessionControl limitOf f1 f2 f3 f4 f5 f6 f7 f8 f9 f10 f11 findings01 recordAt messageOf builtOf statusIn parametersIn sessionIn controlIn rows ofKind firstAt covered unlabelled offender strayBelow judgedNumber judgeOf wholesOf pad rawsOf getBits leNumber beNumber toSigned
-readings = joined messages.table e8to13 messages.readings (refl, (refl, (refl, (refl, (refl, (refl, (refl, (refl, (refl, (refl, (refl, (refl, (refl, (refl, (refl, (refl, (refl, (refl, (refl, (refl, (refl, (refl, tt))))))))))))))))))))))
+unfolding standing findFrom holder otherHolds feed01 setUp01 release01 lookUp01 feedSteps setUpSteps releaseSteps limitsFit sinceFinished opening inSession earlierIn lowersBadly outside leaking badInsulation differs sessionStatus sessionControl limitOf f1 f2 f3 f4 f5 f6 f7 f8 f9 f10 f11 findings01 recordAsOf messageOf builtOf statusIn parametersIn sessionIn controlIn rows ofKind firstAt covered unlabelled offender strayBelow judgedNumber judgeOf wholesOf pad rawsOf getBits leNumber beNumber toSigned
+readings = joined messages.table e8to13 messages.readings (refl, (refl, (refl, (refl, (refl, (refl, (refl, (refl, (refl, (refl, (refl, (refl, (refl, (refl, (refl, (refl, (refl, (refl, (refl, (refl, (refl, (refl, (refl, (refl, (refl, (refl, (refl, (refl, tt))))))))))))))))))))))))))))

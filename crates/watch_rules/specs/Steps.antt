@@ -12,7 +12,7 @@ use Rattle.rules.specs.declared.Post.{Post}
 use Rattle.rules.specs.History.{Event, frame, tick, History, newest, sinceNewest, stampOf, earlierIn, countFrom}
 use Rattle.rules.specs.Rules.{findings01}
 use Rattle.rules.specs.Record.{recordOf, headOf, postOf}
-use Rattle.rules.specs.Step.{stored, freePost}
+use Rattle.rules.specs.After.{stored, freePost}
 use Rattle.watch_rules.specs.declared.Table.{Table}
 use Rattle.watch_rules.specs.declared.Answer.{Answer}
 use Rattle.watch_rules.specs.declared.Answer.the-variants.{Findings, Refused}

@@ -14,10 +14,10 @@ use Rattle.rule_limits.specs.Limits.{limitsFit}
 use Rattle.rules.specs.declared.Session.{Session}
 use Rattle.rules.specs.declared.Head.{Head}
 use Rattle.rules.specs.declared.Post.{Post}
-use Rattle.rules.specs.declared.Stepped.{Stepped}
+use Rattle.rules.specs.declared.AfterEvent.{AfterEvent}
 use Rattle.rules.specs.declared.Record.{Record}
 use Rattle.rules.specs.Record.{kindCount, isSet, unknown}
-use Rattle.rules.specs.Step.{isEarly, tickStep, frameStep, stored, noLimits, freePost, freshPost, recordIn}
+use Rattle.rules.specs.After.{isEarly, afterTick, afterFrame, stored, noLimits, freePost, freshPost, postRecord}
 use Rattle.watch_rules.specs.declared.Table.{Table}
 use Rattle.watch_rules.specs.declared.Answer.the-variants.{Findings, Refused}
 use Rattle.watch_rules.specs.declared.Fed.{Fed}
@@ -84,12 +84,12 @@ ticking lim = Tick
 abbrev pub turnedAway : Head → Refusal → Heard
 turnedAway p w = record { head = p; slot = unknown; at = kindCount; answer = Refused w }
 
-abbrev pub heardBy : Stepped → Heard
+abbrev pub heardBy : AfterEvent → Heard
 heardBy r = record { head = r .head; slot = r .slot; at = r .at; answer = Findings (r .findings) }
 
 abbrev pub judgedOf : Head → ℕ → Arrival → Heard
-judgedOf p t Tick = heardBy (tickStep p t)
-judgedOf p t (Frame k n) = heardBy (frameStep p t k n)
+judgedOf p t Tick = heardBy (afterTick p t)
+judgedOf p t (Frame k n) = heardBy (afterFrame p t k n)
 judgedOf p t (Unread w) = turnedAway p w
 
 -- 1 where the post does not hold the channel, then 2, then the reader's 3 to 6
@@ -114,7 +114,8 @@ unfoldable pub feedOf : Table → ℕ → ℕ → Arriving → Fed
 feedOf t c time a =
     cond (isChannel c && ltb (placeOf (t .posts) c) postCount) (feedAt t (placeOf (t .posts) c) c time a) (refused t ChannelFree)
 
--- Inner step: the place of the post that holds the channel, and 0 where none does: a place of the table in any case. What comes to it is `feedOf` (`feed-same`, proofs/Same.antt).
+-- Inner step: the place of the post that holds the channel, and 0 where none does: a place of the table in any case.
+-- What comes to it is `feedOf` (`feed-same`, proofs/Same.antt).
 unfoldable pub somePlace : List Post → ℕ → ℕ
 somePlace ps c = cond (ltb (placeOf ps c) postCount) (placeOf ps c) 0
 
@@ -153,7 +154,7 @@ releaseOf t i =
     (unsettled t NoSuchPost)
 
 abbrev pub noRecord : Record
-noRecord = recordIn freePost
+noRecord = postRecord freePost
 
 abbrev pub notFound : Refusal → LookedUp
 notFound w = record { answer = setting.Refused w; shown = noRecord }
@@ -162,6 +163,6 @@ unfoldable pub lookUpOf : Table → ℕ → LookedUp
 lookUpOf t i =
     cond (isPost i)
     (cond (isSet (postIn t i .head .used))
-    (record { answer = setting.Done; shown = recordIn (postIn t i) })
+    (record { answer = setting.Done; shown = postRecord (postIn t i) })
     (notFound NotSetUp))
     (notFound NoSuchPost)

@@ -1,4 +1,5 @@
-// The empty table, set-up and release, by value: the table goes in and comes back, with the two promises of `watch_feed`. For users of the library, through `watch`.
+// The empty table, set-up and release, by value: the table goes in and comes back, with the two promises of `watch_feed`.
+// For users of the library, through `watch`.
 ghost use mathlib.Core.List.{[]};
 ghost use mathlib.Core.Path.{_≡_};
 ghost use Rattle.rule_limits.specs.Sensor.{plainOf};

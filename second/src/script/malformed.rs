@@ -4,7 +4,7 @@ use super::Generator;
 use crate::desk::LONGEST;
 use crate::rng::Rng;
 
-const ODD_LINES: [&[u8]; 59] = [
+const ODD_LINES: [&[u8]; 66] = [
     b" ",
     b"  ",
     b"\t",
@@ -50,6 +50,13 @@ const ODD_LINES: [&[u8]; 59] = [
     b"logw x 0 0 -",
     b"logw f 0 0 0 s -",
     b"logw f 0 0 100000000 x - -",
+    b"batch",
+    b"batch -",
+    b"batch - ",
+    b"batch  0",
+    b"batch 0 1",
+    b"batch - 0 0",
+    b"batch - 2049",
     b"replay",
     b"replay -",
     b"replay - ",

@@ -1,5 +1,6 @@
 //! Seeded desk scripts that go to the edges of 01, of the log and of its replay.
 
+mod batches;
 mod logs;
 mod malformed;
 mod messages;
@@ -66,6 +67,7 @@ enum Sort {
     LogRead,
     LogWrite,
     Replay,
+    Batch,
     Malformed,
     Remark,
     Explain,
@@ -93,6 +95,7 @@ impl Generator {
             Sort::LogRead => self.log_read().into_bytes(),
             Sort::LogWrite => self.log_write().into_bytes(),
             Sort::Replay => self.replay().into_bytes(),
+            Sort::Batch => self.batch().into_bytes(),
             Sort::Malformed => self.malformed(),
             Sort::Remark => self.remark(),
             Sort::Explain => self.explain().into_bytes(),
@@ -120,6 +123,7 @@ impl Generator {
             (60, Sort::LogRead),
             (35, Sort::LogWrite),
             (60, Sort::Replay),
+            (45, Sort::Batch),
             (35, Sort::Malformed),
             (12, Sort::Remark),
             (explain, Sort::Explain),

@@ -51,7 +51,7 @@ impl Generator {
     }
 
     /// `None` where the log cannot hold what comes.
-    fn night_record(&mut self) -> Option<Vec<u8>> {
+    pub fn night_record(&mut self) -> Option<Vec<u8>> {
         let line = match self.rng.below(10) {
             0 | 1 => self.refused(),
             2 => self.astray(),

@@ -9,7 +9,7 @@ use Rattle.lent_step.specs.One.{frameOn}
 use Rattle.lent_step.proofs.Same.{frame-same}
 use Rattle.lent_frame.proofs.Entries.{frame-takes, frame-leaves}
 use Rattle.lent_table.proofs.Entry.{values}
-use Rattle.lent_heads.proofs.OnePost.{Step, by-head, meets}
+use Rattle.lent_heads.proofs.OnePost.{OfHead, by-head, meets}
 use Rattle.lent_walks.proofs.Params.{word, slots}
 use Rattle.lent_step.proofs.frame_on as callee
 use Rattle.lent_step.proofs.frame_on.Symbol as callee-def
@@ -19,7 +19,7 @@ use Rattle.lent_frame.proofs.rokemaipu_frame as here
 use Rattle.lent_frame.proofs.rokemaipu_frame.Statement as stated
 use Rattle.lent_frame.proofs.rokemaipu_frame.Code as code
 
-abbrev step : Step (frame-takes 2 1 tt)
+abbrev step : OfHead (frame-takes 2 1 tt)
 step κs x a = frameOn x (a .0) (a .1 .0) (a .1 .1 .0) (a .1 .1 .1 .0) (a .1 .1 .1 .1 .0 .now)
 
 pub rokemaipu-frame-spec : {M : Type 1} → stated.statement M

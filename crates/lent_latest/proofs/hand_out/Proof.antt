@@ -17,21 +17,21 @@ use Rattle.page_rows.proofs.Rules.{short-length}
 use Rattle.rules.specs.declared.Slot.{Slot}
 use Rattle.rules.specs.History.{receivedOf}
 use Rattle.rules.specs.Record.{isSet}
-use Rattle.plain_words.specs.Words.{refusalWord}
-use Rattle.lent_latest.specs.Latest.{hasRoom, keptWord, timeLeft, bytesLeft}
+use Rattle.plain_words.specs.Words.{answers, refuses, outcomeWord}
+use Rattle.lent_latest.specs.Latest.{hasRoom, keptOutcome, timeLeft, bytesLeft}
 use Rattle.lent_latest.proofs.hand_out.Statement.{statement}
 use Rattle.lent_latest.proofs.hand_out.Tie as tie
 
 -- the answer, the lent time, and the lent bytes
 abbrev Ends : Slot → ℕ → List ℕ → List ℕ → ℕ → List ℕ → List ℕ → Type 0
 Ends l k times buf r after left =
-    (r ≡ keptWord k l (length times) (length buf))
+    (r ≡ outcomeWord (keptOutcome k l (length times) (length buf)))
     × (after ≡ timeLeft (isSet (l .known) && hasRoom k (length times) (length buf)) l times)
     × (left ≡ bytesLeft (isSet (l .known) && hasRoom k (length times) (length buf)) k l buf)
 
 -- by what is kept, and by the room
 ends : (l : Slot) (k : ℕ) (times buf : List ℕ) (b p q : Bool) → isSet (l .known) ≡ b → leb 1 (length times) ≡ p → leb (lengthOf k) (length buf) ≡ q
-    → Ends l k times buf (cond b (cond (p && q) (lengthOf k) (refusalWord ShortBuffer)) 0) (timeLeft (b && (p && q)) l times) (bytesLeft (b && (p && q)) k l buf)
+    → Ends l k times buf (outcomeWord (cond b (cond (p && q) (answers (lengthOf k)) (refuses ShortBuffer)) (answers 0))) (timeLeft (b && (p && q)) l times) (bytesLeft (b && (p && q)) k l buf)
 ends l k times buf b p q e f g = (rw (e, f, g), rw (e, f, g), rw (e, f, g))
 
 set-first : (xs : List ℕ) (x : ℕ) → 1 ≤ length xs → set xs 0 x ≡ x ∷ drop 1 xs

@@ -11,7 +11,7 @@ use Rattle.rules.specs.declared.Post.{Post}
 use Rattle.rules.specs.History.{receivedOf}
 use Rattle.rules.specs.Record.{isSet}
 use Rattle.rule_limits.specs.Sensor.{sensorNumber, sensorOf}
-use Rattle.rules.specs.Step.{recordIn}
+use Rattle.rules.specs.After.{postRecord}
 use Rattle.lent_numbers.specs.LookUp.{numbersOf}
 use Rattle.lent_numbers.proofs.numbers_of.Statement.{statement}
 use Rattle.lent_numbers.proofs.numbers_of.Tie as tie
@@ -26,11 +26,11 @@ fields h =
     ∷ cond (isSet (h .session .opened)) (plugNumber (sessionIn (h .session .first) .plug)) 0 ∷ []
 
 -- by whether anything was heard and whether a session is open
-spelled : (p : Post) → numbersOf (recordIn p) ≡ fields (p .head)
-unfolding numbersOf recordIn
+spelled : (p : Post) → numbersOf (postRecord p) ≡ fields (p .head)
+unfolding numbersOf postRecord
 spelled p = go (isSet (p .head .heard)) (isSet (p .head .session .opened)) refl refl
   where
-    go : (a b : Bool) → isSet (p .head .heard) ≡ a → isSet (p .head .session .opened) ≡ b → numbersOf (recordIn p) ≡ fields (p .head)
+    go : (a b : Bool) → isSet (p .head .heard) ≡ a → isSet (p .head .session .opened) ≡ b → numbersOf (postRecord p) ≡ fields (p .head)
     go true true e f = rw (e, f)
     go true false e f = rw (e, f)
     go false true e f = rw (e, f)

@@ -9,7 +9,7 @@ use Rattle.lent_step.specs.One.{tickOn}
 use Rattle.lent_step.proofs.Same.{tick-same}
 use Rattle.lent_tick.proofs.Entries.{tick-takes, tick-leaves}
 use Rattle.lent_table.proofs.Entry.{values}
-use Rattle.lent_heads.proofs.OnePost.{Step, by-head, meets}
+use Rattle.lent_heads.proofs.OnePost.{OfHead, by-head, meets}
 use Rattle.lent_walks.proofs.Params.{word, slots}
 use Rattle.lent_step.proofs.tick_on as callee
 use Rattle.lent_step.proofs.tick_on.Symbol as callee-def
@@ -19,7 +19,7 @@ use Rattle.lent_tick.proofs.rokemaipu_tick as here
 use Rattle.lent_tick.proofs.rokemaipu_tick.Statement as stated
 use Rattle.lent_tick.proofs.rokemaipu_tick.Code as code
 
-abbrev step : Step (tick-takes 1)
+abbrev step : OfHead (tick-takes 1)
 step κs x a = tickOn x (a .0) (a .1 .0)
 
 pub rokemaipu-tick-spec : {M : Type 1} → stated.statement M

@@ -22,7 +22,8 @@ use Rattle.page_read.specs.Steps.{offenceOf, cleared, judgedBy}
 use Rattle.page_rows.proofs.Rules.{short-length}
 use Rattle.page_rows.proofs.Firsts.{first-id}
 use Rattle.page_read.proofs.Covered.{cleared-none}
-use Rattle.page_read.proofs.Offenders.{judged-by, row-short, row-long}
+use Rattle.page_read.proofs.Answers.{row-short, row-long}
+use Rattle.page_read.proofs.Offenders.{judged-by}
 use Rattle.page_read.proofs.judge.Statement.{statement}
 use Rattle.page_read.proofs.judge.Tie as tie
 

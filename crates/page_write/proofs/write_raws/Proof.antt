@@ -12,13 +12,13 @@ use lib.ListN.{length}
 use Rattle.payload.specs.Payload.{storedIn}
 use Rattle.payload.proofs.Stored.{stored-not}
 use Rattle.page_rows.specs.declared.Row.{Row}
-use Rattle.refusals.specs.declared.Refusal.the-variants.{NoRawNumber, ShortBuffer}
+use Rattle.refusals.specs.declared.Refusal.the-variants.{NoRawNumber}
 use Rattle.page_write.specs.declared.Written.{Written}
 use Rattle.page_write.specs.declared.Written.the-variants.{Wrote, Refused}
 use Rattle.page_write.specs.declared.Packed.{Packed}
 use Rattle.page_write.specs.declared.Packed.the-variants as packed
-use Rattle.page_rows.specs.Table.{rowsOf, identifierOf, lengthOf, bigOf}
-use Rattle.page_write.specs.Raws.{allTake, packedOn, canWrite, writeRawsOf, bufferAfter}
+use Rattle.page_rows.specs.Table.{rowsOf, lengthOf, bigOf}
+use Rattle.page_write.specs.Raws.{allTake, packedOn, canWrite, writtenBy, writeRawsOf, bufferAfter}
 use Rattle.page_write.specs.Steps.{packOf}
 use Rattle.page_rows.proofs.Firsts.{first-kind, none-kind}
 use Rattle.page_write.proofs.write_raws.Statement.{statement}
@@ -31,15 +31,15 @@ Ends k zs buf a after = (a ≡ writeRawsOf k zs buf) × (after ≡ bufferAfter k
 cannot : (k : ℕ) (zs : List ℤ) (buf : List ℕ) → canWrite k zs ≡ false → Ends k zs buf (Refused NoRawNumber) buf
 unfolding writeRawsOf bufferAfter
 cannot k zs buf e = (
-  sym (ap (λ (b : Bool). cond b (cond (leb (lengthOf k) (length buf)) (Wrote (identifierOf k) (lengthOf k)) (Refused ShortBuffer)) (Refused NoRawNumber)) e),
+  sym (ap (λ (b : Bool). writtenBy k b (leb (lengthOf k) (length buf))) e),
   sym (ap (λ (b : Bool). cond b (storedIn (bigOf k) (lengthOf k) (packedOn 0 (rowsOf k) zs) buf) buf) e),
 )
 
 can : (k : ℕ) (zs : List ℤ) (buf : List ℕ) (b : Bool) → canWrite k zs ≡ true → leb (lengthOf k) (length buf) ≡ b
-    → Ends k zs buf (cond b (Wrote (identifierOf k) (lengthOf k)) (Refused ShortBuffer)) (storedIn (bigOf k) (lengthOf k) (packedOn 0 (rowsOf k) zs) buf)
+    → Ends k zs buf (writtenBy k true b) (storedIn (bigOf k) (lengthOf k) (packedOn 0 (rowsOf k) zs) buf)
 unfolding writeRawsOf bufferAfter
 can k zs buf b e f = (
-  sym (ap₂ (λ (x y : Bool). cond x (cond y (Wrote (identifierOf k) (lengthOf k)) (Refused ShortBuffer)) (Refused NoRawNumber)) e f),
+  sym (ap₂ (writtenBy k) e f),
   sym (ap (λ (x : Bool). cond x (storedIn (bigOf k) (lengthOf k) (packedOn 0 (rowsOf k) zs) buf) buf) e),
 )
 

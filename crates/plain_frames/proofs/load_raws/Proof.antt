@@ -1,4 +1,4 @@
--- `plain_frames::load_raws` meets its contract: the numbers are stored one by one over zeros (`Stored.antt` of `plain_words`). The measure is what is left of them.
+-- `plain_frames::load_raws` meets its contract: a loop of `Stored.antt` (`plain_words`) over zeros. The measure is what is left of the numbers.
 use mathlib.Core.Path.{_∙_}
 use mathlib.Core.List.{List, append-nil}
 use Prim.Native.Nat.{_-_}
@@ -13,28 +13,10 @@ use Rattle.plain_frames.proofs.load_raws.Tie as tie
 abbrev zeros : List ℤ
 zeros = replicate signalCount (pos 0)
 
-abbrev Inv-loop : tie.InvT-loop
-Inv-loop raws zs₀ j₀ zs j = Stored signalCount raws zeros zs j
-
-abbrev μ-loop : tie.MeasureT-loop
-μ-loop raws zs₀ j₀ zs j = signalCount - j
-
-loop-again : tie.Need-loop-again Inv-loop μ-loop
-loop-again c =
-    let l = c .before .before .loop in
-    let raws = c .before .before .before .args .raws .now in
-    signed-more signalCount raws zeros (l .j) (omega arith) (omega arith) (omega arith) (record { sfits = c .zs .given }) (l .inv)
-
-returns : tie.Need-returns Inv-loop μ-loop
-returns c =
-    let l = c .before .loop in
-    let raws = c .before .before .args .raws .now in
-    stored-all signalCount raws zeros (l .j) (omega arith) (l .inv) ∙ append-nil (take signalCount raws)
-
 pub load-raws-spec : {M : Type 1} → statement M
 load-raws-spec =
     tie.close
-    (tie.spec Inv-loop μ-loop
+    (tie.spec (λ raws zs₀ j₀. Stored signalCount raws zeros) (λ raws zs₀ j₀ zs j. signalCount - j)
     (λ c. stored-none signalCount (c .args .raws .now) zeros)
     (λ c. omega arith)
     (λ c. omega arith)
@@ -42,5 +24,7 @@ load-raws-spec =
     (λ c. omega arith)
     (λ c. omega arith)
     (λ c. omega arith)
-    loop-again
-    returns)
+    (λ c. let l = c .before .before in
+    signed-more signalCount (l .before .args .raws .now) zeros (l .loop .j) (omega arith) (omega arith) (omega arith) (record { sfits = c .zs .given }) (l .loop .inv))
+    (λ c. let raws = c .before .before .args .raws .now in
+    stored-all signalCount raws zeros (c .before .loop .j) (omega arith) (c .before .loop .inv) ∙ append-nil (take signalCount raws)))

@@ -8,7 +8,8 @@ use lib.IntN.{ℤ}
 use mir.Facts.{toZ-ofZ}
 use Rattle.page_read.specs.declared.Judged.{Judged}
 use Rattle.page_change.specs.Change.{changeOf, bytesAfter}
-use Rattle.plain_frames.specs.Plain.{changedWord, changeWord}
+use Rattle.plain_words.specs.Words.{outcomeWord}
+use Rattle.plain_frames.specs.Plain.{changedOutcome, changeWord}
 use Rattle.plain_frames.proofs.rokemaipu_change.Statement.{statement}
 use Rattle.plain_frames.proofs.rokemaipu_change.Tie as tie
 
@@ -18,10 +19,10 @@ Ends m x bs s z r after = (r ≡ changeWord m x bs s z) × (after ≡ bytesAfter
 
 ends : {a b : Judged} {after : List ℕ} (m : ℕ) (x : Bool) (bs : List ℕ) (s : ℕ) (y z : ℤ)
     → (a ≡ changeOf m x bs s y) × (after ≡ bytesAfter bs (changeOf m x bs s y)) → y ≡ z → a ≡ b
-    → Ends m x bs s z (changedWord b) after
+    → Ends m x bs s z (outcomeWord (changedOutcome b)) after
 unfolding changeWord
 ends m x bs s y z e f g = (
-  ap changedWord (sym g ∙ e .0 ∙ ap (changeOf m x bs s) f),
+  ap (λ (q : Judged). outcomeWord (changedOutcome q)) (sym g ∙ e .0 ∙ ap (changeOf m x bs s) f),
   e .1 ∙ ap (λ (q : ℤ). bytesAfter bs (changeOf m x bs s q)) f,
 )
 
@@ -30,7 +31,7 @@ start c = c .before .before .before
 
 -- by the variant that the change answered
 answered : {b : Judged} (c : tie.After-change) → c .change .result ≡ b
-    → Ends (start c .args .id) (start c .args .extended) (start c .args .payload .now) (start c .args .start) (start c .args .raw) (changedWord b) (c .change .last .1 .1 .0)
+    → Ends (start c .args .id) (start c .args .extended) (start c .args .payload .now) (start c .args .start) (start c .args .raw) (outcomeWord (changedOutcome b)) (c .change .last .1 .1 .0)
 unfolding start
 answered c g =
     let a = start c .args in

@@ -1,10 +1,11 @@
 -- `plain_frames::rokemaipu_read` meets its contract: the reader's refusal as a word, then 8, else the kind, with the raw numbers stored.
 use borrow.Author.Needs.{needs}
 use borrow.Author.Tests.{le-leb, lt-leb}
-use mathlib.Core.Path.{_≡_, sym, ap, _∙_}
+use native.Mathlib.Omega.{arith}
+use mathlib.Core.Path.{_≡_, sym, ap, _∙_, subst}
 use mathlib.Core.Bool.{Bool, true, false, cond}
 use mathlib.Core.List.{List, _++_}
-use Prim.Native.Nat.{ℕ, _%_}
+use Prim.Native.Nat.{ℕ}
 use lib.Dec.{leb}
 use lib.IntN.{ℤ}
 use lib.ListN.{length, drop}
@@ -13,8 +14,9 @@ use Rattle.page_read.specs.declared.Judged.{Judged}
 use Rattle.page_read.specs.Judge.{judgeOf}
 use Rattle.page_rows.specs.Table.{signalCount}
 use Rattle.page_write.specs.Raws.{rawsOf}
-use Rattle.plain_words.specs.Words.{refusalWord}
-use Rattle.plain_frames.specs.Plain.{readAnswer, rawsLeft, readWord, rawsAfter}
+use Rattle.page_bounds.proofs.Bounds.{SmallJudged, judge-small}
+use Rattle.plain_words.specs.Words.{answers, refuses, outcomeWord}
+use Rattle.plain_frames.specs.Plain.{readOutcome, rawsLeft, readWord, rawsAfter}
 use Rattle.plain_frames.proofs.rokemaipu_read.Statement.{statement}
 use Rattle.plain_frames.proofs.rokemaipu_read.Tie as tie
 
@@ -23,9 +25,9 @@ abbrev Ends : ℕ → Bool → List ℕ → List ℤ → ℕ → List ℤ → Ty
 Ends m x bs raws r after = (r ≡ readWord m x bs raws) × (after ≡ rawsAfter m x bs raws)
 
 -- by the reader's answer
-judged : (m : ℕ) (x : Bool) (bs : List ℕ) (raws : List ℤ) (j : Judged) → j ≡ judgeOf m x bs → Ends m x bs raws (readAnswer j (length raws)) (rawsLeft j raws)
+judged : (m : ℕ) (x : Bool) (bs : List ℕ) (raws : List ℤ) (j : Judged) → j ≡ judgeOf m x bs → Ends m x bs raws (outcomeWord (readOutcome j (length raws))) (rawsLeft j raws)
 unfolding readWord rawsAfter
-judged m x bs raws j e = (ap (λ (q : Judged). readAnswer q (length raws)) e, ap (λ (q : Judged). rawsLeft q raws) e)
+judged m x bs raws j e = (ap (λ (q : Judged). outcomeWord (readOutcome q (length raws))) e, ap (λ (q : Judged). rawsLeft q raws) e)
 
 start : (c : tie.After-j) → tie.Start
 start c = c .before .before .before .before
@@ -33,7 +35,7 @@ start c = c .before .before .before .before
 -- a frame, by the room for its numbers
 frame : (c : tie.After-j) (b : Bool) → leb signalCount (length (start c .args .raws .now)) ≡ b
     → Ends (start c .args .id) (start c .args .extended) (start c .args .payload .now) (start c .args .raws .now)
-    (cond b (c .j .given .0 .0 % 65536) (refusalWord ShortBuffer))
+    (outcomeWord (cond b (answers (c .j .given .0 .0)) (refuses ShortBuffer)))
     (cond b (rawsOf (c .j .given .0 .0) (c .j .given .0 .1 .0) ++ drop signalCount (start c .args .raws .now)) (start c .args .raws .now))
 unfolding start
 frame c b f =
@@ -45,6 +47,14 @@ unfolding start
 returns c =
     let e = frame (c .before .before .before) false (lt-leb _ _ (c .before .if1 .taken)) in
     (c .refusal-word .ensures ∙ e .0, e .1)
+
+-- a kind is below 12, and fits
+cast-result : tie.Need-cast-result
+unfolding start
+cast-result c =
+    let j = c .before .before .before .before .before .before in
+    let a = start j .args in
+    record { fits = omega (arith, subst SmallJudged (sym (j .before .before .judge .ensures) ∙ j .j .given .1) (judge-small (a .id) (a .extended) (a .payload .now))) }
 
 returns-2 : tie.Need-returns-2
 unfolding start
@@ -74,7 +84,7 @@ rokemaipu-read-spec =
     returns
     (λ c κs. search needs)
     (λ c κs. search needs)
-    (λ c. search needs)
+    cast-result
     (λ c. search needs)
     (λ c κs. search needs)
     (λ c. search needs)

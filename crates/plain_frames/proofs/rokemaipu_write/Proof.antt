@@ -2,7 +2,8 @@
 -- bytes that it leaves.
 use borrow.Author.Needs.{needs}
 use borrow.Author.Tests.{le-leb, lt-leb}
-use mathlib.Core.Path.{_≡_, sym, ap, _∙_}
+use native.Mathlib.Omega.{arith}
+use mathlib.Core.Path.{_≡_, sym, ap, _∙_, subst}
 use mathlib.Core.Bool.{Bool, true, false, cond}
 use mathlib.Core.List.{List}
 use Prim.Native.Nat.{ℕ, _≤_}
@@ -13,8 +14,9 @@ use Rattle.refusals.specs.declared.Refusal.the-variants.{NoRawNumber}
 use Rattle.page_write.specs.declared.Written.{Written}
 use Rattle.page_rows.specs.Table.{signalCount}
 use Rattle.page_write.specs.Raws.{writeRawsOf, bufferAfter}
-use Rattle.plain_words.specs.Words.{refusalWord}
-use Rattle.plain_frames.specs.Plain.{writtenWord, writeWord, bufferLeft}
+use Rattle.page_bounds.proofs.Bounds.{SmallWritten, write-small}
+use Rattle.plain_words.specs.Words.{refuses, outcomeWord}
+use Rattle.plain_frames.specs.Plain.{writtenOutcome, writeWord, bufferLeft}
 use Rattle.plain_frames.proofs.rokemaipu_write.Statement.{statement}
 use Rattle.plain_frames.proofs.rokemaipu_write.Tie as tie
 
@@ -25,19 +27,19 @@ Ends k raws buf r after = (r ≡ writeWord k raws buf) × (after ≡ bufferLeft 
 -- by whether the lent numbers are enough
 enough : (k : ℕ) (raws : List ℤ) (buf : List ℕ) (b : Bool) → leb signalCount (length raws) ≡ b
     → Ends k raws buf
-    (cond b (writtenWord (writeRawsOf k (take signalCount raws) buf)) (refusalWord NoRawNumber))
+    (outcomeWord (cond b (writtenOutcome (writeRawsOf k (take signalCount raws) buf)) (refuses NoRawNumber)))
     (cond b (bufferAfter k (take signalCount raws) buf) buf)
 unfolding writeWord bufferLeft
 enough k raws buf b e = (
-  sym (ap (λ (x : Bool). cond x (writtenWord (writeRawsOf k (take signalCount raws) buf)) (refusalWord NoRawNumber)) e),
+  sym (ap (λ (x : Bool). outcomeWord (cond x (writtenOutcome (writeRawsOf k (take signalCount raws) buf)) (refuses NoRawNumber))) e),
   sym (ap (λ (x : Bool). cond x (bufferAfter k (take signalCount raws) buf) buf) e),
 )
 
 written : {zs : List ℤ} {w v : Written} {after : List ℕ} (k : ℕ) (raws : List ℤ) (buf : List ℕ) → signalCount ≤ length raws → zs ≡ take signalCount raws
-    → (w ≡ writeRawsOf k zs buf) × (after ≡ bufferAfter k zs buf) → w ≡ v → Ends k raws buf (writtenWord v) after
+    → (w ≡ writeRawsOf k zs buf) × (after ≡ bufferAfter k zs buf) → w ≡ v → Ends k raws buf (outcomeWord (writtenOutcome v)) after
 written k raws buf l f g h =
     let e = enough k raws buf true (le-leb _ _ l) in (
-      ap writtenWord (sym h ∙ g .0 ∙ ap (λ (q : List ℤ). writeRawsOf k q buf) f) ∙ e .0,
+      ap (λ (q : Written). outcomeWord (writtenOutcome q)) (sym h ∙ g .0 ∙ ap (λ (q : List ℤ). writeRawsOf k q buf) f) ∙ e .0,
       g .1 ∙ ap (λ (q : List ℤ). bufferAfter k q buf) f ∙ e .1,
     )
 
@@ -46,7 +48,7 @@ start c = c .before .before .before .before .before
 
 -- by the variant that the writer answered
 answered : {v : Written} (c : tie.After-write-raws) → c .write-raws .result ≡ v
-    → Ends (start c .args .kind) (start c .args .raws .now) (start c .args .buf .now) (writtenWord v) (c .write-raws .last .1 .1 .0)
+    → Ends (start c .args .kind) (start c .args .raws .now) (start c .args .buf .now) (outcomeWord (writtenOutcome v)) (c .write-raws .last .1 .1 .0)
 unfolding start
 answered c h =
     let a = start c .args in
@@ -58,6 +60,15 @@ returns c =
     let a = c .before .before .before .args in
     let e = enough (a .kind) (a .raws .now) (a .buf .now) false (lt-leb _ _ (c .before .if1 .taken)) in
     (c .refusal-word .ensures ∙ e .0, e .1)
+
+-- a message has at most 8 bytes, and their number fits
+cast-result : tie.Need-cast-result
+unfolding start
+cast-result c =
+    let w = c .before .before .before .before .before in
+    let a = start w .args in
+    let zs = w .before .before .load-raws .result in
+    record { fits = omega (arith, subst SmallWritten (sym (w .write-raws .ensures .0) ∙ c .before .w .given .1) (write-small (a .kind) zs (a .buf .now))) }
 
 returns-2 : tie.Need-returns-2
 unfolding start
@@ -81,7 +92,7 @@ rokemaipu-write-spec =
     (λ c κs. search needs)
     (λ c κs. search needs)
     (λ c. search needs)
-    (λ c. search needs)
+    cast-result
     (λ c. search needs)
     (λ c κs. search needs)
     (λ c. search needs)

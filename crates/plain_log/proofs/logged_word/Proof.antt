@@ -2,14 +2,17 @@
 use borrow.Author.Needs.{needs}
 use mathlib.Core.Path.{subst}
 use native.Mathlib.Omega.{arith}
-use Rattle.plain_log.specs.Night.{Short}
+use Rattle.log_write.specs.declared.Logged.{Logged}
+use Rattle.log_records.specs.Record.{longestRecord}
+use Rattle.plain_words.specs.Words.{Within}
+use Rattle.plain_log.specs.Night.{loggedOutcome}
 use Rattle.plain_log.proofs.logged_word.Statement.{statement}
 use Rattle.plain_log.proofs.logged_word.Tie as tie
 
 cast-result : tie.Need-cast-result
 cast-result c =
     let w = c .before in
-    record { fits = omega (arith, subst Short (w .w .given .1) (w .before .before .pre)) }
+    record { fits = omega (arith, subst (λ (l : Logged). Within longestRecord (loggedOutcome l)) (w .w .given .1) (w .before .before .pre)) }
 
 returns-2 : tie.Need-returns-2
 returns-2 c = rw (c .before .before .w2 .given .1) (c .refusal-word .ensures)

@@ -11,7 +11,7 @@ use lib.ListN.{length, drop}
 use Rattle.refusals.specs.declared.Refusal.the-variants.{ShortBuffer}
 use Rattle.log_records.specs.declared.Found.{Found}
 use Rattle.log_records.specs.Reading.{foundAt}
-use Rattle.plain_words.specs.Words.{refusalWord}
+use Rattle.plain_words.specs.Words.{answers, refuses, outcomeWord}
 use Rattle.plain_log.specs.Night.{entryCount, entryNumbers, foundWord, entryLeft}
 use Rattle.plain_log.proofs.rokemaipu_log_record.Statement.{statement}
 use Rattle.plain_log.proofs.rokemaipu_log_record.Tie as tie
@@ -30,7 +30,7 @@ start c = c .before .before .before .before .before
 -- a record, by the room for its numbers
 whole : (c : tie.After-f) (b : Bool) → leb entryCount (length (start c .args .numbers .now)) ≡ b
     → Ends (start c .args .s .now) (start c .args .at) (start c .args .numbers .now)
-    (cond b 0 (refusalWord ShortBuffer))
+    (outcomeWord (cond b (answers 0) (refuses ShortBuffer)))
     (cond b (entryNumbers (c .f .given .0 .0) ++ drop entryCount (start c .args .numbers .now)) (start c .args .numbers .now))
 unfolding start
 whole c b e =

@@ -1,8 +1,8 @@
 -- `playing_calls::read_on` meets its contract, by what stands at the byte.
 use mathlib.Core.Path.{refl, sym, ap, _∙_}
-use Rattle.playing_nights.specs.Step.{onFound}
+use Rattle.playing_nights.specs.Call.{onFound}
 use Rattle.playing_nights.proofs.Steps.{likewise}
-use Rattle.playing_nights.proofs.Entries.{entry-lies}
+use Rattle.log_records.proofs.Entries.{entry-lies}
 use borrow.Author.Needs.{needs}
 use Rattle.playing_calls.proofs.read_on.Statement.{statement}
 use Rattle.playing_calls.proofs.read_on.Tie as tie

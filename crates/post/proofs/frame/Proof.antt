@@ -1,6 +1,6 @@
 -- `post::frame` meets its contract: the head is aged, judged there, and then given the frame.
 use borrow.Author.Needs.{needs}
-use Rattle.rules.specs.Step.{frameStep, agedTo}
+use Rattle.rules.specs.After.{afterFrame, agedTo}
 use Rattle.rules.proofs.Right.{frame-both}
 use Rattle.post.proofs.frame.Statement.{statement}
 use Rattle.post.proofs.frame.Tie as tie
@@ -27,7 +27,7 @@ with-frame-requires : tie.Need-with-frame-requires
 with-frame-requires c κs = search needs
 
 returns : tie.Need-returns
-unfolding frameStep agedTo
+unfolding afterFrame agedTo
 returns c =
     let slot = c .before in
     let found = slot .before in

@@ -1,6 +1,6 @@
 -- `post::tick` meets its contract: the head is aged, and judged there.
 use borrow.Author.Needs.{needs}
-use Rattle.rules.specs.Step.{tickStep}
+use Rattle.rules.specs.After.{afterTick}
 use Rattle.rules.proofs.Right.{tick-both}
 use Rattle.post.proofs.tick.Statement.{statement}
 use Rattle.post.proofs.tick.Tie as tie
@@ -18,7 +18,7 @@ any-findings-requires : tie.Need-any-findings-requires
 any-findings-requires c κs = search needs
 
 returns : tie.Need-returns
-unfolding tickStep
+unfolding afterTick
 returns c =
     let a = c .before .before .before .before .args in
     tick-both (a .h) (a .time)

@@ -1,7 +1,7 @@
 -- `post_findings::carrying_session` meets its contract: with the session open the answer is that of its control, and else false.
 use mathlib.Core.Path.{sym, _∙_}
 use borrow.Author.Needs.{needs}
-use Rattle.rules.specs.Step.{carryingIn}
+use Rattle.rules.specs.After.{carryingIn}
 use Rattle.post_findings.proofs.carrying_session.Statement.{statement}
 use Rattle.post_findings.proofs.carrying_session.Tie as tie
 

@@ -1,7 +1,7 @@
 -- `post_findings::control_findings` meets its contract: the five bits are what their rules answer, and each is at most its weight.
 use native.Mathlib.Omega.{arith}
 use borrow.Author.Needs.{needs}
-use Rattle.rules.specs.Step.{controlFindings}
+use Rattle.rules.specs.After.{controlFindings}
 use Rattle.post_findings.proofs.control_findings.Statement.{statement}
 use Rattle.post_findings.proofs.control_findings.Tie as tie
 

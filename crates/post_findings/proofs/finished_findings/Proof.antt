@@ -1,7 +1,7 @@
 -- `post_findings::finished_findings` meets its contract: the bit is what its rule answers, and at most 1024.
 use native.Mathlib.Omega.{arith}
 use borrow.Author.Needs.{needs}
-use Rattle.rules.specs.Step.{finishedFindings}
+use Rattle.rules.specs.After.{finishedFindings}
 use Rattle.post_findings.proofs.finished_findings.Statement.{statement}
 use Rattle.post_findings.proofs.finished_findings.Tie as tie
 

@@ -2,7 +2,7 @@
 use native.Mathlib.Omega.{arith}
 use borrow.Author.Tests.{eq-eqb, ne-eqb}
 use borrow.Author.Needs.{needs}
-use Rattle.rules.specs.Step.{messageFindings}
+use Rattle.rules.specs.After.{messageFindings}
 use Rattle.post_findings.proofs.message_findings.Statement.{statement}
 use Rattle.post_findings.proofs.message_findings.Tie as tie
 

@@ -1,7 +1,7 @@
 -- `post_findings::opening_findings` meets its contract: the bit is what its rule answers, and at most 512.
 use native.Mathlib.Omega.{arith}
 use borrow.Author.Needs.{needs}
-use Rattle.rules.specs.Step.{openingFindings}
+use Rattle.rules.specs.After.{openingFindings}
 use Rattle.post_findings.proofs.opening_findings.Statement.{statement}
 use Rattle.post_findings.proofs.opening_findings.Tie as tie
 

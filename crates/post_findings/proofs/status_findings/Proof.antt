@@ -1,7 +1,7 @@
 -- `post_findings::status_findings` meets its contract: the two bits are what their rules answer, and at most 128 and 256.
 use native.Mathlib.Omega.{arith}
 use borrow.Author.Needs.{needs}
-use Rattle.rules.specs.Step.{statusFindings}
+use Rattle.rules.specs.After.{statusFindings}
 use Rattle.post_findings.proofs.status_findings.Statement.{statement}
 use Rattle.post_findings.proofs.status_findings.Tie as tie
 

@@ -1,7 +1,7 @@
 -- `post_findings::unready` meets its contract: with the session open the answer is that of its status, and else false.
 use mathlib.Core.Path.{sym, _∙_}
 use borrow.Author.Needs.{needs}
-use Rattle.rules.specs.Step.{unreadyIn}
+use Rattle.rules.specs.After.{unreadyIn}
 use Rattle.post_findings.proofs.unready.Statement.{statement}
 use Rattle.post_findings.proofs.unready.Tie as tie
 

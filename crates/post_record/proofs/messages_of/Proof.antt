@@ -10,7 +10,7 @@ use Rattle.rules.specs.declared.Latest.{Latest}
 use Rattle.rules.specs.declared.Dated.the-variants as dated
 use Rattle.rules.specs.History.{countFrom}
 use Rattle.rules.specs.Record.{kindCount, unknown}
-use Rattle.rules.specs.Step.{datedIn}
+use Rattle.rules.specs.After.{datedIn}
 use Rattle.post_record.proofs.Filled.{filledTo, filled-next, filled-all}
 use Rattle.post_record.proofs.messages_of.Statement.{statement}
 use Rattle.post_record.proofs.messages_of.Tie as tie

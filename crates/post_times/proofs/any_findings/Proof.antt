@@ -1,7 +1,7 @@
 -- `post_times::any_findings` meets its contract: the two bits are what the two rules answer, and at most 1 and 2.
 use native.Mathlib.Omega.{arith}
 use borrow.Author.Needs.{needs}
-use Rattle.rules.specs.Step.{anyFindings}
+use Rattle.rules.specs.After.{anyFindings}
 use Rattle.post_times.proofs.any_findings.Statement.{statement}
 use Rattle.post_times.proofs.any_findings.Tie as tie
 

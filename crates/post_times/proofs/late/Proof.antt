@@ -1,7 +1,7 @@
 -- `post_times::late` meets its contract: with a frame the test is on what the call ensures, and else nothing is found.
 use mathlib.Core.Path.{sym, _∙_}
 use borrow.Author.Needs.{needs}
-use Rattle.rules.specs.Step.{lateAfter}
+use Rattle.rules.specs.After.{lateAfter}
 use Rattle.post_times.proofs.late.Statement.{statement}
 use Rattle.post_times.proofs.late.Tie as tie
 

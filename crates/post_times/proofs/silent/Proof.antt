@@ -1,7 +1,7 @@
 -- `post_times::silent` meets its contract: with the session open the test is on what the calls ensure, and else nothing is found.
 use mathlib.Core.Path.{sym, _∙_}
 use borrow.Author.Needs.{needs}
-use Rattle.rules.specs.Step.{silentIn}
+use Rattle.rules.specs.After.{silentIn}
 use Rattle.post_times.proofs.silent.Statement.{statement}
 use Rattle.post_times.proofs.silent.Tie as tie
 

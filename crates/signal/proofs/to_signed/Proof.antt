@@ -1,4 +1,5 @@
--- `signal::to_signed` meets its contract: below the half v stands for itself, and from there on for what lies as far under -1 as v lies under all ones. Assumes nothing.
+-- `signal::to_signed` meets its contract: below the half v stands for itself, and from there on for what lies as far under -1 as v lies under all ones.
+-- Assumes nothing.
 use mathlib.Core.Path.{_≡_, sym, ap, _∙_}
 use Prim.Native.Nat.{ℕ, suc, _-_, _^_, _≤_, _<_}
 use native.Mathlib.Omega.{arith}

@@ -48,8 +48,8 @@ returns-2 c =
       c .no-record2 .ensures,
     ))
 
-record-in-requires : tie.Need-record-in-requires
-record-in-requires c κs = search needs
+of-post-requires : tie.Need-of-post-requires
+of-post-requires c κs = search needs
 
 returns-3 : tie.Need-returns-3
 unfolding lookUpOf
@@ -61,7 +61,7 @@ returns-3 c =
     (rw (
       sym (post .before .is-post .ensures) ∙ not-false _ (post .if1 .left),
       sym (used .before .is-set .ensures) ∙ not-false _ (used .if2 .left),
-      c .record-in .ensures .0,
+      c .of-post .ensures .0,
     ))
 
 pub look-up-spec : {M : Type 1} → statement M
@@ -77,5 +77,5 @@ look-up-spec =
     is-set-requires
     no-record-requires-2
     returns-2
-    record-in-requires
+    of-post-requires
     returns-3)

@@ -6,31 +6,28 @@ use Rattle.nightlog.proofs.pieces.records_in.Statement.{statement}
 use Rattle.nightlog.proofs.pieces.records_in.Tie as tie
 
 abbrev Inv-loop : tie.InvT-loop
-Inv-loop piece shown out₀ at₀ records₀ p₀ turns₀ out at records p turns = length out ≡ length out₀
+Inv-loop piece shown out₀ c₀ turns₀ out c turns = length out ≡ length out₀
 
 abbrev μ-loop : tie.MeasureT-loop
-μ-loop piece shown out₀ at₀ records₀ p₀ turns₀ out at records p turns = turns
+μ-loop piece shown out₀ c₀ turns₀ out c turns = turns
 
 loop-holds : tie.Need-loop-holds Inv-loop μ-loop
 loop-holds c = search needs
 
-record-at-requires : tie.Need-record-at-requires Inv-loop μ-loop
-record-at-requires c κs = search needs
+stepped-requires : tie.Need-stepped-requires Inv-loop μ-loop
+stepped-requires c κs = search needs
 
-enum-known-e : tie.Need-enum-known-e Inv-loop μ-loop
-enum-known-e c = search needs
+is-within-requires : tie.Need-is-within-requires Inv-loop μ-loop
+is-within-requires c κs = search needs
+
+goes-on-requires : tie.Need-goes-on-requires Inv-loop μ-loop
+goes-on-requires c κs = search needs
 
 same-length : tie.Need-same-length Inv-loop μ-loop
 same-length c = search needs
 
 returns : tie.Need-returns Inv-loop μ-loop
 returns c = search needs
-
-shown-if-requires : tie.Need-shown-if-requires Inv-loop μ-loop
-shown-if-requires c κs = search needs
-
-wrapping-add-u64-requires : tie.Need-wrapping-add-u64-requires Inv-loop μ-loop
-wrapping-add-u64-requires c κs = search needs
 
 sub-turns : tie.Need-sub-turns Inv-loop μ-loop
 sub-turns c = search needs
@@ -54,12 +51,11 @@ records-in-spec =
     Inv-loop
     μ-loop
     loop-holds
-    record-at-requires
-    enum-known-e
+    stepped-requires
+    is-within-requires
+    goes-on-requires
     same-length
     returns
-    shown-if-requires
-    wrapping-add-u64-requires
     sub-turns
     loop-less
     loop-again

@@ -6,16 +6,22 @@ use Rattle.nightlog.proofs.pieces.walked.Statement.{statement}
 use Rattle.nightlog.proofs.pieces.walked.Tie as tie
 
 abbrev Inv-loop : tie.InvT-loop
-Inv-loop fd shown name buf₀ out₀ w₀ turns₀ buf out w turns = (length buf ≡ length buf₀) × (length out ≡ length out₀)
+Inv-loop fd shown name buf₀ out₀ c₀ turns₀ buf out c turns = (length buf ≡ length buf₀) × (length out ≡ length out₀)
 
 abbrev μ-loop : tie.MeasureT-loop
-μ-loop fd shown name buf₀ out₀ w₀ turns₀ buf out w turns = turns
+μ-loop fd shown name buf₀ out₀ c₀ turns₀ buf out c turns = turns
 
 loop-holds : tie.Need-loop-holds Inv-loop μ-loop
 loop-holds c = search needs
 
 next-piece-requires : tie.Need-next-piece-requires Inv-loop μ-loop
 next-piece-requires c κs = search needs
+
+is-at-seam-requires : tie.Need-is-at-seam-requires Inv-loop μ-loop
+is-at-seam-requires c κs = search needs
+
+goes-on-requires : tie.Need-goes-on-requires Inv-loop μ-loop
+goes-on-requires c κs = search needs
 
 same-length : tie.Need-same-length Inv-loop μ-loop
 same-length c = search needs
@@ -52,6 +58,8 @@ walked-spec =
     μ-loop
     loop-holds
     next-piece-requires
+    is-at-seam-requires
+    goes-on-requires
     same-length
     same-length-2
     returns

@@ -1,7 +1,7 @@
 -- `post::step::session_after` meets its contract: the tests on the kind are passed in the order of the definition.
 use borrow.Author.Tests.{eq-eqb, ne-eqb}
 use borrow.Author.Needs.{needs}
-use Rattle.rules.specs.Step.{sessionAfter}
+use Rattle.rules.specs.After.{sessionAfter}
 use Rattle.post.proofs.step.session_after.Statement.{statement}
 use Rattle.post.proofs.step.session_after.Tie as tie
 

@@ -1,6 +1,6 @@
 -- `post::step::with_frame` meets its contract: the two slots that the head keeps and its session are new.
 use borrow.Author.Needs.{needs}
-use Rattle.rules.specs.Step.{withFrame}
+use Rattle.rules.specs.After.{withFrame}
 use Rattle.post.proofs.step.with_frame.Statement.{statement}
 use Rattle.post.proofs.step.with_frame.Tie as tie
 

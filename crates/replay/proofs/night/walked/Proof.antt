@@ -6,16 +6,19 @@ use Rattle.replay.proofs.night.walked.Statement.{statement}
 use Rattle.replay.proofs.night.walked.Tie as tie
 
 abbrev Inv-loop : tie.InvT-loop
-Inv-loop fd watched name buf₀ line₀ out₀ w₀ turns₀ buf line out w turns = (length buf ≡ length buf₀) × (length line ≡ length line₀) × (length out ≡ length out₀)
+Inv-loop fd watched name buf₀ line₀ out₀ n₀ turns₀ buf line out n turns = (length buf ≡ length buf₀) × (length line ≡ length line₀) × (length out ≡ length out₀)
 
 abbrev μ-loop : tie.MeasureT-loop
-μ-loop fd watched name buf₀ line₀ out₀ w₀ turns₀ buf line out w turns = turns
+μ-loop fd watched name buf₀ line₀ out₀ n₀ turns₀ buf line out n turns = turns
 
 loop-holds : tie.Need-loop-holds Inv-loop μ-loop
 loop-holds c = search needs
 
 next-piece-requires : tie.Need-next-piece-requires Inv-loop μ-loop
 next-piece-requires c κs = search needs
+
+is-at-seam-requires : tie.Need-is-at-seam-requires Inv-loop μ-loop
+is-at-seam-requires c κs = search needs
 
 same-length : tie.Need-same-length Inv-loop μ-loop
 same-length c = search needs
@@ -61,6 +64,7 @@ walked-spec =
     μ-loop
     loop-holds
     next-piece-requires
+    is-at-seam-requires
     same-length
     same-length-2
     same-length-3

@@ -6,19 +6,16 @@ use Rattle.replay.proofs.piece.played.Statement.{statement}
 use Rattle.replay.proofs.piece.played.Tie as tie
 
 abbrev Inv-loop : tie.InvT-loop
-Inv-loop piece line₀ out₀ r₀ c₀ turns₀ line out r c turns = (length line ≡ length line₀) × (length out ≡ length out₀)
+Inv-loop piece line₀ out₀ n₀ turns₀ line out n turns = (length line ≡ length line₀) × (length out ≡ length out₀)
 
 abbrev μ-loop : tie.MeasureT-loop
-μ-loop piece line₀ out₀ r₀ c₀ turns₀ line out r c turns = turns
+μ-loop piece line₀ out₀ n₀ turns₀ line out n turns = turns
 
 loop-holds : tie.Need-loop-holds Inv-loop μ-loop
 loop-holds c = search needs
 
-next-line-requires : tie.Need-next-line-requires Inv-loop μ-loop
-next-line-requires c κs = search needs
-
-answered-requires : tie.Need-answered-requires Inv-loop μ-loop
-answered-requires c κs = search needs
+stepped-requires : tie.Need-stepped-requires Inv-loop μ-loop
+stepped-requires c κs = search needs
 
 same-length : tie.Need-same-length Inv-loop μ-loop
 same-length c = search needs
@@ -54,8 +51,7 @@ played-spec =
     Inv-loop
     μ-loop
     loop-holds
-    next-line-requires
-    answered-requires
+    stepped-requires
     same-length
     same-length-2
     returns

@@ -1,0 +1,4 @@
+pub mod Filled
+pub mod Joined
+pub mod Judged
+pub mod Turns

@@ -1,0 +1,219 @@
+-- `batch::feed_all` meets its contract: after each record what is left of the log, on the posts and the answers so far, gives what the whole gives
+-- (`Turns.antt`). The measure is the bytes left.
+use mathlib.Core.Path.{_≡_, refl, sym, ap, ap₂, _∙_}
+use mathlib.Core.List.{List, [], _∷_}
+use Prim.Native.Nat.{ℕ, _-_, _<_}
+use native.Mathlib.Omega.{arith}
+use lib.ListN.{length, length-map}
+use types.Run.{OneOf, miss}
+use denote.Enum.Declared.{tagOf}
+use borrow.Author.Needs.{needs}
+use Rattle.rules.proofs.Unmapped.{unmapped}
+use Rattle.watch_rules.specs.Table.{postCount}
+use Rattle.log_records.specs.declared.Found.{Found}
+use Rattle.log_records.specs.declared.Found.the-variants.{Record, End, Cut, Refused}
+use Rattle.log_records.specs.Reading.{Log, onward, recordsIn}
+use Rattle.log_records.proofs.Found.{the-type}
+use Rattle.log_records.proofs.Entries.{entry-lies}
+use Rattle.log_read.proofs.Scans.{logAt}
+use Rattle.batch.specs.Parts.{joined}
+use Rattle.batch.proofs.Joined.{joined-posts, latest-kept, latest-left}
+use Rattle.batch.proofs.Turns.{FedSo, start, has-place, turn, stop}
+use Rattle.batch.proofs.feed_all.Statement.{statement}
+use Rattle.batch.proofs.feed_all.Tie as tie
+
+abbrev Inv-loop : tie.InvT-loop
+Inv-loop t log answers₀ heads₀ latest₀ at₀ n₀ answers heads latest at n = FedSo t log answers₀ answers heads latest at n
+
+abbrev μ-loop : tie.MeasureT-loop
+μ-loop t log answers₀ heads₀ latest₀ at₀ n₀ answers heads latest at n = length log - at
+
+heads-of-requires : tie.Need-heads-of-requires Inv-loop μ-loop
+heads-of-requires c κs = search needs
+
+latest-of-requires : tie.Need-latest-of-requires Inv-loop μ-loop
+latest-of-requires c κs = search needs
+
+loop-holds : tie.Need-loop-holds Inv-loop μ-loop
+loop-holds c =
+    let a = c .before .before .before .before .args in
+    let n : length (a .t .posts) ≡ postCount = search unmapped in
+    let hs = c .before .heads-of .result in
+    let ls = c .latest-of .result in
+    let eh = c .before .heads-of .ensures in
+    let el = c .latest-of .ensures in
+    start (a .t) (a .log .now) (a .answers .now) (c .before .before .before .before .pre) hs ls (ap length eh ∙ length-map (a .t .posts) (λ p. p .head) ∙ n) (ap length el ∙ length-map (a .t .posts) (λ p. p .latest) ∙ n)
+    (ap₂ joined eh el ∙ joined-posts (a .t .posts))
+
+record-at-requires : tie.Need-record-at-requires Inv-loop μ-loop
+record-at-requires c κs = search needs
+
+enum-known-e : tie.Need-enum-known-e Inv-loop μ-loop
+enum-known-e c = search needs
+
+table-of-requires : tie.Need-table-of-requires Inv-loop μ-loop
+table-of-requires c κs = search needs
+
+same-length : tie.Need-same-length Inv-loop μ-loop
+same-length c = c .before .before .before .loop .inv .2
+
+-- every case but Record, which is the first
+abbrev otherCases : List ℕ
+otherCases = 1 ∷ 2 ∷ 3 ∷ []
+
+none-found : (s : List ℕ) (go : ℕ → Log) (f : Found) → OneOf otherCases (tagOf the-type f) → recordsIn (onward s go f) ≡ []
+unfolding recordsIn
+none-found s go (Record e) h = absurd (miss otherCases 0 tt h)
+none-found s go End h = refl
+none-found s go (Cut at) h = refl
+none-found s go (Refused w at) h = refl
+
+returns : tie.Need-returns Inv-loop μ-loop
+returns c =
+    let z = c .before .before .before in
+    let l = z .loop in
+    let a = z .before .before .before .before .before .args in
+    let w = stop (a .t) (a .log .now) (a .answers .now) (l .answers) (l .heads) (l .latest) (l .at) (l .n) (l .inv) (c .before .before .record-at .result) (c .before .before .record-at .ensures) (none-found (a .log .now) (logAt (a .log .now)) (c .before .before .record-at .result) (c .before .match .keys2)) (z .before .before .before .before .before .pre) in
+    (c .table-of .ensures ∙ w .0, w .1)
+
+some-place-requires : tie.Need-some-place-requires Inv-loop μ-loop
+some-place-requires c κs = search needs
+
+mul-h : tie.Need-mul-h Inv-loop μ-loop
+mul-h c = search needs
+
+array-copy-out-h : tie.Need-array-copy-out-h Inv-loop μ-loop
+array-copy-out-h c = search needs
+
+step-requires : tie.Need-step-requires Inv-loop μ-loop
+step-requires c κs =
+    let z = c .before .before .before .before .before .before in
+    let e = c .before .before .before .e .given in
+    entry-lies (z .before .before .before .before .before .args .log .now) (z .loop .at) (e .0 .0) (sym (c .before .before .before .before .before .record-at .ensures) ∙ e .1) .0
+
+mul-heads : tie.Need-mul-heads Inv-loop μ-loop
+mul-heads c = search needs
+
+array-set-from-heads : tie.Need-array-set-from-heads Inv-loop μ-loop
+array-set-from-heads c = search needs
+
+answer-word-requires : tie.Need-answer-word-requires Inv-loop μ-loop
+answer-word-requires c κs = search needs
+
+mul-answers : tie.Need-mul-answers Inv-loop μ-loop
+mul-answers c =
+    let z = c .before .before .before .before .before .before .before .before .before .before in
+    let l = z .loop in
+    let a = z .before .before .before .before .before .args in
+    let e = c .before .before .before .before .before .before .before .e .given in
+    let here = sym (c .before .before .before .before .before .before .before .before .before .record-at .ensures) ∙ e .1 in
+    let p : l .n < length (l .answers) = has-place (a .t) (a .log .now) (a .answers .now) (l .answers) (l .heads) (l .latest) (l .at) (l .n) (l .inv) (e .0 .0) here in
+    search (needs, l .inv .2)
+
+slice-write-answers : tie.Need-slice-write-answers Inv-loop μ-loop
+slice-write-answers c =
+    let z = c .before .before .before .before .before .before .before .before .before .before in
+    let l = z .loop in
+    let a = z .before .before .before .before .before .args in
+    let e = c .before .before .before .before .before .before .before .e .given in
+    let here = sym (c .before .before .before .before .before .before .before .before .before .record-at .ensures) ∙ e .1 in
+    has-place (a .t) (a .log .now) (a .answers .now) (l .answers) (l .heads) (l .latest) (l .at) (l .n) (l .inv) (e .0 .0) here
+
+add-n : tie.Need-add-n Inv-loop μ-loop
+add-n c =
+    let z = c .before .before .before .before .before .before .before .before .before .before in
+    let l = z .loop in
+    let a = z .before .before .before .before .before .args in
+    let e = c .before .before .before .before .before .before .before .e .given in
+    let here = sym (c .before .before .before .before .before .before .before .before .before .record-at .ensures) ∙ e .1 in
+    let p : l .n < length (l .answers) = has-place (a .t) (a .log .now) (a .answers .now) (l .answers) (l .heads) (l .latest) (l .at) (l .n) (l .inv) (e .0 .0) here in
+    search (needs, l .inv .2)
+
+mul-slot : tie.Need-mul-slot Inv-loop μ-loop
+mul-slot c = search needs
+
+mul-slot-2 : tie.Need-mul-slot-2 Inv-loop μ-loop
+mul-slot-2 c = search needs
+
+index-1-slot : tie.Need-index-1-slot Inv-loop μ-loop
+index-1-slot c = search needs
+
+index-2-slot : tie.Need-index-2-slot Inv-loop μ-loop
+index-2-slot c = search needs
+
+loop-less : tie.Need-loop-less Inv-loop μ-loop
+loop-less c =
+    let z = c .before .before .before .before .before .before .before .before .before .before .before in
+    let l = z .loop in
+    let a = z .before .before .before .before .before .args in
+    let e = c .before .before .before .before .before .before .before .before .e .given in
+    let here = sym (c .before .before .before .before .before .before .before .before .before .before .record-at .ensures) ∙ e .1 in
+    let w = entry-lies (a .log .now) (l .at) (e .0 .0) here in
+    omega (arith, w .1, w .2)
+
+loop-again : tie.Need-loop-again Inv-loop μ-loop
+loop-again c =
+    let z = c .before .before .before .before .before .before .before .before .before .before .before in
+    let l = z .loop in
+    let a = z .before .before .before .before .before .args in
+    let e = c .before .before .before .before .before .before .before .before .e .given in
+    let here = sym (c .before .before .before .before .before .before .before .before .before .before .record-at .ensures) ∙ e .1 in
+    let i = c .before .before .before .before .before .before .some-place in
+    let r = c .before .before .before .before .step in
+    turn (a .t) (a .log .now) (a .answers .now) (l .answers) (l .heads) (l .latest) (l .at) (l .n) (l .inv) (e .0 .0) here (i .result) (i .ensures .1) (i .ensures .0) (r .result) (r .ensures) (c .before .answer-word .result) (c .before .answer-word .ensures) _
+    (latest-kept (l .heads) (l .latest) (i .result) (omega (arith, l .inv .0, i .ensures .1)) (omega (arith, l .inv .1, i .ensures .1)) (r .result) (c .if1 .taken))
+
+loop-less-2 : tie.Need-loop-less-2 Inv-loop μ-loop
+loop-less-2 c =
+    let z = c .before .before .before .before .before .before .before .before .before .before .before in
+    let l = z .loop in
+    let a = z .before .before .before .before .before .args in
+    let e = c .before .before .before .before .before .before .before .before .e .given in
+    let here = sym (c .before .before .before .before .before .before .before .before .before .before .record-at .ensures) ∙ e .1 in
+    let w = entry-lies (a .log .now) (l .at) (e .0 .0) here in
+    omega (arith, w .1, w .2)
+
+loop-again-2 : tie.Need-loop-again-2 Inv-loop μ-loop
+loop-again-2 c =
+    let z = c .before .before .before .before .before .before .before .before .before .before .before in
+    let l = z .loop in
+    let a = z .before .before .before .before .before .args in
+    let e = c .before .before .before .before .before .before .before .before .e .given in
+    let here = sym (c .before .before .before .before .before .before .before .before .before .before .record-at .ensures) ∙ e .1 in
+    let i = c .before .before .before .before .before .before .some-place in
+    let r = c .before .before .before .before .step in
+    turn (a .t) (a .log .now) (a .answers .now) (l .answers) (l .heads) (l .latest) (l .at) (l .n) (l .inv) (e .0 .0) here (i .result) (i .ensures .1) (i .ensures .0) (r .result) (r .ensures) (c .before .answer-word .result) (c .before .answer-word .ensures) _
+    (latest-left (l .heads) (l .latest) (i .result) (omega (arith, l .inv .0, i .ensures .1)) (omega (arith, l .inv .1, i .ensures .1)) (r .result) (c .if1 .left))
+
+pub feed-all-spec : {M : Type 1} → statement M
+feed-all-spec =
+    tie.close
+    (tie.spec
+    Inv-loop
+    μ-loop
+    heads-of-requires
+    latest-of-requires
+    loop-holds
+    record-at-requires
+    enum-known-e
+    table-of-requires
+    same-length
+    returns
+    some-place-requires
+    mul-h
+    array-copy-out-h
+    step-requires
+    mul-heads
+    array-set-from-heads
+    answer-word-requires
+    mul-answers
+    slice-write-answers
+    add-n
+    mul-slot
+    mul-slot-2
+    index-1-slot
+    index-2-slot
+    loop-less
+    loop-again
+    loop-less-2
+    loop-again-2)

@@ -1,0 +1,17 @@
+-- The post that holds a channel, as a word. 01: "A frame or tick goes to the post that holds its channel", and "1: channel above 31, or held by no post".
+use Prim.Native.Nat.{ℕ}
+use mathlib.Core.Bool.{cond, _&&_}
+use lib.Dec.{ltb}
+use Rattle.refusals.specs.declared.Refusal.the-variants.{ChannelFree}
+use Rattle.watch_rules.specs.declared.Table.{Table}
+use Rattle.watch_rules.specs.Table.{postCount, isChannel, placeOf}
+use Rattle.watch_rules.specs.Steps.{Steps, holder}
+use Rattle.plain_words.specs.Words.{refusalWord}
+
+-- for every table
+unfoldable pub holderWord : Table → ℕ → ℕ
+holderWord t c = cond (isChannel c && ltb (placeOf (t .posts) c) postCount) (placeOf (t .posts) c) (refusalWord ChannelFree)
+
+-- over accepted steps
+unfoldable pub holder01 : Steps → ℕ → ℕ
+holder01 s c = cond (isChannel c && ltb (holder s c) postCount) (holder s c) (refusalWord ChannelFree)

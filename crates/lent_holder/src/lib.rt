@@ -1,0 +1,30 @@
+// The post that holds a channel over the C interface: to whom a frame or tick on it goes. The lent table is only read.
+// For C callers; a caller in Rattle asks `watch_places::place`.
+ghost use mathlib.Core.Path.{_≡_};
+ghost use Rattle.lent_holder.specs.Holder.{holderWord};
+use plain_words::refusal_word;
+use refusals::Refusal;
+use watch_places::place;
+use watch_rules::POSTS;
+use watch_rules::Table;
+
+// 01: "1: channel above 31, or held by no post".
+pub fn holder_of(t: Table, channel: u32) -> u32
+    ensures { λ r. ⌜ r ≡ holderWord t channel ⌝ }
+{
+    if 31 < channel {
+        return refusal_word(Refusal::ChannelFree);
+    }
+    let i = place(t, channel);
+    if POSTS <= i {
+        return refusal_word(Refusal::ChannelFree);
+    }
+    i as u32
+}
+
+#[no_mangle]
+pub extern "C" fn rokemaipu_holder(t: &Table, channel: u32) -> u32
+    ensures { λ r. ⌜ r ≡ holderWord (now (t .entry)) channel ⌝ }
+{
+    holder_of(*t, channel)
+}

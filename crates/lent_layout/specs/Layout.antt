@@ -1,0 +1,30 @@
+-- The layout of the lent table as one word: its bytes, its posts, its kinds of messages, and the number of the layout.
+-- That the bytes are those of the type that the entries are proved over is a law (proofs/Sizes.antt).
+use Prim.Native.Nat.{ℕ, _+_, _*_, _^_}
+use Rattle.rules.specs.Record.{kindCount}
+use Rattle.rules.specs.After.{keptCount}
+use Rattle.watch_rules.specs.Table.{postCount}
+
+-- a slot is three words; a session is three, and what it keeps
+abbrev pub slotBytes : ℕ
+slotBytes = 24
+
+abbrev pub sessionBytes : ℕ
+sessionBytes = 24 + keptCount * slotBytes
+
+-- set up or not, and the channel; five limits; heard or not; the time; the latest Advantics_Controller_Status and DC_Power_Parameters; the session
+abbrev pub headBytes : ℕ
+headBytes = 8 + 20 + 4 + 8 + 2 * slotBytes + sessionBytes
+
+abbrev pub postBytes : ℕ
+postBytes = headBytes + kindCount * slotBytes
+
+abbrev pub tableBytes : ℕ
+tableBytes = postCount * postBytes
+
+-- another one wherever a place of the table means something else
+abbrev pub layoutNumber : ℕ
+layoutNumber = 1
+
+abbrev pub layoutWord : ℕ
+layoutWord = tableBytes + postCount * 2 ^ 32 + kindCount * 2 ^ 40 + layoutNumber * 2 ^ 48

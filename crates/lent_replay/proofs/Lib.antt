@@ -1,0 +1,3 @@
+pub mod Entries
+pub mod InBoth
+pub mod Whole

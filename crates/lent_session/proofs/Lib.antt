@@ -1,0 +1,4 @@
+pub mod ByCase
+pub mod Entries
+pub mod SessionLaws
+pub mod Night

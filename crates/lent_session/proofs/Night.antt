@@ -1,0 +1,138 @@
+-- The laws of an open session's part on a night: post 0 on channel 4, a session opened at 0 ms, and a Power_Modules_Status at 10 ms in it. Each premise
+-- holds there.
+use Prim.Native.Nat.{ℕ, zero, suc, _<_, _≤_}
+use native.Mathlib.Omega.{arith}
+use mathlib.Core.Path.{_≡_, refl, sym, ap, _∙_, subst}
+use mathlib.Core.Bool.{true, false}
+use mathlib.Core.List.{List, [], _∷_, _++_}
+use mathlib.Core.Option.{none, some}
+use lib.ListN.{length, getD, drop, replicate}
+use borrow.Author.Tests.{ltb-true}
+use Rattle.payload.specs.Payload.{Bytes, leNumber}
+use Rattle.signal.specs.Signal.{getBits}
+use Rattle.signal.specs.Twos.{toSigned}
+use Rattle.page_rows.specs.Table.{rows, ofKind, firstAt, covered, lengthOf}
+use Rattle.page_read.specs.declared.Judged.the-variants as judged
+use Rattle.page_read.specs.Judge.{unlabelled, strayBelow, judgedNumber, judgeOf}
+use Rattle.page_write.specs.Raws.{wholesOf, pad, rawsOf}
+use Rattle.message_parts.specs.Parts.{statusIn, parametersIn, sessionIn, controlIn}
+use Rattle.rule_limits.specs.declared.PlainLimits.{PlainLimits}
+use Rattle.rule_limits.specs.Limits.{limitsFit}
+use Rattle.rules.specs.History.{History, sinceFinished, opening, inSession, earlierIn}
+use Rattle.rules.specs.History as history
+use Rattle.rule_asks.specs.Judgements.{lowersBadly, outside, leaking, badInsulation, differs}
+use Rattle.rules.specs.Rules.{sessionStatus, sessionControl, limitOf, f1, f2, f3, f4, f5, f6, f7, f8, f9, f10, f11, findings01}
+use Rattle.rules.specs.declared.Post.{Post}
+use Rattle.rules.specs.Record.{isSet, unknown, slotAt, session01, headAt}
+use Rattle.rules.specs.After.{statusPlace, controlPlace, keptCount, datedIn}
+use Rattle.watch_rules.specs.declared.Setting.the-variants as setting
+use Rattle.watch_rules.specs.declared.Setting.{Setting}
+use Rattle.watch_rules.specs.declared.LookedUp.{LookedUp}
+use Rattle.watch_rules.specs.Table.{postCount, noPost, postIn, lookUpOf}
+use Rattle.watch_rules.specs.Steps.{held, standing, keptPost, findFrom, holder, otherHolds, feed01, setUp01, lookUp01, feedSteps, setUpSteps}
+use Rattle.watch_rules.specs.Run.{Request, setUp, frame, run, accepted}
+use Rattle.watch_rules.proofs.Tables.{post-at}
+use Rattle.watch_rules.proofs.Demand.{run-kept, every-record}
+use Rattle.lent_latest.specs.Latest.{hands}
+use Rattle.lent_session.specs.InSession.{partOf, handsPart, partWord, partTime, partFrame}
+use Rattle.lent_session.proofs.SessionLaws.{as-it-came, part-refused, shownAt, part-shown, closed, part-right, part-closed}
+
+abbrev limits : PlainLimits
+limits = record { voltage = 5000; charge = 1000; discharge = 500; silence = 500; sensor = 0 }
+
+-- Power_Modules_Status: no voltage, no current, 25 °C, Allowed, and its payload number
+abbrev status : List ℕ
+status = 0 ∷ 0 ∷ 0 ∷ 0 ∷ 65 ∷ 65 ∷ 1 ∷ 255 ∷ []
+
+abbrev allowed : ℕ
+allowed = 18375039702077014016
+
+-- newest first
+abbrev night : List Request
+night = frame 4 10 0x63000 true status ∷ frame 4 0 0x6b001 true (2 ∷ 1 ∷ []) ∷ setUp 0 4 limits ∷ []
+
+abbrev heard : History
+heard = history.frame 10 0 allowed ∷ history.frame 0 3 258 ∷ []
+
+abbrev buffer : List ℕ
+buffer = replicate 10 7
+
+computed : (standing 0 (accepted night) ≡ held 4 limits heard) × (opening heard ≡ some (0, 258)) × (sessionStatus heard ≡ some (10, allowed)) × (sessionControl heard ≡ none)
+    × (judgeOf 0x63000 true status ≡ judged.Frame 0 allowed) × (lookUp01 (accepted night) 0 .answer ≡ setting.Done) × (hands setting.Done 0 (slotAt 10 allowed) 1 10 ≡ true)
+unfolding standing findFrom holder otherHolds feed01 setUp01 lookUp01 feedSteps setUpSteps limitsFit accepted sinceFinished opening inSession earlierIn lowersBadly outside leaking badInsulation differs sessionStatus sessionControl limitOf f1 f2 f3 f4 f5 f6 f7 f8 f9 f10 f11 findings01 rows ofKind firstAt covered lengthOf unlabelled strayBelow judgedNumber judgeOf wholesOf pad rawsOf getBits leNumber toSigned statusIn parametersIn sessionIn controlIn
+computed = (refl, refl, refl, refl, refl, refl, refl)
+
+first : 0 < postCount
+first = ltb-true 0 postCount refl
+
+pub kept-status : partOf (run night) 0 statusPlace ≡ slotAt 10 allowed
+kept-status = part-right (run night) (accepted night) (run-kept night) 0 4 limits heard first (computed .0) (0, 258) statusPlace (computed .1) (ltb-true statusPlace keptCount refl) ∙ rw (computed .2)
+
+-- no DC_Power_Control was accepted
+pub kept-control : partOf (run night) 0 controlPlace ≡ unknown
+kept-control = part-right (run night) (accepted night) (run-kept night) 0 4 limits heard first (computed .0) (0, 258) controlPlace (computed .1) (ltb-true controlPlace keptCount refl) ∙ rw (computed .3)
+
+handed : handsPart (run night) 0 statusPlace (99 ∷ []) buffer ≡ true
+handed =
+    ap (λ (x : Setting). hands x 0 (partOf (run night) 0 statusPlace) 1 10) (ap (λ (x : LookedUp). x .answer) (every-record night 0) ∙ computed .5)
+    ∙ rw kept-status (computed .6)
+
+each-byte : Bytes status
+each-byte zero = omega arith
+each-byte (suc zero) = omega arith
+each-byte (suc (suc zero)) = omega arith
+each-byte (suc (suc (suc zero))) = omega arith
+each-byte (suc (suc (suc (suc zero)))) = omega arith
+each-byte (suc (suc (suc (suc (suc zero))))) = omega arith
+each-byte (suc (suc (suc (suc (suc (suc zero)))))) = omega arith
+each-byte (suc (suc (suc (suc (suc (suc (suc zero))))))) = omega arith
+each-byte (suc (suc (suc (suc (suc (suc (suc (suc i)))))))) = omega arith
+
+-- the status is handed out as it came, and behind it the buffer stays
+pub status-out : (partTime (run night) 0 statusPlace (99 ∷ []) buffer ≡ 10 ∷ []) × (partFrame (run night) 0 statusPlace (99 ∷ []) buffer ≡ status ++ (7 ∷ 7 ∷ []))
+status-out = as-it-came (run night) 0 statusPlace (99 ∷ []) buffer 0x63000 true status 10 allowed (computed .4) each-byte kept-status handed
+
+-- ---- the other laws' premises
+
+answered : lookUpOf (run night) 0 .answer ≡ setting.Done
+answered = ap (λ (x : LookedUp). x .answer) (every-record night 0) ∙ computed .5
+
+-- no place for the time: 8, and nothing changes
+refused-8 : partWord (run night) 0 statusPlace [] buffer ≡ 65544
+unfolding partWord
+refused-8 = rw (answered, kept-status)
+
+pub no-place : (partTime (run night) 0 statusPlace [] buffer ≡ []) × (partFrame (run night) 0 statusPlace [] buffer ≡ buffer)
+no-place = part-refused (run night) 0 statusPlace [] buffer (subst (λ (a : ℕ). 65536 ≤ a) (sym refused-8) (omega arith))
+
+-- post 0 before any session: none is handed out
+abbrev quiet : List Request
+quiet = setUp 0 4 limits ∷ []
+
+unheard : (standing 0 (accepted quiet) ≡ held 4 limits []) × (opening [] ≡ none)
+unfolding standing findFrom holder otherHolds setUp01 setUpSteps limitsFit accepted sinceFinished opening
+unheard = (refl, refl)
+
+pub kept-none : partOf (run quiet) 0 controlPlace ≡ unknown
+kept-none = part-closed (run quiet) (accepted quiet) (run-kept quiet) 0 4 limits [] first (unheard .0) controlPlace (unheard .1)
+
+-- post 0 after each of the two runs
+head-in : (rs : List Request) (h : History) → standing 0 (accepted rs) ≡ held 4 limits h → postIn (run rs) 0 ≡ keptPost (held 4 limits h)
+head-in rs h own = ap (λ (ps : List Post). getD ps 0 noPost) (run-kept rs .posts) ∙ post-at (accepted rs) 0 first ∙ ap keptPost own
+
+used-in : (rs : List Request) (h : History) → standing 0 (accepted rs) ≡ held 4 limits h → isSet (postIn (run rs) 0 .head .used) ≡ true
+unfolding headAt
+used-in rs h own = ap (λ (p : Post). isSet (p .head .used)) (head-in rs h own)
+
+-- the record shows the status that is handed out
+pub status-shown : shownAt (lookUpOf (run night) 0 .shown .session) statusPlace ≡ datedIn (postIn (run night) 0 .head .time) 0 (partOf (run night) 0 statusPlace)
+status-shown = part-shown (run night) 0 statusPlace refl (used-in night heard (computed .0)) (ltb-true statusPlace keptCount refl)
+
+shut : isSet (postIn (run quiet) 0 .head .session .opened) ≡ false
+unfolding headAt session01 sinceFinished opening
+shut = ap (λ (p : Post). isSet (p .head .session .opened)) (head-in quiet [] (unheard .0))
+
+-- before any session the answer is 0, whatever is lent
+pub none-yet : (times buf : List ℕ) → partWord (run quiet) 0 controlPlace times buf ≡ 0
+none-yet times buf =
+    closed (run quiet) 0 controlPlace times buf refl (used-in quiet [] (unheard .0)) (ltb-true controlPlace keptCount refl) shut

@@ -1,0 +1,88 @@
+// The latest Power_Modules_Status and DC_Power_Control of an open session over the C interface, as `lent_latest` hands out the latest frame of a kind: its
+// time, and its bytes as they came.
+// The lent table is only read. For C callers; a caller in Rattle asks `watch::look_up`.
+ghost use mathlib.Core.Path.{_≡_};
+ghost use Prim.Native.Nat.{_<_};
+ghost use Rattle.rules.specs.After.{keptCount};
+ghost use Rattle.lent_session.specs.InSession.{partKind, openKept, partWord, partTime, partFrame};
+use lent_latest::hand_out;
+use message_types::CONTROL;
+use message_types::STATUS;
+use plain_words::refusal_word;
+use refusals::Refusal;
+use rule_asks::is_set;
+use rules::CONTROL_PLACE;
+use rules::KEPT;
+use rules::KINDS;
+use rules::STATUS_PLACE;
+use rules::Session;
+use rules::Slot;
+use watch_places::is_post;
+use watch_rules::Table;
+
+// The kind of what stands in a place of a session, and KINDS for a number that is no place.
+fn part_kind(part: usize) -> usize
+    ensures { λ r. ⌜ r ≡ partKind part ⌝ }
+{
+    if part == STATUS_PLACE {
+        return STATUS;
+    }
+    if part == CONTROL_PLACE {
+        return CONTROL;
+    }
+    KINDS
+}
+
+// 01: "With no session open all of the session's part is none."
+fn open_kept(s: Session, part: usize) -> Slot
+    requires { ⌜ part < keptCount ⌝ }
+    ensures { λ r. ⌜ r ≡ openKept s part ⌝ }
+{
+    if !is_set(s.opened) {
+        return Slot {
+            known: 0,
+            time: 0,
+            raw: 0,
+        };
+    }
+    s.kept[part]
+}
+
+pub fn part_of(t: Table, post: u32, part: u32, time: &mut [u32], buf: &mut [u8]) -> u32
+    ensures { λ r. ⌜ (r ≡ partWord t post part (now (time .entry)) (now (buf .entry)))
+        × (now (time .exit) ≡ partTime t post part (now (time .entry)) (now (buf .entry)))
+        × (now (buf .exit) ≡ partFrame t post part (now (time .entry)) (now (buf .entry))) ⌝ }
+{
+    if !is_post(post) {
+        return refusal_word(Refusal::NoSuchPost);
+    }
+    let i = post as usize;
+    let p = t.posts[i];
+    let h = p.head;
+    if !is_set(h.used as u64) {
+        return refusal_word(Refusal::NotSetUp);
+    }
+    let j = part as usize;
+    if KEPT <= j {
+        return refusal_word(Refusal::UnknownIdentifier);
+    }
+    let s = h.session;
+    let l = open_kept(s, j);
+    let k = part_kind(j);
+    hand_out(l, k, time, buf)
+}
+
+#[no_mangle]
+pub extern "C" fn rokemaipu_in_session(
+    t: &Table,
+    post: u32,
+    part: u32,
+    time: &mut [u32],
+    buf: &mut [u8],
+) -> u32
+    ensures { λ r. ⌜ (r ≡ partWord (now (t .entry)) post part (now (time .entry)) (now (buf .entry)))
+        × (now (time .exit) ≡ partTime (now (t .entry)) post part (now (time .entry)) (now (buf .entry)))
+        × (now (buf .exit) ≡ partFrame (now (t .entry)) post part (now (time .entry)) (now (buf .entry))) ⌝ }
+{
+    part_of(*t, post, part, time, buf)
+}

@@ -1,0 +1,117 @@
+-- What reading, changing and writing hand on is small: a kind is one of the pages', a message has at most 8 bytes, and the start that refusal 5 carries is that
+-- of a row, one of a payload's 64 bits. A bare `NoLabel s` is a value for every s; these laws say which are ever answered.
+-- Assumes nothing.
+use mathlib.Core.Path.{_≡_, refl, sym}
+use mathlib.Core.Bool.{Bool, true, false, cond, _||_, true≢false}
+use mathlib.Core.Logic.{_⊎_, inl, inr}
+use mathlib.Core.List.{List, [], _∷_}
+use Prim.Native.Nat.{ℕ, suc, _*_, _<_, _≤_, min}
+use native.Mathlib.Omega.{arith}
+use lib.Dec.{eqb, ltb, leb}
+use lib.IntN.{ℤ}
+use lib.ListN.{length, getD}
+use Rattle.refusals.specs.declared.Refusal.{Refusal}
+use Rattle.refusals.specs.declared.Refusal.the-variants.{NoLabel, UncoveredBit}
+use Rattle.refusals.specs.Refusals.{startOf}
+use Rattle.signal.specs.Raw.{fitsIn, bitsIn}
+use Rattle.signal.proofs.Complement.{half-of}
+use Rattle.payload.specs.Payload.{numberOf}
+use Rattle.page_rows.specs.declared.Row.{Row}
+use Rattle.page_rows.specs.declared.Found.{Found}
+use Rattle.page_rows.specs.declared.Found.the-variants.{At, Nothing}
+use Rattle.page_rows.specs.Messages.{kindCount}
+use Rattle.page_rows.specs.Table.{rows, noRow, rowsOf, hasId, isSignal, firstAt, takes, lengthOf}
+use Rattle.page_rows.proofs.Rules.{Ordered, ordered, row-fine, short-length}
+use Rattle.page_rows.proofs.Firsts.{found-in, id-kind}
+use Rattle.page_rows.proofs.Heads.{no-kind}
+use Rattle.page_read.specs.declared.Judged.{Judged}
+use Rattle.page_read.specs.declared.Judged.the-variants.{Frame, Refused}
+use Rattle.page_read.specs.Judge.{unlabelled, offends, offender, strayBelow, judgedNumber, judgedAt, judgeOf}
+use Rattle.page_write.specs.declared.Written.{Written}
+use Rattle.page_write.specs.declared.Written.the-variants as written
+use Rattle.page_write.specs.Raws.{canWrite, writeRawsOf}
+use Rattle.page_change.specs.Change.{changedAt, changedIn, changeOf}
+
+either : {A : Type 0} (P : A → Type 0) (b : Bool) {x y : A} → P x → P y → P (cond b x y)
+either P true p q = p
+either P false p q = q
+
+abbrev pub Small : Refusal → Type 0
+Small w = startOf w < 64
+
+abbrev pub SmallJudged : Judged → Type 0
+SmallJudged (Frame k n) = k < kindCount
+SmallJudged (Refused w) = Small w
+
+abbrev pub SmallWritten : Written → Type 0
+SmallWritten (written.Wrote i n) = n ≤ 8
+SmallWritten (written.Refused w) = Small w
+
+-- ---- reading
+
+-- a row that has an identifier is of one of the pages' kinds
+kind-small : (m : ℕ) (x : Bool) (i : ℕ) → firstAt (hasId m x) 0 rows ≡ At i → getD rows i noRow .kind < kindCount
+kind-small m x i f = go (half-of kindCount (getD rows i noRow .kind))
+  where
+    go : (getD rows i noRow .kind < kindCount) ⊎ (kindCount ≤ getD rows i noRow .kind) → getD rows i noRow .kind < kindCount
+    go (inl l) = l
+    go (inr l) =
+        let a = id-kind m x i f in
+        let b = no-kind (getD rows i noRow .kind) l in
+        absurd (let z : _≡_ {A = ℕ} 0 1 = cc in omega arith)
+
+-- where a row offends, the least start of those that do is below 64
+offender-small : (b p n : ℕ) (rs : List Row) → Ordered b p rs → unlabelled n rs ≡ true → offender n rs < 64
+unfolding offender unlabelled
+offender-small b p n [] o u = absurd (true≢false (sym u))
+offender-small b p n (r ∷ rs) o u = go (offends n r) u (λ v. offender-small b (suc (r .start)) n rs (o .3) v)
+  where
+    go : (x : Bool) → x || unlabelled n rs ≡ true → (unlabelled n rs ≡ true → offender n rs < 64)
+        → cond x (min (r .start) (offender n rs)) (offender n rs) < 64
+    go true e f = omega (arith, o .2 .3)
+    go false e f = f e
+
+number-judged : (k bits n : ℕ) → k < kindCount → SmallJudged (judgedNumber k bits n)
+unfolding judgedNumber
+number-judged k bits n l = go (unlabelled n (rowsOf k)) refl
+  where
+    go : (u : Bool) → unlabelled n (rowsOf k) ≡ u
+        → SmallJudged (cond u (Refused (NoLabel (offender n (rowsOf k)))) (cond (strayBelow bits n (rowsOf k)) (Refused UncoveredBit) (Frame k n)))
+    go true e = offender-small (8 * lengthOf k) 0 n (rowsOf k) (ordered k) e
+    go false e = either SmallJudged (strayBelow bits n (rowsOf k)) (omega arith) l
+
+pub judge-small : (m : ℕ) (x : Bool) (bs : List ℕ) → SmallJudged (judgeOf m x bs)
+unfolding judgeOf
+judge-small m x bs = go (firstAt (hasId m x) 0 rows) refl
+  where
+    go : (f : Found) → firstAt (hasId m x) 0 rows ≡ f → SmallJudged (judgedAt bs f)
+    go (At i) e =
+        let r = getD rows i noRow in
+        either SmallJudged (eqb (length bs) (r .bytes)) (number-judged (r .kind) (8 * length bs) (numberOf (r .big) bs) (kind-small m x i e))
+        (either Small (ltb (length bs) (r .bytes)) (omega arith) (omega arith))
+    go Nothing e = omega arith
+
+-- ---- changing: the frame's own refusals, then 13, 7, and 5 with the start of the changed signal
+
+pub change-small : (m : ℕ) (x : Bool) (bs : List ℕ) (s : ℕ) (z : ℤ) → SmallJudged (changeOf m x bs s z)
+unfolding changeOf
+change-small m x bs s z = go (judgeOf m x bs) (judge-small m x bs)
+  where
+    at : (k n : ℕ) → k < kindCount → (f : Found) → firstAt (isSignal k s) 0 rows ≡ f → SmallJudged (changedAt k n z f)
+    at k n l (At i) e =
+        let r = getD rows i noRow in
+        either SmallJudged (fitsIn (r .signed) (r .width) z)
+        (either SmallJudged (takes (r .labels) (bitsIn (r .signed) (r .width) z)) l (row-fine i (found-in (isSignal k s) i e .0) .3))
+        (omega arith)
+    at k n l Nothing e = omega arith
+
+    go : (j : Judged) → SmallJudged j → SmallJudged (changedIn s z j)
+    go (Frame k n) l = at k n l (firstAt (isSignal k s) 0 rows) refl
+    go (Refused w) l = l
+
+-- ---- writing
+
+pub write-small : (k : ℕ) (zs : List ℤ) (buf : List ℕ) → SmallWritten (writeRawsOf k zs buf)
+unfolding writeRawsOf
+write-small k zs buf =
+    either SmallWritten (canWrite k zs) (either SmallWritten (leb (lengthOf k) (length buf)) (short-length k) (omega arith)) (omega arith)

@@ -1,0 +1,50 @@
+-- The theorems of WrittenBits on a frame of each byte order: New_Charge_Session with protocol 2 and plug 1, written into one byte more than it has, and
+-- PT1000State with -10.0 °C in the first probe, FE 70.
+use mathlib.Core.Path.{_≡_, refl}
+use mathlib.Core.Bool.{true}
+use mathlib.Core.List.{List, [], _∷_}
+use Prim.Native.Nat.{ℕ}
+use native.Mathlib.Omega.{arith}
+use lib.Dec.{ltb}
+use lib.IntN.{ℤ, pos, negsuc}
+use lib.ListN.{length}
+use borrow.Author.Tests.{ltb-true}
+use Rattle.signal.specs.Signal.{getBits}
+use Rattle.signal.specs.Twos.{ofSigned}
+use Rattle.payload.specs.Payload.{bitAt}
+use Rattle.payload.specs.Order.{walk}
+use Rattle.page_rows.specs.Table.{rows, ofKind, rowsOf, identifierOf, lengthOf}
+use Rattle.page_write.specs.declared.Written.the-variants.{Wrote}
+use Rattle.page_write.specs.Raws.{allTake, writeRawsOf, bufferAfter}
+use Rattle.page_write.proofs.WrittenBits.{raw-bit, raw-behind}
+
+abbrev session : List ℤ
+session = pos 2 ∷ pos 1 ∷ []
+
+abbrev longer : List ℕ
+longer = 0 ∷ 0 ∷ 1 ∷ []
+
+abbrev probes : List ℤ
+probes = negsuc 99 ∷ pos 0 ∷ pos 0 ∷ pos 0 ∷ pos 0 ∷ pos 0 ∷ pos 0 ∷ pos 0 ∷ pos 0 ∷ pos 0 ∷ pos 0 ∷ pos 0 ∷ []
+
+abbrev zeros : List ℕ
+zeros = 0 ∷ 0 ∷ 0 ∷ 0 ∷ 0 ∷ 0 ∷ 0 ∷ 0 ∷ []
+
+written : (writeRawsOf 3 session longer ≡ Wrote 0x6b001 2) × (writeRawsOf 11 probes zeros ≡ Wrote 8 8) × (ltb 1 (length (rowsOf 3)) ≡ true) × (ltb 0 (length (rowsOf 11)) ≡ true)
+unfolding rows ofKind identifierOf lengthOf allTake ofSigned writeRawsOf
+written = (refl, refl, refl, refl)
+
+-- the plug's lowest bit, bit 8 of the frame
+pub plug-bit : bitAt (bufferAfter 3 session longer) 8 ≡ 1
+unfolding rows ofKind getBits
+plug-bit = raw-bit 3 session longer 0x6b001 2 (written .0) 1 (ltb-true 1 (length (rowsOf 3)) (written .2)) 0 (omega arith)
+
+-- the byte behind the message
+pub third-byte : bitAt (bufferAfter 3 session longer) 16 ≡ bitAt longer 16
+unfolding rows ofKind lengthOf
+third-byte = raw-behind 3 session longer 0x6b001 2 (written .0) 16 (omega arith)
+
+-- the highest bit of the first probe's temperature, bit 7 of the frame, is its sign
+pub probe-sign : bitAt (bufferAfter 11 probes zeros) 7 ≡ 1
+unfolding rows ofKind getBits ofSigned walk
+probe-sign = raw-bit 11 probes zeros 8 8 (written .1) 0 (ltb-true 0 (length (rowsOf 11)) (written .3)) 13 (omega arith)

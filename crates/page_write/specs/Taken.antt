@@ -1,0 +1,19 @@
+-- What an accepted frame passed.
+use Prim.Native.Nat.{ℕ, _*_, _≤_}
+use mathlib.Core.Path.{_≡_}
+use mathlib.Core.Bool.{Bool, false}
+use mathlib.Core.List.{List}
+use lib.ListN.{length}
+use Rattle.payload.specs.Payload.{numberOf}
+use Rattle.page_rows.specs.Table.{rowsOf, identifierOf, extendedOf, lengthOf, bigOf}
+use Rattle.page_read.specs.Judge.{unlabelled, strayBelow}
+
+-- it has the identifier, its form and the length of its kind, a label where there are labels, and no stray bit
+pub record Taken (m : ℕ) (extended : Bool) (bs : List ℕ) (k n : ℕ) : Type 0 where
+  pub identifier : identifierOf k ≡ m
+  pub form : extendedOf k ≡ extended
+  pub sized : length bs ≡ lengthOf k
+  pub number : n ≡ numberOf (bigOf k) bs
+  pub some : 1 ≤ length (rowsOf k)
+  pub labelled : unlabelled n (rowsOf k) ≡ false
+  pub clean : strayBelow (8 * length bs) n (rowsOf k) ≡ false

@@ -1,0 +1,2 @@
+pub mod FrameWords
+pub mod Plug

@@ -1,0 +1,30 @@
+-- `post_record::of_post` meets its contract, by what its parts ensure.
+use borrow.Author.Needs.{needs}
+use Rattle.rules.specs.After.{postRecord}
+use Rattle.rules.proofs.Right.{record-both}
+use Rattle.post_record.proofs.of_post.Statement.{statement}
+use Rattle.post_record.proofs.of_post.Tie as tie
+
+messages-of-requires : tie.Need-messages-of-requires
+messages-of-requires c κs = search needs
+
+limits-in-requires : tie.Need-limits-in-requires
+limits-in-requires c κs = search needs
+
+part-requires : tie.Need-part-requires
+part-requires c κs = search needs
+
+last-time-requires : tie.Need-last-time-requires
+last-time-requires c κs = search needs
+
+returns : tie.Need-returns
+unfolding postRecord
+returns c =
+    let l = c .before .before .before in
+    let m = l .before .before in
+    record-both (m .before .before .before .args .p)
+    (rw (c .last-time .ensures, c .before .part .ensures, l .limits-in .ensures, m .messages-of .ensures))
+
+pub of-post-spec : {M : Type 1} → statement M
+of-post-spec =
+    tie.close (tie.spec messages-of-requires limits-in-requires part-requires last-time-requires returns)

@@ -1,0 +1,87 @@
+-- 01, "Slips a fitter would make", and both sides of the edges that they miss: what each event in turn finds, by looking back and by the inner step.
+-- One table under one statement, closed by computing.
+use Prim.Native.Nat.{ℕ, _+_}
+use mathlib.Core.Path.{_≡_, refl}
+use mathlib.Core.List.{List, [], _∷_}
+use Rattle.signal.specs.Signal.{getBits}
+use Rattle.signal.specs.Twos.{toSigned}
+use Rattle.page_rows.specs.Table.{rows, ofKind, firstAt}
+use Rattle.page_write.specs.Raws.{wholesOf, pad, rawsOf}
+use Rattle.message_types.specs.KindNumbers.{safetyControlKind, safetyStateKind, probesKind}
+use Rattle.message_parts.specs.Parts.{statusKind, parametersKind, controllerKind, sessionKind, controlKind, finishedKind, statusIn, parametersIn, sessionIn, controlIn}
+use Rattle.rule_limits.specs.declared.PlainLimits.{PlainLimits}
+use Rattle.rule_asks.specs.Judgements.{lowersBadly, outside, leaking, badInsulation, differs}
+use Rattle.rules.specs.declared.Head.{Head}
+use Rattle.rules.specs.declared.AfterEvent.{AfterEvent}
+use Rattle.rules.specs.History.{Event, frame, tick, History, sinceFinished, opening, inSession}
+use Rattle.rules.specs.Rules.{sessionStatus, sessionControl, limitOf, f1, f2, f3, f4, f5, f6, f7, f8, f9, f10, f11, findings01}
+use Rattle.rules.specs.After.{sessionAfter, agedTo, withFrame, silentIn, lateAfter, anyFindings, unreadyIn, carryingIn, controlFindings, statusFindings, openingFindings, finishedFindings, messageFindings, afterTick, afterFrame, newHead}
+
+-- ---- the findings of events in order of arrival
+
+-- each over the history before it
+abbrev pub lookedBack : PlainLimits → History → List Event → List ℕ
+lookedBack lim h [] = []
+lookedBack lim h (e ∷ later) = findings01 lim h e ∷ lookedBack lim (e ∷ h) later
+
+abbrev pub afterBy : Head → Event → AfterEvent
+afterBy p (frame t k raw) = afterFrame p t k raw
+afterBy p (tick t) = afterTick p t
+
+-- each of the head that the events before it left
+abbrev pub inTurn : Head → List Event → List ℕ
+inTurn p [] = []
+inTurn p (e ∷ later) = afterBy p e .findings ∷ inTurn (afterBy p e .head) later
+
+-- ---- a post with default voltage 500.0 V, charge 100.0 A, discharge 50.0 A, W 500 ms and a measuring sensor
+
+abbrev limits : PlainLimits
+limits = record { voltage = 5000; charge = 1000; discharge = 500; silence = 500; sensor = 0 }
+
+-- Power_Modules_Status Allowed with no current at 0 V and 510 kOhm; New_Charge_Session 02 01; Charge_Session_Finished; Advantics_Controller_Status Charging
+abbrev status : ℕ → Event
+status t = frame t statusKind 0xFF01414100000000
+
+abbrev session : ℕ → Event
+session t = frame t sessionKind 0x0102
+
+abbrev finished : ℕ → Event
+finished t = frame t finishedKind 0
+
+abbrev controller : ℕ → Event
+controller t = frame t controllerKind 7
+
+-- DC_Power_Control: standby with a target; closed contactors and power transfer at 500.0 V. DC_Power_Parameters by Maximum_Voltage
+abbrev standby : ℕ → ℕ → Event
+standby t target = frame t controlKind (0x01000000000000 + target)
+
+abbrev transfer : ℕ → Event
+transfer t = frame t controlKind 0x48000000001388
+
+abbrev parameters : ℕ → ℕ → Event
+parameters t most = frame t parametersKind most
+
+abbrev pub table : List (List Event × List ℕ)
+table =
+    -- "Starting the F1 count again at each repeated New_Charge_Session"
+    (session 0 ∷ session 400 ∷ tick 500 ∷ tick 501 ∷ [], 0 ∷ 0 ∷ 0 ∷ 1 ∷ [])
+    -- "Keeping Allowed from the previous session"
+    ∷ (session 0 ∷ status 1 ∷ transfer 2 ∷ finished 3 ∷ session 4 ∷ transfer 5 ∷ [], 0 ∷ 0 ∷ 0 ∷ 0 ∷ 0 ∷ 16 ∷ [])
+    -- "a received 0 as a limit of zero"
+    ∷ (parameters 0 0 ∷ standby 1 5000 ∷ standby 2 5001 ∷ [], 0 ∷ 0 ∷ 64 ∷ [])
+    -- "DC_Power_Parameters' number without the default as a cap"
+    ∷ (parameters 0 6000 ∷ standby 1 5000 ∷ standby 2 5001 ∷ [], 0 ∷ 0 ∷ 64 ∷ [])
+    ∷ (parameters 0 4000 ∷ standby 1 4000 ∷ standby 2 4001 ∷ [], 0 ∷ 0 ∷ 64 ∷ [])
+    -- F2 with no session open, from 201 ms on, and then no longer
+    ∷ (controller 1000 ∷ tick 1200 ∷ tick 1201 ∷ controller 1201 ∷ tick 1202 ∷ [], 0 ∷ 0 ∷ 2 ∷ 2 ∷ 0 ∷ [])
+    -- with no session open F3 and F4 of a DC_Power_Control, and nothing of the same bits in a frame of the safety controller
+    ∷ (transfer 0 ∷ frame 1 safetyControlKind 0x48000000001388 ∷ frame 2 safetyStateKind 0x48000000001388 ∷ frame 3 probesKind 0x48000000001388 ∷ [], 12 ∷ 0 ∷ 0 ∷ 0 ∷ [])
+    ∷ []
+
+abbrev pub All : List (List Event × List ℕ) → Type 0
+All [] = Unit {0}
+All (x ∷ xs) = ((lookedBack limits [] (x .0) ≡ x .1) × (inTurn (newHead 1 4 limits) (x .0) ≡ x .1)) × All xs
+
+pub both-sides : All table
+unfolding sinceFinished opening inSession lowersBadly outside leaking badInsulation differs sessionStatus sessionControl limitOf f1 f2 f3 f4 f5 f6 f7 f8 f9 f10 f11 findings01 sessionAfter agedTo withFrame silentIn lateAfter anyFindings unreadyIn carryingIn controlFindings statusFindings openingFindings finishedFindings messageFindings afterTick afterFrame statusIn parametersIn sessionIn controlIn rows ofKind firstAt wholesOf pad rawsOf getBits toSigned
+both-sides = ((refl, refl), ((refl, refl), ((refl, refl), ((refl, refl), ((refl, refl), ((refl, refl), ((refl, refl), tt)))))))

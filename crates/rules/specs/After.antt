@@ -1,0 +1,229 @@
+-- Inner step: a post's head after one event more, and the event's findings, as the code takes them.
+-- The first promise of an operation, by_record, is in these words; the second, by_history, is in those of looking back:
+-- `frame-look` and `tick-look` make the two one.
+use Prim.Native.Nat.{ℕ, _+_, max}
+use mathlib.Core.List.{List, [], map}
+use mathlib.Core.Bool.{Bool, true, cond, not, _&&_}
+use lib.Dec.{ltb, eqb}
+use lib.ListN.{getD, set, replicate}
+use Rattle.message_types.specs.declared.DcPowerParameters.{DcPowerParameters}
+use Rattle.message_types.specs.declared.DcPowerControl.{DcPowerControl}
+use Rattle.message_types.specs.declared.PowerModulesStatus.{PowerModulesStatus}
+use Rattle.message_types.specs.declared.NewChargeSession.{NewChargeSession}
+use Rattle.message_parts.specs.Parts.{statusKind, parametersKind, controllerKind, sessionKind, controlKind, finishedKind, statusIn, parametersIn, sessionIn, controlIn}
+use Rattle.message_build.specs.Built.{messageOf}
+use Rattle.rule_limits.specs.declared.PlainLimits.{PlainLimits}
+use Rattle.rule_limits.specs.Limits.{capped}
+use Rattle.rule_limits.specs.Sensor.{sensorOf, limitsOf}
+use Rattle.rule_asks.specs.Judgements.{isAllowed, isClose, isPowered, isCarrying, isOff, lowersBadly, outside, badInsulation, differs, bit}
+use Rattle.rules.specs.declared.Slot.{Slot}
+use Rattle.rules.specs.declared.Session.{Session}
+use Rattle.rules.specs.declared.Head.{Head}
+use Rattle.rules.specs.declared.Post.{Post}
+use Rattle.rules.specs.declared.AfterEvent.{AfterEvent}
+use Rattle.rules.specs.declared.LastTime.{LastTime}
+use Rattle.rules.specs.declared.LastTime.the-variants as last
+use Rattle.rules.specs.declared.Dated.{Dated}
+use Rattle.rules.specs.declared.Dated.the-variants as dated
+use Rattle.rules.specs.declared.SessionPart.{SessionPart}
+use Rattle.rules.specs.declared.SessionPart.the-variants as part
+use Rattle.rules.specs.declared.Record.{Record}
+use Rattle.rules.specs.History.{elapsed, earlier, receivedOf, countFrom}
+use Rattle.rules.specs.Record.{kindCount, isSet, unknown, slotAt, closedSession}
+
+-- ---- the session's part after a frame
+
+-- the places of what a session keeps
+abbrev pub statusPlace : ℕ
+statusPlace = 0
+
+abbrev pub controlPlace : ℕ
+controlPlace = 1
+
+abbrev pub keptCount : ℕ
+keptCount = 2
+
+abbrev pub keptIn : Session → ℕ → Slot
+keptIn s j = getD (s .kept) j unknown
+
+abbrev pub keptPut : Session → ℕ → Slot → Session
+keptPut s j n = cond (isSet (s .opened)) (record { opened = s .opened; since = s .since; first = s .first; kept = set (s .kept) j n }) s
+
+abbrev pub openedBy : Session → Slot → Session
+openedBy s n = cond (isSet (s .opened)) s (record { opened = 1; since = n .time; first = n .raw; kept = closedSession .kept })
+
+unfoldable pub sessionAfter : Session → ℕ → Slot → Session
+sessionAfter s k n =
+    cond (eqb k statusKind) (keptPut s statusPlace n)
+    (cond (eqb k sessionKind) (openedBy s n)
+    (cond (eqb k controlKind) (keptPut s controlPlace n)
+    (cond (eqb k finishedKind) closedSession s)))
+
+-- ---- the head
+
+-- where an event that is received at t stands
+abbrev pub stampIn : Head → ℕ → ℕ
+stampIn p t = t
+
+unfoldable pub agedTo : Head → ℕ → Head
+agedTo p t =
+    record {
+      used = p .used;
+      channel = p .channel;
+      limits = p .limits;
+      heard = 1;
+      time = t;
+      controller = p .controller;
+      parameters = p .parameters;
+      session = p .session;
+    }
+
+abbrev pub putAt : ℕ → ℕ → Slot → Slot → Slot
+putAt j k n l = cond (eqb k j) n l
+
+unfoldable pub withFrame : Head → ℕ → Slot → Head
+withFrame p k n =
+    record {
+      used = p .used;
+      channel = p .channel;
+      limits = p .limits;
+      heard = p .heard;
+      time = p .time;
+      controller = putAt controllerKind k n (p .controller);
+      parameters = putAt parametersKind k n (p .parameters);
+      session = sessionAfter (p .session) k n;
+    }
+
+abbrev pub isEarly : Head → ℕ → Bool
+isEarly p t = isSet (p .heard) && earlier t (p .time)
+
+-- ---- findings of a head that was aged to the event's time
+
+abbrev pub laterOf : ℕ → Slot → ℕ
+laterOf since st = cond (isSet (st .known)) (max since (st .time)) since
+
+unfoldable pub silentIn : Session → ℕ → ℕ → Bool
+silentIn s w now = isSet (s .opened) && ltb w (elapsed now (laterOf (s .since) (keptIn s statusPlace)))
+
+unfoldable pub lateAfter : Slot → ℕ → Bool
+lateAfter l now = isSet (l .known) && ltb 200 (elapsed now (l .time))
+
+unfoldable pub anyFindings : Head → ℕ
+anyFindings p = bit (silentIn (p .session) (p .limits .silence) (p .time)) 1 + bit (lateAfter (p .controller) (p .time)) 2
+
+abbrev pub limitIn : ℕ → (DcPowerParameters → ℕ) → Slot → ℕ
+limitIn most number l = cond (isSet (l .known)) (capped most (number (parametersIn (l .raw)))) most
+
+abbrev pub unreadyAfter : Slot → Bool
+unreadyAfter st = cond (isSet (st .known)) (not (isAllowed (statusIn (st .raw) .enable))) true
+
+unfoldable pub unreadyIn : Session → Bool
+unreadyIn s = isSet (s .opened) && unreadyAfter (keptIn s statusPlace)
+
+abbrev pub carryingAfter : Slot → Bool
+carryingAfter l = isSet (l .known) && isCarrying (controlIn (l .raw) .function)
+
+unfoldable pub carryingIn : Session → Bool
+carryingIn s = isSet (s .opened) && carryingAfter (keptIn s controlPlace)
+
+unfoldable pub controlFindings : Head → DcPowerControl → ℕ
+controlFindings p d =
+    bit (isClose (d .contactors) && not (isSet (p .session .opened))) 4
+    + bit (isPowered (d .function) && not (isSet (p .session .opened))) 8
+    + bit (isPowered (d .function) && unreadyIn (p .session)) 16
+    + bit (lowersBadly d) 32
+    + bit (not (isOff (d .function)) && ltb (limitIn (p .limits .voltage) (λ q. q .voltage) (p .parameters)) (d .target)) 64
+
+unfoldable pub statusFindings : Head → PowerModulesStatus → ℕ
+statusFindings p s =
+    bit (isSet (p .session .opened) && outside (s .current) (limitIn (p .limits .charge) (λ q. q .charge) (p .parameters)) (limitIn (p .limits .discharge) (λ q. q .discharge) (p .parameters))) 128
+    + bit (carryingIn (p .session) && badInsulation (sensorOf (p .limits .sensor)) s) 256
+
+unfoldable pub openingFindings : Session → NewChargeSession → ℕ
+openingFindings s n = bit (isSet (s .opened) && differs (sessionIn (s .first)) n) 512
+
+unfoldable pub finishedFindings : Session → ℕ
+finishedFindings s = bit (not (isSet (s .opened))) 1024
+
+unfoldable pub messageFindings : Head → ℕ → ℕ → ℕ
+messageFindings p k raw =
+    cond (eqb k statusKind) (statusFindings p (statusIn raw))
+    (cond (eqb k sessionKind) (openingFindings (p .session) (sessionIn raw))
+    (cond (eqb k controlKind) (controlFindings p (controlIn raw))
+    (cond (eqb k finishedKind) (finishedFindings (p .session)) 0)))
+
+-- ---- the steps
+
+unfoldable pub afterTick : Head → ℕ → AfterEvent
+afterTick p t =
+    record { head = agedTo p (stampIn p t); slot = unknown; at = kindCount; findings = anyFindings (agedTo p (stampIn p t)) }
+
+unfoldable pub afterFrame : Head → ℕ → ℕ → ℕ → AfterEvent
+afterFrame p t k raw =
+    record {
+      head = withFrame (agedTo p (stampIn p t)) k (slotAt (stampIn p t) raw);
+      slot = slotAt (stampIn p t) raw;
+      at = k;
+      findings = anyFindings (agedTo p (stampIn p t)) + messageFindings (agedTo p (stampIn p t)) k raw;
+    }
+
+-- ---- the post with a head, and with a frame of a kind; a number that is no kind leaves the latest frames as they were
+
+abbrev pub keepIn : List Slot → ℕ → Slot → List Slot
+keepIn l k n = cond (ltb k kindCount) (set l k n) l
+
+abbrev pub stored : Post → Head → ℕ → Slot → Post
+stored p d k n = record { head = d; latest = keepIn (p .latest) k n }
+
+-- ---- posts that nothing was heard of
+
+abbrev pub noLimits : PlainLimits
+noLimits = record { voltage = 0; charge = 0; discharge = 0; silence = 0; sensor = 0 }
+
+abbrev pub newHead : ℕ → ℕ → PlainLimits → Head
+newHead used c lim =
+    record { used = used; channel = c; limits = lim; heard = 0; time = 0; controller = unknown; parameters = unknown; session = closedSession }
+
+abbrev pub newPost : ℕ → ℕ → PlainLimits → Post
+newPost used c lim = record { head = newHead used c lim; latest = replicate kindCount unknown }
+
+-- a post that is not set up
+abbrev pub freePost : Post
+freePost = newPost 0 0 noLimits
+
+abbrev pub freshPost : ℕ → PlainLimits → Post
+freshPost c lim = newPost 1 c lim
+
+-- ---- the record that a post hands out
+
+abbrev pub latestIn : Post → ℕ → Slot
+latestIn p k = getD (p .latest) k unknown
+
+abbrev pub datedIn : ℕ → ℕ → Slot → Dated
+datedIn now k l = cond (isSet (l .known)) (dated.At (receivedOf (l .time)) (messageOf k (l .raw))) dated.Nothing
+
+abbrev pub partIn : ℕ → Session → SessionPart
+partIn now s =
+    cond (isSet (s .opened))
+    (part.Opened
+    (record {
+      since = receivedOf (s .since);
+      protocol = sessionIn (s .first) .protocol;
+      plug = sessionIn (s .first) .plug;
+      status = datedIn now statusKind (keptIn s statusPlace);
+      control = datedIn now controlKind (keptIn s controlPlace);
+    }))
+    part.Closed
+
+abbrev pub lastIn : Head → LastTime
+lastIn p = cond (isSet (p .heard)) (last.At (receivedOf (p .time))) last.Never
+
+unfoldable pub postRecord : Post → Record
+postRecord p =
+    record {
+      channel = p .head .channel;
+      limits = limitsOf (p .head .limits);
+      last = lastIn (p .head);
+      latest = map (λ k. record { message = datedIn (p .head .time) k (latestIn p k) }) (countFrom 0 kindCount);
+      session = partIn (p .head .time) (p .head .session);
+    }

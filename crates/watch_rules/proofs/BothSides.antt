@@ -1,0 +1,36 @@
+-- The readings from both sides of each edge, of the operations that `by_record` promises, one after the other from the empty table:
+-- the very cases that hold by looking back (specs/Readings.antt), closed by computing.
+use Prim.Native.Nat.{ℕ}
+use mathlib.Core.Path.{_≡_, refl}
+use mathlib.Core.List.{List, [], _∷_}
+use lib.ListN.{getD}
+use Rattle.signal.specs.Signal.{getBits}
+use Rattle.signal.specs.Twos.{toSigned}
+use Rattle.payload.specs.Payload.{leNumber, beNumber}
+use Rattle.page_rows.specs.Table.{rows, ofKind, firstAt, covered}
+use Rattle.page_read.specs.Judge.{unlabelled, offender, strayBelow, judgedNumber, judgeOf}
+use Rattle.page_write.specs.Raws.{wholesOf, pad, rawsOf}
+use Rattle.message_parts.specs.Parts.{statusIn, parametersIn, sessionIn, controlIn}
+use Rattle.message_build.specs.Built.{messageOf, builtOf}
+use Rattle.rule_limits.specs.Limits.{limitsFit}
+use Rattle.rule_asks.specs.Judgements.{lowersBadly, outside, leaking, badInsulation, differs}
+use Rattle.rules.specs.declared.Dated.the-variants as dated
+use Rattle.rules.specs.After.{sessionAfter, agedTo, withFrame, silentIn, lateAfter, anyFindings, unreadyIn, carryingIn, controlFindings, statusFindings, openingFindings, finishedFindings, messageFindings, afterTick, afterFrame, postRecord}
+use Rattle.watch_rules.specs.Table.{placeOf, heardOf, feedAt, feedOf, emptyTable, isOther, setUpOf, releaseOf, lookUpOf}
+use Rattle.watch_rules.specs.Run.{runFrom, repliesFrom}
+use Rattle.watch_rules.specs.Readings.{Case, codec, answers, shows, senses, keeps, e8to13}
+
+abbrev pub Runs : Case → Type 0
+Runs (codec c) = Unit {0}
+Runs (answers asked replies) = repliesFrom emptyTable asked ≡ replies
+Runs (shows asked post shown) = lookUpOf (runFrom emptyTable asked) post ≡ shown
+Runs (senses asked post sensor) = lookUpOf (runFrom emptyTable asked) post .shown .limits .sensor ≡ sensor
+Runs (keeps asked post kind latest) = getD (lookUpOf (runFrom emptyTable asked) post .shown .latest) kind (record { message = dated.Nothing }) .message ≡ latest
+
+abbrev pub AllRun : List Case → Type 0
+AllRun [] = Unit {0}
+AllRun (c ∷ cs) = Runs c × AllRun cs
+
+pub both-sides : AllRun e8to13
+unfolding placeOf heardOf feedAt feedOf isOther setUpOf releaseOf lookUpOf postRecord limitsFit sessionAfter agedTo withFrame silentIn lateAfter anyFindings unreadyIn carryingIn controlFindings statusFindings openingFindings finishedFindings messageFindings afterTick afterFrame lowersBadly outside leaking badInsulation differs messageOf builtOf statusIn parametersIn sessionIn controlIn rows ofKind firstAt covered unlabelled offender strayBelow judgedNumber judgeOf wholesOf pad rawsOf getBits leNumber beNumber toSigned
+both-sides = (refl, (refl, (refl, (refl, (refl, (refl, (refl, (refl, (refl, (refl, (refl, (refl, (refl, (refl, (refl, (refl, (refl, (refl, (refl, (refl, (refl, (refl, (refl, (refl, (refl, (refl, (refl, (refl, tt))))))))))))))))))))))))))))
