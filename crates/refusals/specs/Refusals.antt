@@ -1,7 +1,7 @@
 -- 01, "Numbers given back": the number of each refusal, and the start bit that 5 carries.
 use Prim.Native.Nat.{ℕ}
 use Rattle.refusals.specs.declared.Refusal.{Refusal}
-use Rattle.refusals.specs.declared.Refusal.the-variants.{ChannelFree, Earlier, UnknownIdentifier, TooShort, NoLabel, UncoveredBit, NoRawNumber, ShortBuffer, NoSuchPost, NoSuchChannel, ChannelTaken, LimitOutside, NoSignal, NotSetUp, TooLong, IllNumber, LogChannel, LogStandard, LogExtended, LogLength, LogTick, BatchBytes, BatchRecord, BatchAnswers}
+use Rattle.refusals.specs.declared.Refusal.the-variants.{ChannelFree, Earlier, UnknownIdentifier, TooShort, NoLabel, UncoveredBit, NoRawNumber, ShortBuffer, NoSuchPost, NoSuchChannel, ChannelTaken, LimitOutside, NoSignal, NotSetUp, TooLong, IllNumber, LogChannel, LogStandard, LogExtended, LogLength, LogTick, BatchBytes, BatchRecord, BatchAnswers, CountFull, CompareLog, CompareRecords, CompareRoom}
 
 abbrev pub numberOf : Refusal → ℕ
 -- channel above 31, or held by no post
@@ -53,6 +53,12 @@ numberOf BatchBytes = 22
 numberOf BatchRecord = 23
 -- an answers slice shorter than the records
 numberOf BatchAnswers = 24
+-- ---- 02, Req 08: "A frame or tick that would take its post's count past the largest is refused with a new number"
+numberOf CountFull = 25
+-- ---- 02, Req 10, a comparison: "new numbers refuse a malformed or cut log, .. then more records, then lent lists of under 512 places"
+numberOf CompareLog = 26
+numberOf CompareRecords = 27
+numberOf CompareRoom = 28
 
 -- 02, Req 02: 5 "is to carry the start bit of the first offending signal"; no other refusal has one
 abbrev pub startOf : Refusal → ℕ
@@ -80,3 +86,7 @@ startOf LogTick = 0
 startOf BatchBytes = 0
 startOf BatchRecord = 0
 startOf BatchAnswers = 0
+startOf CountFull = 0
+startOf CompareLog = 0
+startOf CompareRecords = 0
+startOf CompareRoom = 0

@@ -4,7 +4,7 @@ ghost use mathlib.Core.Path.{_≡_};
 ghost use Rattle.refusals.specs.Refusals.{numberOf, startOf};
 
 // 01, "Numbers given back": a case for each number, in their order (`numberOf` in specs/). Those of 02 follow: a length above the table's
-// (Req 02), the night log's (Req 01) and a batch's (Req 07). 5 carries the start bit of the signal (02, Req 02).
+// (Req 02), the night log's (Req 01), a batch's (Req 07), a full count's (Req 08) and a comparison's (Req 10). 5 carries the start bit of the signal (02, Req 02).
 pub enum Refusal {
     ChannelFree,
     Earlier,
@@ -30,6 +30,10 @@ pub enum Refusal {
     BatchBytes,
     BatchRecord,
     BatchAnswers,
+    CountFull,
+    CompareLog,
+    CompareRecords,
+    CompareRoom,
 }
 
 pub fn refusal_number(w: Refusal) -> u32
@@ -60,6 +64,10 @@ pub fn refusal_number(w: Refusal) -> u32
         Refusal::BatchBytes => 22,
         Refusal::BatchRecord => 23,
         Refusal::BatchAnswers => 24,
+        Refusal::CountFull => 25,
+        Refusal::CompareLog => 26,
+        Refusal::CompareRecords => 27,
+        Refusal::CompareRoom => 28,
     }
 }
 

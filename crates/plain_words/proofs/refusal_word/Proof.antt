@@ -7,7 +7,7 @@ use denote.Enum.Laws.{owed}
 use mir.Val.{Val}
 use borrow.Author.Needs.{needs}
 use Rattle.refusals.specs.declared.Refusal.{Refusal}
-use Rattle.refusals.specs.declared.Refusal.the-variants.{ChannelFree, Earlier, UnknownIdentifier, TooShort, NoLabel, UncoveredBit, NoRawNumber, ShortBuffer, NoSuchPost, NoSuchChannel, ChannelTaken, LimitOutside, NoSignal, NotSetUp, TooLong, IllNumber, LogChannel, LogStandard, LogExtended, LogLength, LogTick, BatchBytes, BatchRecord, BatchAnswers}
+use Rattle.refusals.specs.declared.Refusal.the-variants.{ChannelFree, Earlier, UnknownIdentifier, TooShort, NoLabel, UncoveredBit, NoRawNumber, ShortBuffer, NoSuchPost, NoSuchChannel, ChannelTaken, LimitOutside, NoSignal, NotSetUp, TooLong, IllNumber, LogChannel, LogStandard, LogExtended, LogLength, LogTick, BatchBytes, BatchRecord, BatchAnswers, CountFull, CompareLog, CompareRecords, CompareRoom}
 use Rattle.refusals.proofs.Refusal.{the-type, the-row}
 use Rattle.refusals.proofs.Refusal.Laws.{the-laws}
 use Rattle.refusals.specs.Refusals.{startOf}
@@ -40,6 +40,10 @@ start-small LogTick vs h = omega arith
 start-small BatchBytes vs h = omega arith
 start-small BatchRecord vs h = omega arith
 start-small BatchAnswers vs h = omega arith
+start-small CountFull vs h = omega arith
+start-small CompareLog vs h = omega arith
+start-small CompareRecords vs h = omega arith
+start-small CompareRoom vs h = omega arith
 
 add-result : tie.Need-add-result
 add-result c = omega (arith, number-small (c .before .args .w))
