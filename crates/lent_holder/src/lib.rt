@@ -9,7 +9,7 @@ use watch_rules::POSTS;
 use watch_rules::Table;
 
 // 01: "1: channel above 31, or held by no post".
-pub fn holder_of(t: Table, channel: u32) -> u32
+fn holder_of(t: Table, channel: u32) -> u32
     ensures { λ r. ⌜ r ≡ holderWord t channel ⌝ }
 {
     if 31 < channel {

@@ -48,7 +48,7 @@ fn open_kept(s: Session, part: usize) -> Slot
     s.kept[part]
 }
 
-pub fn part_of(t: Table, post: u32, part: u32, time: &mut [u32], buf: &mut [u8]) -> u32
+fn part_of(t: Table, post: u32, part: u32, time: &mut [u32], buf: &mut [u8]) -> u32
     ensures { λ r. ⌜ (r ≡ partWord t post part (now (time .entry)) (now (buf .entry)))
         × (now (time .exit) ≡ partTime t post part (now (time .entry)) (now (buf .entry)))
         × (now (buf .exit) ≡ partFrame t post part (now (time .entry)) (now (buf .entry))) ⌝ }

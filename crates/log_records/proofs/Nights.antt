@@ -2,21 +2,23 @@
 use mathlib.Core.Path.{_≡_, refl, _∙_}
 use mathlib.Core.Bool.{true}
 use mathlib.Core.List.{List, [], _∷_, _++_}
-use mathlib.Core.Logic.{inl, inr}
-use Prim.Native.Nat.{ℕ}
+use mathlib.Core.Logic.{_⊎_, inl, inr}
+use Prim.Native.Nat.{ℕ, _≤_}
 use native.Mathlib.Omega.{arith}
-use lib.ListN.{take}
+use lib.ListN.{length, take}
 use Rattle.refusals.specs.declared.Refusal.the-variants.{LogChannel}
 use Rattle.log_records.specs.declared.Taken.the-variants.{Bad}
 use Rattle.log_records.specs.declared.Found.the-variants as found
 use Rattle.log_numbers.specs.Number.{groups, readGroups}
+use Rattle.log_numbers.proofs.Worked.{each-byte}
 use Rattle.log_records.specs.Record.{Rec, tick, frame, AllLoggable, recordBytes, logBytes}
-use Rattle.log_records.specs.Reading.{tickEntry, lengthPart, identifierPart, channelPart, timePart, recordAt, foundAt, logOf, ends, then, clean, piece, whole, wholly}
-use Rattle.log_records.specs.Pieces.{pieceOf}
+use Rattle.log_records.specs.Reading.{tickEntry, recOf, lengthPart, identifierPart, channelPart, timePart, recordAt, foundAt, logOf, ends, then, clean, piece, whole, wholly}
+use Rattle.log_records.specs.Pieces.{pieceOf, movedEntry, isFirm}
 use Rattle.log_records.specs.Malformed.{Malformed}
-use Rattle.log_records.proofs.Logs.{log-cut, log-reads}
-use Rattle.log_records.proofs.Bads.{malformed-refused}
-use Rattle.log_records.proofs.Pieces.{in-pieces}
+use Rattle.log_records.proofs.Logs.{log-cut, log-reads, logs-differ}
+use Rattle.log_records.proofs.Bads.{malformed-refused, refused-malformed}
+use Rattle.log_records.proofs.Pieces.{in-pieces, same-record}
+use Rattle.log_records.proofs.Cuts.{enough}
 
 abbrev night : List Rec
 night = frame 300 2 true 438272 (1 ∷ []) ∷ tick 300 3 ∷ []
@@ -52,3 +54,20 @@ night-piece = in-pieces (logBytes night) 8 5 0 (inl refl)
 pub night-short : foundAt (pieceOf (logBytes night) 8 2) 0 ≡ found.Cut 0
 unfolding logBytes recordBytes groups recordAt timePart channelPart identifierPart lengthPart readGroups
 night-short = refl
+
+-- from what is refused, back to what is bad about it
+pub bad-told : Malformed LogChannel (0 ∷ 32 ∷ [])
+bad-told = refused-malformed (0 ∷ 32 ∷ []) (each-byte (0 ∷ 32 ∷ []) refl) LogChannel 0 night-bad
+
+-- the tick in the piece is the tick in the log
+pub same-tick : recOf (logBytes night) (tickEntry 300 3 13) ≡ tick 300 3
+unfolding logBytes recordBytes groups recordAt timePart channelPart identifierPart lengthPart readGroups
+same-tick = same-record (logBytes night) 8 5 0 (tickEntry 300 3 5) refl
+
+-- 20 bytes from the first record on are enough: here they reach the log's end
+pub night-enough : (isFirm (foundAt (pieceOf (logBytes night) 0 20) 0) ≡ true) ⊎ (length (logBytes night) ≤ 20)
+night-enough = enough (logBytes night) 0 20 0 (omega arith)
+
+-- no other records write this log
+pub night-alone : (rs : List Rec) → AllLoggable rs → logBytes rs ≡ logBytes night → rs ≡ night
+night-alone rs h e = logs-differ rs night h loggable e

@@ -110,7 +110,7 @@ pub fn place(w: Walk) -> usize
     (w.at - w.from) as usize
 }
 
-pub fn seen_as(found: Found) -> Seen
+fn seen_as(found: Found) -> Seen
     ensures { λ r. ⌜ r ≡ seenOf found ⌝ }
 {
     match found {

@@ -2,3 +2,4 @@ pub mod Groups
 pub mod Ends
 pub mod Stores
 pub mod Writings
+pub mod Worked

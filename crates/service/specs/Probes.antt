@@ -4,10 +4,8 @@ use mathlib.Core.Bool.{Bool, true, false, cond}
 use lib.Dec.{eqb}
 use lib.IntN.{ℤ, pos, negsuc}
 use lib.Ieee.{Float, binary32, round}
-use Rattle.message_types.specs.declared.Pt1000State.{Pt1000State}
 use Rattle.service.specs.declared.Probe.{Probe}
 use Rattle.service.specs.declared.Probe.the-variants.{NotUsed, Degrees}
-use Rattle.service.specs.declared.Screen.{Screen}
 
 -- "The float is the raw whole number divided by ten, rounded once": `round binary32 s n d` is the f32 nearest to the exact fraction n / d
 -- with the sign s, a tie going to the even one, as IEEE 754 rounds; the fraction itself is no float, and nothing is rounded before.
@@ -22,7 +20,3 @@ isUnused (negsuc n) = false
 
 unfoldable pub probeOf : ℤ → Probe
 probeOf z = cond (isUnused z) NotUsed (Degrees (degreesOf z))
-
-abbrev pub screenOf : Pt1000State → Screen
-screenOf s =
-    record { probe1 = probeOf (s .temperature1); probe2 = probeOf (s .temperature2); probe3 = probeOf (s .temperature3); probe4 = probeOf (s .temperature4) }

@@ -1,21 +1,13 @@
-// What the service screen shows beside the messages: degrees of the four probes, and a duty held to 100.0 %.
+// What the service screen shows beside the messages: a probe's degrees, and a duty held to 100.0 %.
 ghost use mathlib.Core.Path.{_≡_};
 ghost use lib.Ieee.{binary32, toBits};
-ghost use Rattle.service.specs.Probes.{degreesOf, probeOf, screenOf};
+ghost use Rattle.service.specs.Probes.{degreesOf, probeOf};
 ghost use Rattle.service.specs.Duty.{limitedDuty};
-use message_types::Pt1000State;
 
 // One of 004's four PT1000 channels. 02: "a probe reading is either degrees as a float or not used"
 pub enum Probe {
     NotUsed,
     Degrees(f32),
-}
-
-pub struct Screen {
-    pub probe1: Probe,
-    pub probe2: Probe,
-    pub probe3: Probe,
-    pub probe4: Probe,
 }
 
 // The raw whole number divided by ten. Both numbers are floats exactly, so only the quotient rounds.
@@ -32,21 +24,6 @@ pub fn probe_of(raw: i16) -> Probe
         return Probe::NotUsed;
     }
     Probe::Degrees(degrees(raw))
-}
-
-pub fn screen_of(s: Pt1000State) -> Screen
-    ensures { λ r. ⌜ r ≡ screenOf s ⌝ }
-{
-    let probe1 = probe_of(s.temperature1);
-    let probe2 = probe_of(s.temperature2);
-    let probe3 = probe_of(s.temperature3);
-    let probe4 = probe_of(s.temperature4);
-    Screen {
-        probe1,
-        probe2,
-        probe3,
-        probe4,
-    }
 }
 
 // The 32 bits of degrees, for who prints or sends them. A NaN, which no probe reads, has the one pattern that `toBits` names.
