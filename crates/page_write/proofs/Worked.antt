@@ -1,22 +1,26 @@
 -- The theorems of WrittenBits on a frame of each byte order: New_Charge_Session with protocol 2 and plug 1, written into one byte more than it has, and
--- PT1000State with -10.0 °C in the first probe, FE 70.
+-- PT1000State with -10.0 °C in the first probe, FE 70. With plug 5, which has no label, the session is refused.
 use mathlib.Core.Path.{_≡_, refl}
-use mathlib.Core.Bool.{true}
+use mathlib.Core.Bool.{true, false}
+use mathlib.Core.Logic.{inr}
 use mathlib.Core.List.{List, [], _∷_}
-use Prim.Native.Nat.{ℕ}
+use Prim.Native.Nat.{ℕ, _≤_}
 use native.Mathlib.Omega.{arith}
-use lib.Dec.{ltb}
+use lib.Dec.{ltb, leb}
 use lib.IntN.{ℤ, pos, negsuc}
-use lib.ListN.{length}
-use borrow.Author.Tests.{ltb-true}
+use lib.ListN.{length, getD}
+use borrow.Author.Tests.{ltb-true, leb-true}
+use Rattle.refusals.specs.declared.Refusal.the-variants.{NoRawNumber}
 use Rattle.signal.specs.Signal.{getBits}
 use Rattle.signal.specs.Twos.{ofSigned}
 use Rattle.payload.specs.Payload.{bitAt}
 use Rattle.payload.specs.Order.{walk}
-use Rattle.page_rows.specs.Table.{rows, ofKind, rowsOf, identifierOf, lengthOf}
-use Rattle.page_write.specs.declared.Written.the-variants.{Wrote}
-use Rattle.page_write.specs.Raws.{allTake, writeRawsOf, bufferAfter}
-use Rattle.page_write.proofs.WrittenBits.{raw-bit, raw-behind}
+use Rattle.page_rows.specs.Table.{rows, noRow, ofKind, rowsOf, identifierOf, lengthOf}
+use Rattle.page_write.specs.declared.Written.the-variants.{Wrote, Refused}
+use Rattle.page_write.specs.Raws.{rowTakes, allTake, writeRawsOf, bufferAfter}
+use Rattle.page_write.specs.Refusing.{Gives}
+use Rattle.page_write.proofs.Refusing.{raws-7}
+use Rattle.page_write.proofs.WrittenBits.{raw-bit, raw-behind, raws-refused}
 
 abbrev session : List ℤ
 session = pos 2 ∷ pos 1 ∷ []
@@ -48,3 +52,18 @@ third-byte = raw-behind 3 session longer 0x6b001 2 (written .0) 16 (omega arith)
 pub probe-sign : bitAt (bufferAfter 11 probes zeros) 7 ≡ 1
 unfolding rows ofKind getBits ofSigned walk
 probe-sign = raw-bit 11 probes zeros 8 8 (written .1) 0 (ltb-true 0 (length (rowsOf 11)) (written .3)) 13 (omega arith)
+
+-- ---- a number without a label
+
+abbrev nameless : List ℤ
+nameless = pos 2 ∷ pos 5 ∷ []
+
+unwritable : (rowTakes (getD (rowsOf 3) 1 noRow) (pos 5) ≡ false) × (leb (length (rowsOf 3)) 2 ≡ true) × (writeRawsOf 3 nameless longer ≡ Refused NoRawNumber)
+unfolding rows ofKind lengthOf allTake ofSigned writeRawsOf
+unwritable = (refl, refl, refl)
+
+pub seven : Gives 7 (writeRawsOf 3 nameless longer)
+seven = raws-7 3 nameless longer (leb-true (length (rowsOf 3)) 2 (unwritable .1)) .1 (inr (1, ltb-true 1 (length (rowsOf 3)) (written .2), unwritable .0))
+
+pub untouched : bufferAfter 3 nameless longer ≡ longer
+untouched = raws-refused 3 nameless longer NoRawNumber (unwritable .2)

@@ -4,6 +4,7 @@ use Prim.Native.Nat.{ℕ, _≤_}
 use mathlib.Core.Path.{_≡_, refl, ap, sym, _∙_}
 use mathlib.Core.Bool.{Bool, true, false, cond, true≢false}
 use mathlib.Core.List.{List, [], _∷_}
+use native.Mathlib.Omega.{arith}
 use lib.Dec.{ltb, eqb}
 use lib.ListN.{length, replicate}
 use borrow.Author.Tests.{le-ltb}
@@ -155,3 +156,10 @@ line-same r s at out ns l =
     rw (le-ltb (length ns) 1 l)
     (line-plain r (callOf (replayOf r) s at (length out))
     (λ a text next q e. rw (sym (ap courseIn e) ∙ call-plain (replayOf r) s at (length out)) refl))
+
+-- 02's tick at 300 on channel 3, "AC 02 03 00 09", with a place for the next byte
+abbrev ticked : List ℕ
+ticked = 0xac ∷ 0x02 ∷ 0x03 ∷ 0x00 ∷ 0x09 ∷ []
+
+pub same-at-a-tick : replayOf (lineBy (plainOf fresh) ticked 0 (replicate lineRoom 7) (9 ∷ []) .replay) ≡ nextLine fresh ticked 0 lineRoom .replay
+same-at-a-tick = line-same (plainOf fresh) ticked 0 (replicate lineRoom 7) (9 ∷ []) (omega arith)

@@ -7,3 +7,4 @@ pub mod SignedText
 pub mod Numerals
 pub mod Spelling
 pub mod Laws
+pub mod Worked

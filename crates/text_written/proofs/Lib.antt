@@ -1,3 +1,4 @@
 pub mod Turns
 pub mod Hexed
 pub mod Laws
+pub mod Worked
