@@ -4,4 +4,5 @@ pub mod Answers
 pub mod Strays
 pub mod Offenders
 pub mod Refusing
+pub mod Worked
 pub mod Starts

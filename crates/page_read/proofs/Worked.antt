@@ -1,0 +1,57 @@
+-- The laws of reading on frames: ChargeControl1 with 53.3 % and PWM active, 82 15, as it is and with a bit that no signal has, and New_Charge_Session with
+-- protocol 8 and plug 5, which both have no label.
+use mathlib.Core.Path.{_≡_, refl}
+use mathlib.Core.Bool.{true, false}
+use mathlib.Core.Logic.{_⊎_}
+use mathlib.Core.List.{List, [], _∷_}
+use Prim.Native.Nat.{ℕ, _≤_}
+use Rattle.refusals.specs.declared.Refusal.the-variants.{NoLabel, UncoveredBit}
+use Rattle.signal.specs.Signal.{getBits}
+use Rattle.payload.specs.Payload.{leNumber, beNumber, leBytes, bitAt, Bytes}
+use Rattle.payload.specs.Order.{place}
+use Rattle.payload.proofs.Orders.{are-of}
+use Rattle.page_rows.specs.Table.{rows, ofKind, firstAt, rowsOf, lengthOf, bigOf, covered}
+use Rattle.page_rows.proofs.PageBits.{no-signal}
+use Rattle.page_read.specs.declared.Judged.the-variants.{Frame, Refused}
+use Rattle.page_read.specs.Judge.{unlabelled, offender, strayBelow, judgedNumber, judgeOf}
+use Rattle.page_read.specs.Refusing.{FirstOffence, Uncovered}
+use Rattle.page_read.proofs.Strays.{covered-all}
+use Rattle.page_read.proofs.Offenders.{first-offence, offence-given}
+use Rattle.page_read.proofs.Refusing.{reading-gives, gives-6}
+
+abbrev duty : List ℕ
+duty = 0x82 ∷ 0x15 ∷ 0 ∷ 0 ∷ 0 ∷ 0 ∷ 0 ∷ 0 ∷ []
+
+-- bit 63 set
+abbrev stray : List ℕ
+stray = 0x82 ∷ 0x15 ∷ 0 ∷ 0 ∷ 0 ∷ 0 ∷ 0 ∷ 0x80 ∷ []
+
+abbrev session : List ℕ
+session = 8 ∷ 5 ∷ []
+
+bytes : Bytes duty × Bytes stray
+unfolding leBytes
+bytes = (are-of false 8 0x1582, are-of false 8 0x8000000000001582)
+
+computed : (judgeOf 6 false duty ≡ Frame 9 0x8215000000000000) × (judgeOf 6 false stray ≡ Refused UncoveredBit) × (judgeOf 0x6b001 true session ≡ Refused (NoLabel 0))
+    × (covered (rowsOf 9) (place (bigOf 9) (lengthOf 9) 63) ≡ false)
+unfolding rows ofKind firstAt lengthOf bigOf covered unlabelled offender strayBelow judgedNumber judgeOf getBits leNumber beNumber
+computed = (refl, refl, refl, refl)
+
+-- the accepted frame has 0 there
+pub bit-63 : bitAt duty 63 ≡ 0
+bit-63 = covered-all 6 false duty 9 0x8215000000000000 (computed .0) (bytes .0) 63 (no-signal 9 63 (computed .3))
+
+-- the other has 1 at a bit that no signal has
+pub strays : Uncovered 6 false stray
+strays = gives-6 6 false stray (bytes .1) .0 (UncoveredBit, computed .1, refl)
+
+-- the protocol is the first that offends
+pub protocol : FirstOffence 0x6b001 true session 0
+protocol = first-offence 0x6b001 true session 0 (computed .2)
+
+pub protocol-given : judgeOf 0x6b001 true session ≡ Refused (NoLabel 0)
+protocol-given = offence-given 0x6b001 true session 0 protocol
+
+pub five : ((3 ≤ 5) × (5 ≤ 6)) ⊎ (_≡_ {A = ℕ} 5 15)
+five = reading-gives 0x6b001 true session 5 (NoLabel 0, computed .2, refl)
