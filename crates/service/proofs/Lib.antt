@@ -5,3 +5,4 @@ pub mod Grid
 pub mod Apart
 pub mod Rounded
 pub mod Patterns
+pub mod Worked
