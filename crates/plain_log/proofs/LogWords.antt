@@ -7,6 +7,7 @@ use Prim.Native.Nat.{ℕ, _-_, _/_, _%_, _≤_, _<_}
 use native.Mathlib.Omega.{arith}
 use lib.Dec.{leb, ltb, eqb}
 use lib.ListN.{length, drop, replicate}
+use borrow.Author.Tests.{ltb-true}
 use Rattle.refusals.specs.declared.Refusal.the-variants.{ShortBuffer}
 use Rattle.refusals.specs.Refusals.{startOf}
 use Rattle.log_numbers.specs.declared.Num.{Num}
@@ -164,3 +165,14 @@ tick-told = log-told (tick 300 2) (room 5) (omega arith) .told ∙ tick-word .0
 
 pub tick-kept : bufferAfter (tick 300 2) (room 4) ≡ room 4
 tick-kept = log-refused (tick 300 2) (room 4) (omega arith) (omega (arith, tick-word .1))
+
+-- the word is the writer's count of bytes, and no more than 20
+pub tick-bytes : writtenOf (tick 300 2) (room 5) ≡ Bytes (loggedWord (writtenOf (tick 300 2) (room 5)))
+tick-bytes = log-accepted (tick 300 2) (room 5) (ltb-true (loggedWord (writtenOf (tick 300 2) (room 5))) 65536 tick-told)
+
+pub tick-short : length (recordBytes (tick 300 2)) ≤ longestRecord
+tick-short = longest (tick 300 2) (omega arith, omega arith)
+
+-- a cut at byte 5 leaves the eight lent numbers
+pub cut-leaves : entryLeft (found.Cut 5) (room 8) ≡ room 8
+cut-leaves = entry-only (found.Cut 5) (room 8) (omega arith)
