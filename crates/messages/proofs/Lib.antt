@@ -3,3 +3,4 @@ pub mod Trips
 pub mod Changing
 pub mod E7
 pub mod Refusing
+pub mod E1

@@ -10,8 +10,10 @@ use Rattle.refusals.specs.declared.Refusal.the-variants.{NoLabel, TooShort}
 use Rattle.signal.specs.Signal.{getBits, putBits}
 use Rattle.signal.specs.Raw.{fitsIn, bitsIn}
 use Rattle.signal.specs.Twos.{ofSigned}
-use Rattle.payload.specs.Payload.{leNumber, leBytes, bitAt, Bytes}
+use Rattle.signal.proofs.Laws.{put-put}
+use Rattle.payload.specs.Payload.{leNumber, leBytes, numberOf, bytesOf, bitAt, Bytes}
 use Rattle.payload.proofs.Orders.{are-of}
+use Rattle.payload.proofs.WholeBytes.{whole-stored}
 use Rattle.page_rows.specs.declared.Row.{Row}
 use Rattle.page_rows.specs.Table.{rows, ofKind, firstAt, rowAt, rowsOf, bigOf, covered, takes}
 use Rattle.page_rows.specs.Listed.{SignalAt, Among}
@@ -54,6 +56,14 @@ sign-bit = change-bit 0x63000 true frame 16 (negsuc 0) 0 0x64010041ffff0fa0 (com
 pub next-bit : bitAt after 32 ≡ bitAt frame 32
 unfolding rows
 next-bit = change-kept 0x63000 true frame 16 (negsuc 0) 0 0x64010041ffff0fa0 (computed .0) bytes current (computed .1) 32 (λ h. omega (arith, h .1, h .2))
+
+-- the current's two bytes are stored as they are, and one number put over another leaves no trace of it
+pub two-bytes : bytesOf false 8 (putBits (numberOf false frame) 16 16 0xffff) ≡ 0xA0 ∷ 0x0F ∷ 0xFF ∷ 0xFF ∷ 0x41 ∷ 0x00 ∷ 0x01 ∷ 0x64 ∷ []
+unfolding leBytes
+two-bytes = whole-stored false frame 16 16 0xffff bytes (omega arith) refl refl (omega arith) (omega arith)
+
+pub put-over : putBits (putBits 0x64010041ff830fa0 16 16 0xffff) 16 16 0xff83 ≡ putBits 0x64010041ff830fa0 16 16 0xff83
+put-over = put-put 0x64010041ff830fa0 16 16 0xffff 0xff83 (omega arith)
 
 -- ---- a plug without a label, and a frame that is refused itself
 

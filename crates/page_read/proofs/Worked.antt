@@ -1,17 +1,20 @@
--- The laws of reading on frames: ChargeControl1 with 53.3 % and PWM active, 82 15, as it is and with a bit that no signal has, and New_Charge_Session with
+-- The laws of bits and of reading on frames: ChargeControl1 with 53.3 % and PWM active, 82 15, as it is and with a bit that no signal has, and New_Charge_Session with
 -- protocol 8 and plug 5, which both have no label.
 use mathlib.Core.Path.{_≡_, refl}
 use mathlib.Core.Bool.{true, false}
-use mathlib.Core.Logic.{_⊎_}
+use mathlib.Core.Logic.{_⊎_, inl}
 use mathlib.Core.List.{List, [], _∷_}
 use Prim.Native.Nat.{ℕ, _≤_}
+use native.Mathlib.Omega.{arith}
+use lib.ListN.{length}
 use Rattle.refusals.specs.declared.Refusal.the-variants.{NoLabel, UncoveredBit}
 use Rattle.signal.specs.Signal.{getBits}
-use Rattle.payload.specs.Payload.{leNumber, beNumber, leBytes, bitAt, Bytes}
-use Rattle.payload.specs.Order.{place}
+use Rattle.payload.specs.Payload.{leNumber, beNumber, leBytes, numberOf, bitAt, Bytes}
+use Rattle.payload.specs.Order.{walk, place}
 use Rattle.payload.proofs.Orders.{are-of}
-use Rattle.page_rows.specs.Table.{rows, ofKind, firstAt, rowsOf, lengthOf, bigOf, covered}
-use Rattle.page_rows.proofs.PageBits.{no-signal}
+use Rattle.page_rows.specs.Table.{rows, ofKind, firstAt, rowAt, rowsOf, lengthOf, bigOf, bitsAt, covered}
+use Rattle.page_rows.specs.Listed.{Among}
+use Rattle.page_rows.proofs.PageBits.{page-bit, no-signal}
 use Rattle.page_read.specs.declared.Judged.the-variants.{Frame, Refused}
 use Rattle.page_read.specs.Judge.{unlabelled, offender, strayBelow, judgedNumber, judgeOf}
 use Rattle.page_read.specs.Refusing.{FirstOffence, Uncovered}
@@ -37,6 +40,15 @@ computed : (judgeOf 6 false duty ≡ Frame 9 0x8215000000000000) × (judgeOf 6 f
     × (covered (rowsOf 9) (place (bigOf 9) (lengthOf 9) 63) ≡ false)
 unfolding rows ofKind firstAt lengthOf bigOf covered unlabelled offender strayBelow judgedNumber judgeOf getBits leNumber beNumber
 computed = (refl, refl, refl, refl)
+
+-- the duty's lowest bit is bit 0 of byte 1
+first-row : Among (rowAt 30) (rowsOf 9) × (length duty ≡ lengthOf 9)
+unfolding rows ofKind lengthOf
+first-row = (inl refl, refl)
+
+pub duty-bit : getBits (bitsAt (numberOf (bigOf 9) duty) (rowAt 30)) 0 1 ≡ bitAt duty 8
+unfolding rows walk
+duty-bit = page-bit 9 duty (rowAt 30) 0 (first-row .0) (bytes .0) (first-row .1) (omega arith)
 
 -- the accepted frame has 0 there
 pub bit-63 : bitAt duty 63 ≡ 0
