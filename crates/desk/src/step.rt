@@ -28,7 +28,7 @@ pub fn answered(
         Changing::Tick => desk_table::tick(lent, table, s, at, out, pen),
         Changing::Setup => desk_table::setup(lent, table, s, at, out, pen),
         Changing::Release => desk_table::release(lent, table, s, at, out, pen),
-        Changing::Batch => desk_batch::batch(table, s, at, room, out, pen),
+        Changing::Batch => desk_batch::batch(lent, table, s, at, room, out, pen),
     }
 }
 

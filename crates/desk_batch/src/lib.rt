@@ -1,4 +1,6 @@
 // The step `batch`, which feeds log records to the table in one call and shows every place for answers afterwards, for the desk alone.
+mod both; // both.rt: a batch, by value or lent
+
 use desk_buffers::front;
 use desk_table::Line;
 use notation_answers::answer;
@@ -67,6 +69,7 @@ fn first(words: &[u32], n: usize) -> &[u32] {
 }
 
 fn fed(
+    lent: bool,
     table: Table,
     records: &[u8],
     places: usize,
@@ -80,25 +83,42 @@ fn fed(
             pen: answer::unknown(out, pen),
         };
     }
-    let r = batch::feed_batch(table, records, &mut answers[0..places]);
+    let r = both::batch(lent, table, records, &mut answers[0..places]);
     let p = put_outcome(r.answer, out, pen);
     let q = put_words(first(answers, places), out, p);
     let t = r.table;
     Line { table: t, pen: q }
 }
 
-fn untouched(table: Table, records: &[u8], places: usize, out: &mut [u8], pen: Pen) -> Line {
+fn untouched(
+    lent: bool,
+    table: Table,
+    records: &[u8],
+    places: usize,
+    out: &mut [u8],
+    pen: Pen,
+) -> Line {
     let mut answers = [UNTOUCHED; MOST];
-    fed(table, records, places, &mut answers, out, pen)
+    fed(lent, table, records, places, &mut answers, out, pen)
 }
 
 // `batch HEX ROOM`
-pub fn batch(table: Table, s: &[u8], at: usize, room: &mut [u8], out: &mut [u8], pen: Pen) -> Line {
+pub fn batch(
+    lent: bool,
+    table: Table,
+    s: &[u8],
+    at: usize,
+    room: &mut [u8],
+    out: &mut [u8],
+    pen: Pen,
+) -> Line {
     match taken(s, at, room) {
         Asked::Bad => Line {
             table,
             pen: answer::unknown(out, pen),
         },
-        Asked::Batch { length, places } => untouched(table, front(room, length), places, out, pen),
+        Asked::Batch { length, places } => {
+            untouched(lent, table, front(room, length), places, out, pen)
+        }
     }
 }

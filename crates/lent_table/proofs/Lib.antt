@@ -1,4 +1,5 @@
 pub mod Entry
 pub mod Thin
 pub mod Lends
+pub mod LendsOn
 pub mod Hands

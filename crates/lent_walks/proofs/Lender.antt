@@ -45,14 +45,14 @@ fn n ν ρ τ τA τs f = record {
 
 module _ {M : Type 1} (𝓤 : URA M) (H : Heap 𝓤) (A : Atoms 𝓤) (W : Given 𝓤 H A) (R : RattleType) (val : R .Denot → Val) (tells : Tells R (Is R) (λ d. val d ∷ [])) (makes : Makes 𝓤 H A R (Is R)) (τ : Ty) (mir-is : R .mir ≡ τ ∷ []) where
   -- a local that holds a table, as what is lent, and back
-  laid : (b : ℕ) (d : R .Denot) → Is R d (val d ∷ []) → ent 𝓤 (H .at fullShare τ b 0 (val d)) (sem 𝓤 H A (mem R .lies d b 0))
+  pub laid : (b : ℕ) (d : R .Denot) → Is R d (val d ∷ []) → ent 𝓤 (H .at fullShare τ b 0 (val d)) (sem 𝓤 H A (mem R .lies d b 0))
   unfolding partOf
   laid b d is =
       qed W (‵ (fat fullShare τ b 0 (val d)) ∷ []) ∵ use1 W (‵ (cellAt fullShare (τ ∷ []) (val d ∷ []) b 0)) (W .laws .at-raw fullShare τ b 0 (val d)) $
       rewrite ! 0 (λ (σs : List Ty). ‵ (cellAt fullShare σs (val d ∷ []) b 0)) (sym mir-is) refl $ owned ! R (Is R) makes d (val d ∷ []) is $ move ! (1 ∷ 0 ∷ []) $ fjoin ! $
       fpack ! (List Val) (λ us. fsep (cellAt fullShare (R .mir) us b 0) (R .own d us)) (val d ∷ []) $ done !
 
-  lifted : (b : ℕ) (d : R .Denot) → ent 𝓤 (sem 𝓤 H A (mem R .lies d b 0)) (guard 𝓤 (Is R d (val d ∷ [])) (H .at fullShare τ b 0 (val d)))
+  pub lifted : (b : ℕ) (d : R .Denot) → ent 𝓤 (sem 𝓤 H A (mem R .lies d b 0)) (guard 𝓤 (Is R d (val d ∷ [])) (H .at fullShare τ b 0 (val d)))
   unfolding partOf
   lifted b d =
       qed W (‵ (mem R .lies d b 0) ∷ []) ∵ fpick ! (λ us. fsplit ! $ spelt ! R (Is R) (shows 𝓤 H A R) (λ x. val x ∷ []) tells fullShare d us b 0 $ move ! (1 ∷ []) $ peeks ! R (Is R) (shows 𝓤 H A R) d (val d ∷ []) (λ is.

@@ -7,6 +7,7 @@ pub mod InHand
 pub mod InLook
 pub mod InPlace
 pub mod Lender
+pub mod LenderOn
 pub mod Locals
 pub mod Params
 pub mod Ways

@@ -8,16 +8,14 @@ use contract.Monad.{factI}
 use contract.Running.{tables}
 use denote.RattleType.{Denots}
 use denote.Laws.{valss}
-use denote.Builtin.{u32}
 use denote.Signature.{typesAt}
 use denote.Triple.Spec.{tripleOf}
 use denote.Triple.Table.{entered}
 use Rattle.watch_rules.specs.declared.Table.{Table}
 use Rattle.lent_words.specs.declared.Lent.{Lent}
 use Rattle.batch_rules.specs.Batch.{batchOf, answersAfter}
-use Rattle.lent_walks.proofs.Handing as handing
-use Rattle.lent_walks.proofs.Handing.{Handing}
 use Rattle.lent_table.proofs.Hands.{Says, by-handing, meets}
+use Rattle.lent_batch.proofs.Takes.{takes}
 use Rattle.batch.proofs.feed_batch as callee
 use Rattle.batch.proofs.feed_batch.Symbol as callee-def
 use Rattle.batch.proofs.feed_batch.Met as callee-thm
@@ -25,10 +23,6 @@ use Rattle.lent_batch.proofs.rokemaipu_batch.Key.{name as #here}
 use Rattle.lent_batch.proofs.rokemaipu_batch as here
 use Rattle.lent_batch.proofs.rokemaipu_batch.Statement as stated
 use Rattle.lent_batch.proofs.rokemaipu_batch.Code as code
-
--- the records and the answers, at the lifetimes numbered i and j
-abbrev takes : (n i j : ℕ) → Within n i → Within n j → Handing n
-takes n i j oki okj = handing.shared i oki (handing.slice j okj u32 handing.no-more)
 
 abbrev says : (n i j : ℕ) (oki : Within n i) (okj : Within n j) (κs : Lfts n) → Table → (a : Denots (typesAt (takes n i j oki okj .slots) κs)) → Says (takes n i j oki okj .slots) κs a
 says n i j oki okj κs h a r ws =
