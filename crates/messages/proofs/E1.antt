@@ -1,5 +1,5 @@
--- The theorems of both ways on E1: what it reads as is written as its bytes, into a longer buffer too, and no other message is; with 201 kOhm, for which there is
--- no raw number, nothing is written.
+-- The theorems of both ways on E1: what it reads as is written as its bytes, into a longer buffer too, and no other message is; with 201 kOhm, for which
+-- there is no raw number, nothing is written.
 use mathlib.Core.Path.{_≡_, refl}
 use mathlib.Core.Bool.{true, false}
 use mathlib.Core.List.{List, [], _∷_, _++_}

@@ -20,6 +20,7 @@ use Rattle.page_rows.specs.Listed.{SignalAt, Among}
 use Rattle.page_read.specs.declared.Judged.the-variants.{Frame, Refused}
 use Rattle.page_read.specs.Judge.{unlabelled, offender, strayBelow, judgedNumber, judgeOf}
 use Rattle.page_read.specs.Refusing.{Gives}
+use Rattle.page_write.specs.Raws.{wholeAt}
 use Rattle.page_change.specs.Change.{changeOf, bytesAfter}
 use Rattle.page_change.proofs.Changes.{change-bit, change-kept, change-raws, change-read, change-refused}
 use Rattle.page_change.proofs.Refusing.{change-own, new-offence}
@@ -46,6 +47,10 @@ computed = (refl, record { isSignal = inr (inl refl); start = refl })
 
 pub accepted : judgeOf 0x63000 true after ≡ Frame 0 0x64010041ffff0fa0
 accepted = change-read 0x63000 true frame 16 (negsuc 0) 0 0x64010041ffff0fa0 (computed .0) bytes .0
+
+-- its number is -1
+pub now-current : wholeAt 0x64010041ffff0fa0 current ≡ negsuc 0
+now-current = change-raws 0x63000 true frame 16 (negsuc 0) 0 0x64010041ffff0fa0 (computed .0) bytes current (computed .1) .0
 
 -- the number's highest bit, bit 31 of the frame
 pub sign-bit : bitAt after 31 ≡ 1

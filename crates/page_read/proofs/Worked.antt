@@ -1,5 +1,5 @@
--- The laws of bits and of reading on frames: ChargeControl1 with 53.3 % and PWM active, 82 15, as it is and with a bit that no signal has, and New_Charge_Session with
--- protocol 8 and plug 5, which both have no label.
+-- The laws of bits and of reading on frames: ChargeControl1 with 53.3 % and PWM active, 82 15, as it is and with a bit that no signal has, and
+-- New_Charge_Session with protocol 8 and plug 5, which both have no label.
 use mathlib.Core.Path.{_≡_, refl}
 use mathlib.Core.Bool.{true, false}
 use mathlib.Core.Logic.{_⊎_, inl}

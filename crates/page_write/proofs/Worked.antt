@@ -4,7 +4,7 @@ use mathlib.Core.Path.{_≡_, refl}
 use mathlib.Core.Bool.{true, false}
 use mathlib.Core.Logic.{inr}
 use mathlib.Core.List.{List, [], _∷_}
-use Prim.Native.Nat.{ℕ, _≤_}
+use Prim.Native.Nat.{ℕ, _*_, _≤_}
 use native.Mathlib.Omega.{arith}
 use lib.Dec.{ltb, leb}
 use lib.IntN.{ℤ, pos, negsuc}
@@ -14,13 +14,14 @@ use Rattle.refusals.specs.declared.Refusal.the-variants.{NoRawNumber}
 use Rattle.signal.specs.Signal.{getBits}
 use Rattle.signal.specs.Twos.{ofSigned}
 use Rattle.payload.specs.Payload.{bitAt}
-use Rattle.payload.specs.Order.{walk}
-use Rattle.page_rows.specs.Table.{rows, noRow, ofKind, rowsOf, identifierOf, lengthOf}
+use Rattle.payload.specs.Order.{walk, place}
+use Rattle.page_rows.specs.Table.{rows, noRow, ofKind, rowsOf, identifierOf, lengthOf, bigOf, covered}
+use Rattle.page_rows.proofs.PageBits.{no-signal}
 use Rattle.page_write.specs.declared.Written.the-variants.{Wrote, Refused}
 use Rattle.page_write.specs.Raws.{rowTakes, allTake, writeRawsOf, bufferAfter}
 use Rattle.page_write.specs.Refusing.{Gives}
 use Rattle.page_write.proofs.Refusing.{raws-7}
-use Rattle.page_write.proofs.WrittenBits.{raw-bit, raw-behind, raws-refused}
+use Rattle.page_write.proofs.WrittenBits.{raw-bit, raw-else, raw-behind, raws-refused}
 
 abbrev session : List ℤ
 session = pos 2 ∷ pos 1 ∷ []
@@ -52,6 +53,17 @@ third-byte = raw-behind 3 session longer 0x6b001 2 (written .0) 16 (omega arith)
 pub probe-sign : bitAt (bufferAfter 11 probes zeros) 7 ≡ 1
 unfolding rows ofKind getBits ofSigned walk
 probe-sign = raw-bit 11 probes zeros 8 8 (written .1) 0 (ltb-true 0 (length (rowsOf 11)) (written .3)) 13 (omega arith)
+
+-- ChargeControl1 with 53.3 % and PWM active, 82 15: no signal has bit 63
+abbrev duty : List ℤ
+duty = pos 533 ∷ pos 1 ∷ pos 0 ∷ pos 0 ∷ []
+
+free : (writeRawsOf 9 duty zeros ≡ Wrote 6 8) × (covered (rowsOf 9) (place (bigOf 9) (lengthOf 9) 63) ≡ false) × (ltb 63 (8 * lengthOf 9) ≡ true)
+unfolding rows ofKind identifierOf lengthOf bigOf covered allTake ofSigned writeRawsOf
+free = (refl, refl, refl)
+
+pub last-bit : bitAt (bufferAfter 9 duty zeros) 63 ≡ 0
+last-bit = raw-else 9 duty zeros 6 8 (free .0) 63 (ltb-true 63 (8 * lengthOf 9) (free .2)) (no-signal 9 63 (free .1))
 
 -- ---- a number without a label
 

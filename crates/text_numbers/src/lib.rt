@@ -2,9 +2,7 @@
 pub mod sign; // sign.rt: the answer of `signed`
 mod numbers; // numbers.rt: numbers as text
 
-pub use numbers::decimal;
 pub use numbers::digit;
-pub use numbers::hexadecimal;
 pub use numbers::signed;
 pub use numbers::whole;
 

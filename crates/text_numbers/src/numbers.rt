@@ -55,17 +55,10 @@ pub fn whole(s: &[u8], base: u64, most: u64) -> Number
     Number::Is(v)
 }
 
-pub fn decimal(s: &[u8], most: u64) -> Number
+fn decimal(s: &[u8], most: u64) -> Number
     ensures { λ r. ⌜ r ≡ numberOf 10 most (now (s .entry)) ⌝ }
 {
     whole(s, 10, most)
-}
-
-// Lower case, without a prefix.
-pub fn hexadecimal(s: &[u8], most: u64) -> Number
-    ensures { λ r. ⌜ r ≡ numberOf 16 most (now (s .entry)) ⌝ }
-{
-    whole(s, 16, most)
 }
 
 // The number below 0 of a magnitude.
