@@ -5,7 +5,7 @@ use native.Mathlib.Omega.{arith}
 use mathlib.Core.Path.{_≡_, refl, ap, _∙_}
 use mathlib.Core.Bool.{true}
 use mathlib.Core.List.{List, [], _∷_}
-use lib.ListN.{length, replicate, length-replicate}
+use lib.ListN.{length, getD, take, replicate, length-replicate}
 use Rattle.refusals.specs.Refusals.{numberOf}
 use Rattle.refusals.specs.declared.Refusal.the-variants.{BatchBytes, BatchRecord, BatchAnswers}
 use Rattle.page_rows.specs.Table.{rows, ofKind, firstAt, covered}
@@ -30,10 +30,10 @@ use Rattle.watch_rules.specs.Steps.{standing, findFrom, holder, otherHolds, fee
 use Rattle.watch_rules.specs.Run.{Request, setUp, frame, tick, run, reply01, accepted}
 use Rattle.watch_rules.proofs.Demand.{every-record}
 use Rattle.lent_runs.specs.Runs.{lentBy, wordOf}
-use Rattle.batch_rules.specs.Batch.{isWhole, whyBatch, tableAfter, wordsOf, batchOf, answersAfter}
+use Rattle.batch_rules.specs.Batch.{isWhole, whyBatch, calledWith, tableAfter, wordsOf, batchOf, answersAfter}
 use Rattle.batch_rules.specs.Cases.{Broken}
 use Rattle.batch_rules.specs.Runs.{Asked, single, batch, askedRun, withRecords, flat, words01}
-use Rattle.batch_rules.proofs.Laws.{refused-22, refused-23, refused-24, refused-nothing, written-batch}
+use Rattle.batch_rules.proofs.Laws.{refused-22, refused-23, refused-24, refused-nothing, word-at, written-batch}
 use Rattle.batch_rules.proofs.Flat.{flat-run, flat-words, flat-answer}
 
 abbrev limits : PlainLimits
@@ -124,3 +124,7 @@ module _ (t : Table) where
 
   pub night-written : batchOf t (logBytes three) 8 ≡ record { table = tableAfter t three; answer = 3 }
   night-written = written-batch three loggable t places (omega (arith, ap length written)) (omega arith) .0
+
+  -- the word of the third record is that of its single call behind the two before it
+  pub night-third : getD (wordsOf t three) 2 0 ≡ calledWith (tableAfter t (take 2 three)) (rec.tick 7 9) .answer
+  night-third = word-at t three 2 (rec.tick 7 9) (omega arith)

@@ -5,19 +5,22 @@ use mathlib.Core.Logic.{inl}
 use mathlib.Core.Option.{some}
 use mathlib.Core.List.{List, [], _∷_}
 use mathlib.Core.Bool.{false}
-use Prim.Native.Nat.{ℕ, zero, suc}
+use Prim.Native.Nat.{ℕ, zero, suc, _<_, _≤_}
 use native.Mathlib.Omega.{arith}
-use lib.ListN.{take, drop, replicate}
+use lib.ListN.{length, take, drop, replicate}
 use Rattle.rules.specs.After.{agedTo, silentIn, lateAfter, anyFindings, afterTick}
 use Rattle.log_numbers.specs.Number.{groups, readGroups}
 use Rattle.log_records.specs.Record.{Rec, tick, AllLoggable, recordBytes, logBytes}
 use Rattle.log_records.specs.Reading.{lengthPart, identifierPart, channelPart, timePart, recordAt, logOf, wholly}
 use Rattle.text_numbers.specs.Numbers.{glyphOf, digitsIn, numeral}
 use Rattle.text_pen.specs.Pens.{textOf}
+use Rattle.watch_rules.specs.Run.{Request, setUp, run, accepted}
+use Rattle.watch_rules.proofs.Demand.{run-kept}
 use Rattle.watch_rules.specs.Table.{emptyTable, placeOf, heardOf, feedAt, feedOf, isOther, setUpOf}
 use Rattle.rule_limits.specs.declared.PlainLimits.{PlainLimits}
 use Rattle.rule_limits.specs.Limits.{limitsFit}
 use Rattle.playing_nights.specs.declared.Replay.{Replay}
+use Rattle.playing_nights.specs.declared.Course.the-variants.{Records}
 use Rattle.playing_nights.specs.declared.Preparing.the-variants.{Late}
 use Rattle.playing_nights.specs.declared.Next.{Next}
 use Rattle.playing_nights.specs.declared.Prepared.{Prepared}
@@ -25,6 +28,7 @@ use Rattle.playing_nights.specs.declared.Played.the-variants.{Line, End,
 use Rattle.playing_nights.specs.Answers.{isLine}
 use Rattle.playing_line.specs.Lines.{lineRoom, refusedWords, lineOf, AllShort}
 use Rattle.playing_nights.specs.Call.{fresh, setUpIn, lineCall, callOf, nextLine, bufferAfter}
+use Rattle.playing_nights.specs.Fed.{lineFor, line01}
 use Rattle.playing_nights.specs.Night.{Wanted, setUpsFrom, runOf, preparedFrom, nightOf, prepared01, night01}
 use Rattle.playing_nights.specs.Pieces.{Piece, AllRoomy, inPieces}
 use Rattle.playing_nights.specs.Readings.{set-up, ticks, told}
@@ -33,12 +37,15 @@ use Rattle.playing_nights.proofs.Pieces.{line-in-piece}
 use Rattle.playing_nights.proofs.Pieced.{night-in-pieces}
 use Rattle.playing_nights.proofs.Roomy.{pieces-reach}
 use Rattle.playing_nights.proofs.Nights.{lines, lines-cut}
-use Rattle.playing_nights.proofs.Afresh.{night-01}
+use Rattle.playing_nights.proofs.Afresh.{line-01, night-01}
 use Rattle.playing_nights.proofs.Shorts.{lines-short}
-use Rattle.playing_nights.proofs.Calls.{short-first, no-line, behind-line, set-up-late}
+use Rattle.playing_nights.proofs.Calls.{short-first, no-line, behind-line, line-lies, after-line, set-up-late}
 
 abbrev posts : List Wanted
 posts = set-up 0 2 ∷ []
+
+abbrev one : List Request
+one = setUp 0 2 (record { voltage = 10000; charge = 10000; discharge = 10000; silence = 500; sensor = 0 }) ∷ []
 
 abbrev buffer : List ℕ
 buffer = replicate lineRoom 0
@@ -83,6 +90,10 @@ eleven-reach = pieces-reach (replicate 11 (0, 20)) posts ticks buffer (roomy 11)
 
 -- ---- the records fed singly, by 01's rules, and after a cut
 
+-- a line after the one set-up
+pub line-by-the-rules : (n : ℕ) (x : Rec) → lineFor (run one) n x ≡ line01 (accepted one) n x
+line-by-the-rules n x = line-01 (run one) (accepted one) (run-kept one) n x
+
 pub fed-singly : runOf posts ticks buffer ≡ nightOf (preparedFrom emptyTable posts) (logOf ticks)
 fed-singly = lines posts ticks buffer (omega arith) (omega arith)
 
@@ -120,6 +131,12 @@ nothing-changes = no-line fresh [] 0 buffer none .0
 -- the second record's line leaves the buffer behind its seven bytes; and a set-up comes late
 pub behind-the-line : drop 7 (bufferAfter after-one ticks 5 buffer) ≡ drop 7 buffer
 behind-the-line = behind-line after-one ticks 5 buffer 7 10 (second-line .0)
+
+pub next-lies : (5 < 10) × (10 ≤ length ticks)
+next-lies = line-lies after-one ticks 5 buffer 7 10 (second-line .0)
+
+pub then-records : nextLine after-one ticks 5 lineRoom .replay .course ≡ Records
+then-records = after-line after-one ticks 5 buffer 7 10 (second-line .0)
 
 pub too-late : (lim : PlainLimits) → setUpIn (nextLine after-one ticks 5 lineRoom .replay) 1 4 lim .answer ≡ Late
 too-late lim = ap (λ (p : Prepared). p .answer) (set-up-late after-one ticks 5 buffer 7 10 (second-line .0) 1 4 lim)
