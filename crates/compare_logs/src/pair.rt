@@ -8,8 +8,8 @@ ghost use Rattle.compare_rules.specs.Records.{same, sameBytes, at};
 ghost use Rattle.compare_rules.specs.Surplus.{surplusOf, isSurplus};
 ghost use Rattle.compare_rules.specs.Compare.{most, recordsOf};
 ghost use Rattle.compare_logs.specs.Held.{Ready, FirstFree, UsedBelow, freeFrom};
+use crate::split::STARTS;
 use compare_rules::MOST;
-use split::STARTS;
 
 // Whether two slices hold the same bytes. From behind: records with one key begin alike.
 fn same_bytes(a: &[u8], b: &[u8]) -> bool

@@ -6,10 +6,10 @@ ghost use lib.Seq.{sets};
 ghost use Rattle.compare_rules.specs.Places.{placeOn, placesOf, channels};
 ghost use Rattle.compare_rules.specs.Compare.{most, recordsOf};
 ghost use Rattle.compare_logs.specs.Held.{Ready, NextOn, Marked};
+use crate::pair::equal;
+use crate::split::STARTS;
 use compare_rules::CHANNELS;
 use compare_rules::MOST;
-use pair::equal;
-use split::STARTS;
 
 fn next_on(keys: &[u64; MOST], c: u64, from: usize, n: usize) -> usize
     requires { ⌜ (from ≤ n) × (n ≤ most) ⌝ }
