@@ -1,0 +1,6 @@
+pub mod Records
+pub mod Surplus
+pub mod Places
+pub mod Compare
+pub mod Words
+pub mod Readings
