@@ -90,6 +90,12 @@ fn other(rng: &mut Rng, mut records: Records) -> Records {
         records.sort_by_key(|bytes| log::read(bytes).records[0].channel);
         return records;
     }
+    if rng.chance(15) && !records.is_empty() {
+        // The same records, but the first in the place of another.
+        let to = rng.below(records.len() as u64) as usize;
+        records[..=to].rotate_left(1);
+        return records;
+    }
     for _ in 0..rng.pick(&[0, 1, 1, 1, 2, 2, 3, 5]) {
         let at = rng.below(records.len() as u64 + 1) as usize;
         if at == records.len() {
