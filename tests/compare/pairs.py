@@ -258,19 +258,20 @@ def injected():
     """A file whose length the system tells otherwise: shorter, as one that grows meanwhile; longer, as one that was cut meanwhile. A read that fails."""
     if len(COMMAND) > 1:
         return
-    def under(fault):
-        return subprocess.run(['strace', '-qq', '-o', '/dev/null', '-e', f'trace={fault.split(":")[0]}', '-e', f'inject={fault}', *COMMAND, 'a.log', 'b.log'],
-                              capture_output=True, text=True, timeout=60)
+
+    def under(name, fault):
+        traced = ['strace', '-qq', '-o', '/dev/null', '-P', os.path.realpath(name), '-e', f'trace={fault.split(":")[0]}', '-e', f'inject={fault}']
+        done = subprocess.run([*traced, *COMMAND, 'a.log', 'b.log'], capture_output=True, text=True, timeout=60)
+        return done.stdout, ''.join(line for line in done.stderr.splitlines(True) if not line.startswith('strace: '))
 
     ten = b''.join(TICKS[:10])
     Path('a.log').write_bytes(ten)
     Path('b.log').write_bytes(ten)
-    done = under(f'lseek:retval={3 * len(TICKS[0])}:when=1')
-    same(done.stdout.split('\n')[-3:], ['compared 3 and 10 records', 'differ', ''], 'a file that grows')
-    done = under(f'lseek:retval={20 * len(TICKS[0])}:when=2')
-    same((done.stdout, done.stderr), ('', 'compare: b.log: the file changed while it was read\n'), 'a file that is cut')
-    done = under('pread64:error=EIO:when=2')
-    same((done.stdout, done.stderr), ('', 'compare: b.log: reading: Input/output error\n'), 'a read that fails')
+    for name, counts in ('a.log', '3 and 10'), ('b.log', '10 and 3'):
+        out, said = under(name, f'lseek:retval={3 * len(TICKS[0])}')
+        same((out.split('\n')[-3:], said), ([f'compared {counts} records', 'differ', ''], ''), 'a file that grows')
+        same(under(name, f'lseek:retval={20 * len(TICKS[0])}'), ('', f'compare: {name}: the file changed while it was read\n'), 'a file that is cut')
+        same(under(name, 'pread64:error=EIO'), ('', f'compare: {name}: reading: Input/output error\n'), 'a read that fails')
 
 
 def memory():
