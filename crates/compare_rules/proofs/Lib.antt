@@ -2,10 +2,10 @@ pub mod Bytes
 pub mod Sames
 pub mod Counts
 pub mod Lists
-pub mod Left
+pub mod Remains
 pub mod Differs
 pub mod Firsts
-pub mod Empties
+pub mod Nothing
 pub mod Cases
 pub mod Written
 pub mod Stays

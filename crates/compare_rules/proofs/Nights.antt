@@ -22,9 +22,9 @@ use Rattle.compare_rules.specs.Cases.{Taken}
 use Rattle.compare_rules.specs.Words.{comparedFor, comparedOutcome, comparedWord, withNumbers}
 use Rattle.plain_words.specs.Words.{isAccepted}
 use Rattle.compare_rules.proofs.Lists.{listed-surplus, surplus-listed, ascends}
-use Rattle.compare_rules.proofs.Left.{same-left}
+use Rattle.compare_rules.proofs.Remains.{same-left}
 use Rattle.compare_rules.proofs.Firsts.{FirstApart, place-first}
-use Rattle.compare_rules.proofs.Empties.{nothing, nothing-found, found-nothing, as-often}
+use Rattle.compare_rules.proofs.Nothing.{nothing, nothing-found, found-nothing, as-often}
 use Rattle.compare_rules.proofs.Cases.{refused-26, refused-27, refused-28, taken-is, refused-nothing}
 use Rattle.compare_rules.proofs.Written.{written-sound, written-records, piece-broken, all-alike}
 use Rattle.compare_rules.proofs.Stays.{first-holds}
