@@ -36,7 +36,7 @@ bench: lib replay
 	@. tests/machine; set -e; \
 	[ -z "$(BEFORE)" ] || bench/before $(BEFORE); \
 	bench/larger; \
-	$$cc -O2 -Wall -Wextra $(if $(BEFORE),-DBEFORE) -Itarget/lib -Ibench bench/bench.c bench/peer.c bench/peer_log.c bench/peer_batch.c target/lib/librokemaipu.a $(if $(BEFORE),target/before/libbefore.a) -o target/lib/bench; \
+	$$cc -O2 -Wall -Wextra $(if $(BEFORE),-DBEFORE) -Itarget/lib -Ibench bench/bench.c bench/peer.c bench/peer_log.c bench/peer_batch.c bench/peer_compare.c target/lib/librokemaipu.a $(if $(BEFORE),target/before/libbefore.a) -o target/lib/bench; \
 	$$cc -O2 -Wall -Wextra -Itarget/lib -Ibench bench/larger.c target/lib/librokemaipu.a target/larger/liblarger.a -o target/larger/larger; \
 	$$cc -O2 -Wall -Wextra -Itarget/lib -Wl,--wrap=memcpy,--wrap=memmove bench/copied.c target/lib/librokemaipu.a -o target/lib/copied; \
 	$$cc -O2 -Wall -Wextra -Itarget/lib -Ibench bench/peer_replay.c bench/peer.c bench/peer_log.c -o target/lib/peer_replay; \

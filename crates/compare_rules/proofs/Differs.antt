@@ -1,5 +1,5 @@
 -- The places of the channels: none exactly where the two sequences are equal, and the same for swapped logs.
-use mathlib.Core.Path.{_≡_, refl, ap, ap₂, _∙_, subst}
+use mathlib.Core.Path.{_≡_, refl, sym, ap, ap₂, _∙_}
 use mathlib.Core.Bool.{Bool, true, false, cond}
 use mathlib.Core.List.{List, [], _∷_}
 use Prim.Native.Nat.{ℕ, zero, suc}
@@ -19,7 +19,7 @@ differ-sym k (x ∷ xs) (y ∷ ys) = ap₂ (λ (t : Bool) (d : ℕ). cond t d k)
 swap-from : (a b : List Rec) (k c : ℕ) → placesFrom a b c k ≡ placesFrom b a c k
 unfolding placesFrom
 swap-from a b zero c = refl
-swap-from a b (suc k) c = ap₂ (λ (d : ℕ) (l : List ℕ). d ∷ l) (differ-sym 1 (onChannel c a) (onChannel c b)) (swap-from a b k (suc c))
+swap-from a b (suc k) c = ap₂ (λ (d : ℕ) (l : List ℕ). d ∷ l) (differ-sym _ _ _) (swap-from a b k (suc c))
 
 -- swapping the logs keeps the places (and swaps the lists, which are `surplusOf a b` and `surplusOf b a`)
 pub places-swap : (a b : List Rec) → placesOf a b ≡ placesOf b a
@@ -41,11 +41,11 @@ differ-self k [] = refl
 differ-self k (x ∷ xs) = ap (λ (t : Bool). cond t (differ (suc k) xs xs) k) (rec-refl x) ∙ differ-self (suc k) xs
 
 -- no place exactly where the two sequences are equal
-pub place-none : (c : ℕ) (a b : List Rec) → placeOn c a b ≡ 0 → onChannel c a ≡ onChannel c b
-place-none c a b e = differ-none 0 (onChannel c a) (onChannel c b) e
-
 pub none-place : (c : ℕ) (a b : List Rec) → onChannel c a ≡ onChannel c b → placeOn c a b ≡ 0
-none-place c a b e = subst (λ (l : List Rec). differ 1 (onChannel c a) l ≡ 0) e (differ-self 1 (onChannel c a))
+none-place c a b e = ap (differ _ _) (sym e) ∙ differ-self _ _
+
+pub place-none : (c : ℕ) (a b : List Rec) → placeOn c a b ≡ 0 → onChannel c a ≡ onChannel c b
+place-none c a b e = differ-none _ (onChannel c a) (onChannel c b) e
 
 pub nowhere : (c : ℕ) (a : List Rec) → placeOn c a a ≡ 0
 nowhere c a = none-place c a a refl

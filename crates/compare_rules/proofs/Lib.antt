@@ -1,8 +1,14 @@
 pub mod Bytes
 pub mod Sames
 pub mod Counts
-pub mod Differs
 pub mod Lists
-pub mod Empties
-pub mod Left
+pub mod Remains
+pub mod Differs
+pub mod Firsts
+pub mod Nothing
+pub mod Cases
+pub mod Written
+pub mod Stays
 pub mod Swaps
+pub mod CompareWords
+pub mod Nights

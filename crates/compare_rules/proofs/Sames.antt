@@ -24,11 +24,6 @@ form-refl : (x : Bool) → sameForm x x ≡ true
 form-refl true = refl
 form-refl false = refl
 
-pub rec-refl : (r : Rec) → same r r ≡ true
-unfolding same
-rec-refl (tick t c) = rw (eq-eqb t t refl, eq-eqb c c refl)
-rec-refl (frame t c x i p) = rw (eq-eqb t t refl, eq-eqb c c refl, form-refl x, eq-eqb i i refl, same-refl p)
-
 -- "equal only in all parts"
 pub rec-same : (r q : Rec) → same r q ≡ true → r ≡ q
 unfolding same
@@ -48,6 +43,11 @@ rec-same (frame t c x i p) (frame u d y j q) e =
     let n : x ≡ y = form-same x y (f .0) in
     let m : i ≡ j = eqb-true i j (k .0) in
     let l : p ≡ q = same-list p q (k .1) in cc
+
+pub rec-refl : (r : Rec) → same r r ≡ true
+unfolding same
+rec-refl (tick t c) = rw (eq-eqb t t refl, eq-eqb c c refl)
+rec-refl (frame t c x i p) = rw (eq-eqb t t refl, eq-eqb c c refl, form-refl x, eq-eqb i i refl, same-refl p)
 
 pub same-either : (r q : Rec) (P : Bool → Type 0) → (r ≡ q → P true) → ((r ≡ q → ⊥) → P false) → P (same r q)
 same-either r q P on off = by (same r q) refl where

@@ -36,6 +36,9 @@ abbrev pub unbroken : ℕ → Option ℕ → Compared → Compared
 unbroken side none go = go
 unbroken side (some at) go = Refused CompareLog side at
 
+abbrev pub sound : List ℕ → List ℕ → Compared → Compared
+sound a b go = unbroken 1 (brokenAt (logOf a)) (unbroken 2 (brokenAt (logOf b)) go)
+
 -- n and m records
 abbrev pub fewEnough : ℕ → ℕ → Compared → Compared
 fewEnough n m go = cond (ltb most n) (Refused CompareRecords 1 0) (cond (ltb most m) (Refused CompareRecords 2 0) go)
@@ -57,9 +60,7 @@ judged n m x y z go = fewEnough n m (roomy x y (placed z go))
 
 -- the answer to the logs a and b, lists of x and y places, and z places for the channels
 unfoldable pub comparedOf : List ℕ → List ℕ → ℕ → ℕ → ℕ → Compared
-comparedOf a b x y z =
-    unbroken 1 (brokenAt (logOf a)) (unbroken 2 (brokenAt (logOf b))
-    (judged (length (recordsOf a)) (length (recordsOf b)) x y z (listedOf (recordsOf a) (recordsOf b))))
+comparedOf a b x y z = sound a b (judged (length (recordsOf a)) (length (recordsOf b)) x y z (listedOf (recordsOf a) (recordsOf b)))
 
 -- ---- what is lent, afterwards: "unused places stay", and refused all of it stays as it was
 

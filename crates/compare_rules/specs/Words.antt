@@ -10,6 +10,7 @@ use Rattle.refusals.specs.declared.Refusal.the-variants.{ShortBuffer}
 use Rattle.plain_words.specs.Words.{Outcome, answers, refuses, outcomeWord}
 use Rattle.compare_rules.specs.declared.Compared.{Compared}
 use Rattle.compare_rules.specs.declared.Compared.the-variants.{Listed, Refused}
+use Rattle.compare_rules.specs.Compare.{comparedOf}
 
 abbrev pub outcomeOf : Compared → Outcome
 outcomeOf (Listed n m) = answers 0
@@ -18,6 +19,10 @@ outcomeOf (Refused w side at) = refuses w
 abbrev pub numbersOf : Compared → List ℕ
 numbersOf (Listed n m) = n ∷ m ∷ []
 numbersOf (Refused w side at) = side ∷ at ∷ []
+
+-- of two logs, and what is lent for their lists and places
+abbrev pub comparedFor : List ℕ → List ℕ → List ℕ → List ℕ → List ℕ → Compared
+comparedFor a b first second places = comparedOf a b (length first) (length second) (length places)
 
 -- k places for the two numbers
 abbrev pub comparedOutcome : ℕ → Compared → Outcome

@@ -96,3 +96,7 @@ module _ (a b : List Rec) (la : AllLoggable a) (lb : AllLoggable b) where
 
   pub found-nothing : NothingFound a b → SameOnEach a b
   found-nothing w = no-place (w .2)
+
+  -- and across channels each record stands as often in both
+  pub as-often : SameOnEach a b → (r : Rec) → channelOf r < channels → countOf r a ≡ countOf r b
+  as-often f r h = sym (on-channel r a) ∙ ap (countOf r) (f (channelOf r) h) ∙ on-channel r b
