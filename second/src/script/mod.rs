@@ -127,7 +127,7 @@ impl Generator {
             (35, Sort::LogWrite),
             (60, Sort::Replay),
             (45, Sort::Batch),
-            (60, Sort::Compare),
+            (90, Sort::Compare),
             (35, Sort::Malformed),
             (12, Sort::Remark),
             (explain, Sort::Explain),

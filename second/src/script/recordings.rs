@@ -90,7 +90,7 @@ fn other(rng: &mut Rng, mut records: Records) -> Records {
         records.sort_by_key(|bytes| log::read(bytes).records[0].channel);
         return records;
     }
-    if rng.chance(15) && !records.is_empty() {
+    if rng.chance(25) && !records.is_empty() {
         // The same records, but the first in the place of another.
         let to = rng.below(records.len() as u64) as usize;
         records[..=to].rotate_left(1);
