@@ -39,7 +39,6 @@ fn next_piece(
     name: &[u8],
     buf: &mut [u8],
     bytes: &mut [u8],
-    starts: &mut [usize],
     numbers: &mut [u64],
 ) -> Course {
     let from = c.walk.from;
@@ -48,7 +47,7 @@ fn next_piece(
         return unread(c, name, b": reading");
     }
     let n = file::within(io::count(got, buf), from, c.walk.size);
-    piece::records_in(c, w, file::front(buf, n), bytes, starts, numbers)
+    piece::records_in(c, w, file::front(buf, n), bytes, numbers)
 }
 
 fn goes_on(c: Course) -> bool {
@@ -65,13 +64,12 @@ fn walked(
     name: &[u8],
     buf: &mut [u8],
     bytes: &mut [u8],
-    starts: &mut [usize],
     numbers: &mut [u64],
 ) -> Course {
     let mut c = start;
     let mut turns = u64::MAX;
     while turns > 0 {
-        c = next_piece(c, fd, w, name, buf, bytes, starts, numbers);
+        c = next_piece(c, fd, w, name, buf, bytes, numbers);
         if !goes_on(c) {
             return c;
         }
@@ -115,7 +113,6 @@ fn of_length(
     w: Window,
     name: &[u8],
     bytes: &mut [u8],
-    starts: &mut [usize],
     numbers: &mut [u64],
 ) -> Course {
     let start = begun(file::length(size));
@@ -123,23 +120,17 @@ fn of_length(
         return unread(start, name, b": finding its length");
     }
     let mut buf = io::large_buffer();
-    let c = walked(start, fd, w, name, &mut buf, bytes, starts, numbers);
+    let c = walked(start, fd, w, name, &mut buf, bytes, numbers);
     judged(c, name)
 }
 
-pub fn read(
-    name: &[u8],
-    w: Window,
-    bytes: &mut [u8],
-    starts: &mut [usize],
-    numbers: &mut [u64],
-) -> Course {
+pub fn read(name: &[u8], w: Window, bytes: &mut [u8], numbers: &mut [u64]) -> Course {
     let fd = os::open_read(name);
     if fd < 0 {
         return unread(begun(0), name, b"");
     }
     let size = libc::lseek(fd, 0, libc::SEEK_END);
-    let c = of_length(fd, size, w, name, bytes, starts, numbers);
+    let c = of_length(fd, size, w, name, bytes, numbers);
     libc::close(fd);
     c
 }

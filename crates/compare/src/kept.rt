@@ -1,5 +1,4 @@
-// The records of a log that are compared: their bytes, one behind the other, are a log themselves. Beside them stand where each begins in it, and its number
-// in the file, from 1.
+// The records of a log that are compared: their bytes, one behind the other, are a log themselves. Beside them stands the number of each in the file, from 1.
 use crate::window;
 use crate::window::Window;
 use compare_rules::MOST;
@@ -21,33 +20,19 @@ pub fn none() -> Kept {
     }
 }
 
-fn note_start(starts: &mut [usize], i: usize, start: usize) {
-    if i < starts.len() {
-        starts[i] = start;
-    }
-}
-
 fn note_number(numbers: &mut [u64], i: usize, number: u64) {
     if i < numbers.len() {
         numbers[i] = number;
     }
 }
 
-fn stored(
-    k: Kept,
-    record: &[u8],
-    number: u64,
-    bytes: &mut [u8],
-    starts: &mut [usize],
-    numbers: &mut [u64],
-) -> Kept {
+fn stored(k: Kept, record: &[u8], number: u64, bytes: &mut [u8], numbers: &mut [u64]) -> Kept {
     let chosen = wrapping_add_u64(k.chosen, 1);
     let pen = k.pen;
     if chosen > (MOST as u64) + 1 {
         return Kept { chosen, pen };
     }
     let i = k.chosen as usize;
-    note_start(starts, i, pen.at);
     note_number(numbers, i, number);
     let p = text_pen::put(bytes, pen, record);
     Kept { chosen, pen: p }
@@ -73,14 +58,13 @@ pub fn with(
     at: usize,
     number: u64,
     bytes: &mut [u8],
-    starts: &mut [usize],
     numbers: &mut [u64],
 ) -> Kept {
     match found {
         Found::Record(e) => {
             let next = e.next;
             if window::holds(w, e.time) {
-                return stored(k, part(piece, at, next), number, bytes, starts, numbers);
+                return stored(k, part(piece, at, next), number, bytes, numbers);
             }
             k
         }

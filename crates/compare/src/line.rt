@@ -47,23 +47,33 @@ fn put_record(bytes: &[u8], at: usize, out: &mut [u8], pen: Pen) -> Pen {
     }
 }
 
-// ` N LINE` of the record that is kept at place i, from 0
-pub fn put_numbered(
-    bytes: &[u8],
-    starts: &[usize],
-    numbers: &[u64],
-    i: usize,
-    out: &mut [u8],
-    pen: Pen,
-) -> Pen {
-    if i >= starts.len() {
-        return pen;
+fn next_of(found: Found, at: usize) -> usize {
+    match found {
+        Found::Record(e) => e.next,
+        Found::End => at,
+        Found::Cut(_) => at,
+        Found::Refused(_, _) => at,
     }
+}
+
+// Where the record at place i begins, from 0.
+fn start_of(bytes: &[u8], i: usize) -> usize {
+    let mut at: usize = 0;
+    let mut k: usize = 0;
+    while k < i {
+        at = next_of(log_read::record_at(bytes, at), at);
+        k += 1;
+    }
+    at
+}
+
+// ` N LINE` of the record that is kept at place i, from 0
+pub fn put_numbered(bytes: &[u8], numbers: &[u64], i: usize, out: &mut [u8], pen: Pen) -> Pen {
     if i >= numbers.len() {
         return pen;
     }
     let p = text_pen::put(out, pen, b" ");
     let q = text_written::put_decimal(out, p, numbers[i]);
     let r = text_pen::put(out, q, b" ");
-    put_record(bytes, starts[i], out, r)
+    put_record(bytes, start_of(bytes, i), out, r)
 }

@@ -24,48 +24,27 @@ fn usage() {
     );
 }
 
-fn with_second(
-    x: Kept,
-    first: &[u8],
-    bytes: &[u8],
-    starts: &[usize],
-    numbers: &[u64],
-    second: &[u8],
-    w: Window,
-) {
+fn with_second(x: Kept, first: &[u8], bytes: &[u8], numbers: &[u64], second: &[u8], w: Window) {
     let mut bytes2 = io::large_buffer();
-    let mut starts2 = [0usize; MOST];
     let mut numbers2 = [0u64; MOST];
-    let c = file::read(second, w, &mut bytes2, &mut starts2, &mut numbers2);
+    let c = file::read(second, w, &mut bytes2, &mut numbers2);
     if c.failed {
         return;
     }
     let y = c.kept;
-    verdict::say(
-        x,
-        first,
-        bytes,
-        starts,
-        numbers,
-        y,
-        second,
-        &bytes2,
-        &starts2,
-        &numbers2,
-    );
+    verdict::say(x, first, bytes, numbers, y, second, &bytes2, &numbers2);
 }
 
 // 02: "At each step the first log comes first": a broken one is told before the second is looked at.
 fn run(first: &[u8], second: &[u8], w: Window) {
     let mut bytes = io::large_buffer();
-    let mut starts = [0usize; MOST];
     let mut numbers = [0u64; MOST];
-    let c = file::read(first, w, &mut bytes, &mut starts, &mut numbers);
+    let c = file::read(first, w, &mut bytes, &mut numbers);
     if c.failed {
         return;
     }
     let x = c.kept;
-    with_second(x, first, &bytes, &starts, &numbers, second, w);
+    with_second(x, first, &bytes, &numbers, second, w);
 }
 
 fn between(first: &[u8], second: &[u8]) {

@@ -12,14 +12,7 @@ pub struct Course {
 }
 
 // One record further. Its number in the file is how many there are with it.
-fn stepped(
-    c: Course,
-    w: Window,
-    piece: &[u8],
-    bytes: &mut [u8],
-    starts: &mut [usize],
-    numbers: &mut [u64],
-) -> Course {
+fn stepped(c: Course, w: Window, piece: &[u8], bytes: &mut [u8], numbers: &mut [u64]) -> Course {
     let walk = c.walk;
     let k = c.kept;
     let at = log_walk::place(walk);
@@ -27,7 +20,7 @@ fn stepped(
     let after = s.walk;
     let found = s.found;
     let number = after.records;
-    let kept = kept::with(k, found, w, piece, at, number, bytes, starts, numbers);
+    let kept = kept::with(k, found, w, piece, at, number, bytes, numbers);
     Course {
         walk: after,
         kept,
@@ -40,13 +33,12 @@ pub fn records_in(
     w: Window,
     piece: &[u8],
     bytes: &mut [u8],
-    starts: &mut [usize],
     numbers: &mut [u64],
 ) -> Course {
     let mut c = start;
     let mut turns = u64::MAX;
     while turns > 0 {
-        c = stepped(c, w, piece, bytes, starts, numbers);
+        c = stepped(c, w, piece, bytes, numbers);
         if !log_walk::is_within(c.walk) {
             return c;
         }

@@ -9,7 +9,6 @@ fn put_one(
     side: &[u8],
     number: u32,
     bytes: &[u8],
-    starts: &[usize],
     numbers: &[u64],
     out: &mut [u8],
     pen: Pen,
@@ -20,7 +19,7 @@ fn put_one(
     let p = paper::with_room(out, pen);
     let q = text_pen::put(out, p, side);
     let i = (number - 1) as usize;
-    let r = line::put_numbered(bytes, starts, numbers, i, out, q);
+    let r = line::put_numbered(bytes, numbers, i, out, q);
     answer::line_end(out, r)
 }
 
@@ -28,7 +27,6 @@ pub fn put_all(
     side: &[u8],
     list: &[u32],
     bytes: &[u8],
-    starts: &[usize],
     numbers: &[u64],
     out: &mut [u8],
     pen: Pen,
@@ -38,7 +36,7 @@ pub fn put_all(
     while i < list.len() {
         let number = list[i];
         i += 1;
-        p = put_one(side, number, bytes, starts, numbers, out, p);
+        p = put_one(side, number, bytes, numbers, out, p);
     }
     p
 }

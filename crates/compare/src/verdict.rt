@@ -18,14 +18,6 @@ fn first_of(list: &[u32], n: usize) -> &[u32] {
     &list[0..n]
 }
 
-// How many records were kept that the library took.
-fn count_of(k: Kept) -> usize {
-    if k.chosen > MOST as u64 {
-        return MOST;
-    }
-    k.chosen as usize
-}
-
 // `compared N and M records`
 fn put_counts(n: u64, m: u64, out: &mut [u8], pen: Pen) -> Pen {
     let p = text_pen::put(out, pen, b"compared ");
@@ -57,10 +49,8 @@ fn put_lists(
     first: &[u32],
     second: &[u32],
     bytes: &[u8],
-    starts: &[usize],
     numbers: &[u64],
     bytes2: &[u8],
-    starts2: &[usize],
     numbers2: &[u64],
     out: &mut [u8],
 ) -> Pen {
@@ -68,12 +58,11 @@ fn put_lists(
         b"first",
         first,
         bytes,
-        starts,
         numbers,
         out,
         Pen { at: 0, full: false },
     );
-    surplus::put_all(b"second", second, bytes2, starts2, numbers2, out, p)
+    surplus::put_all(b"second", second, bytes2, numbers2, out, p)
 }
 
 // The last lines, behind all others.
@@ -90,38 +79,14 @@ fn listed(
     places: [u32; CHANNELS],
     x: Kept,
     bytes: &[u8],
-    starts: &[usize],
     numbers: &[u64],
     y: Kept,
     bytes2: &[u8],
-    starts2: &[usize],
     numbers2: &[u64],
 ) {
     let mut out = io::large_buffer();
-    let p = put_lists(
-        first,
-        second,
-        bytes,
-        starts,
-        numbers,
-        bytes2,
-        starts2,
-        numbers2,
-        &mut out,
-    );
-    let c = channels::put_all(
-        places,
-        bytes,
-        starts,
-        numbers,
-        count_of(x),
-        bytes2,
-        starts2,
-        numbers2,
-        count_of(y),
-        &mut out,
-        p,
-    );
+    let p = put_lists(first, second, bytes, numbers, bytes2, numbers2, &mut out);
+    let c = channels::put_all(places, bytes, numbers, bytes2, numbers2, &mut out, p);
     let q = c.pen;
     finish(
         x.chosen,
@@ -146,12 +111,10 @@ pub fn say(
     x: Kept,
     name: &[u8],
     bytes: &[u8],
-    starts: &[usize],
     numbers: &[u64],
     y: Kept,
     name2: &[u8],
     bytes2: &[u8],
-    starts2: &[usize],
     numbers2: &[u64],
 ) {
     let a = front(bytes, x.pen.at);
@@ -169,11 +132,9 @@ pub fn say(
             places,
             x,
             a,
-            starts,
             numbers,
             y,
             b,
-            starts2,
             numbers2,
         ),
         Compared::Refused { why, side, at: _ } => {

@@ -1,23 +1,20 @@
--- `compare::channels::kept_at`: each kept record takes a turn.
+-- `compare::channels::kept_at`: each of the 512 records that may be kept takes a turn.
 use Prim.Native.Nat.{_-_, _≤_}
 use borrow.Author.Needs.{needs}
 use Rattle.compare.proofs.channels.kept_at.Statement.{statement}
 use Rattle.compare.proofs.channels.kept_at.Tie as tie
 
 abbrev Inv-loop : tie.InvT-loop
-Inv-loop bytes starts count channel place left₀ i₀ left i = i ≤ count
+Inv-loop bytes channel place l₀ i₀ l i = i ≤ 512
 
 abbrev μ-loop : tie.MeasureT-loop
-μ-loop bytes starts count channel place left₀ i₀ left i = count - i
+μ-loop bytes channel place l₀ i₀ l i = 512 - i
 
 loop-holds : tie.Need-loop-holds Inv-loop μ-loop
 loop-holds c = search needs
 
-is-on-requires : tie.Need-is-on-requires Inv-loop μ-loop
-is-on-requires c κs = search needs
-
-left-behind-requires : tie.Need-left-behind-requires Inv-loop μ-loop
-left-behind-requires c κs = search needs
+further-requires : tie.Need-further-requires Inv-loop μ-loop
+further-requires c κs = search needs
 
 returns : tie.Need-returns Inv-loop μ-loop
 returns c = search needs
@@ -41,8 +38,7 @@ kept-at-spec =
     Inv-loop
     μ-loop
     loop-holds
-    is-on-requires
-    left-behind-requires
+    further-requires
     returns
     add-i
     loop-less

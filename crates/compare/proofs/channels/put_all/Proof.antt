@@ -7,15 +7,18 @@ use Rattle.compare.proofs.channels.put_all.Statement.{statement}
 use Rattle.compare.proofs.channels.put_all.Tie as tie
 
 abbrev Inv-loop : tie.InvT-loop
-Inv-loop bytes starts numbers count bytes2 starts2 numbers2 count2 out₀ places x₀ channel₀ out x channel =
+Inv-loop bytes numbers bytes2 numbers2 out₀ places x₀ channel₀ out x channel =
     (channel ≤ 32) × (length out ≡ length out₀)
 
 abbrev μ-loop : tie.MeasureT-loop
-μ-loop bytes starts numbers count bytes2 starts2 numbers2 count2 out₀ places x₀ channel₀ out x channel =
+μ-loop bytes numbers bytes2 numbers2 out₀ places x₀ channel₀ out x channel =
     32 - channel
 
 loop-holds : tie.Need-loop-holds Inv-loop μ-loop
 loop-holds c = search needs
+
+cast-put-one : tie.Need-cast-put-one Inv-loop μ-loop
+cast-put-one c = search needs
 
 mul-put-one : tie.Need-mul-put-one Inv-loop μ-loop
 mul-put-one c = search needs
@@ -48,6 +51,7 @@ put-all-spec =
     Inv-loop
     μ-loop
     loop-holds
+    cast-put-one
     mul-put-one
     array-read-put-one
     put-one-requires

@@ -6,10 +6,10 @@ use Rattle.compare.proofs.piece.records_in.Statement.{statement}
 use Rattle.compare.proofs.piece.records_in.Tie as tie
 
 abbrev Inv-loop : tie.InvT-loop
-Inv-loop w piece bytes₀ starts₀ numbers₀ c₀ turns₀ bytes starts numbers c turns = (length bytes ≡ length bytes₀) × (length starts ≡ length starts₀) × (length numbers ≡ length numbers₀)
+Inv-loop w piece bytes₀ numbers₀ c₀ turns₀ bytes numbers c turns = (length bytes ≡ length bytes₀) × (length numbers ≡ length numbers₀)
 
 abbrev μ-loop : tie.MeasureT-loop
-μ-loop w piece bytes₀ starts₀ numbers₀ c₀ turns₀ bytes starts numbers c turns = turns
+μ-loop w piece bytes₀ numbers₀ c₀ turns₀ bytes numbers c turns = turns
 
 loop-holds : tie.Need-loop-holds Inv-loop μ-loop
 loop-holds c = search needs
@@ -26,9 +26,6 @@ same-length c = search needs
 same-length-2 : tie.Need-same-length-2 Inv-loop μ-loop
 same-length-2 c = search needs
 
-same-length-3 : tie.Need-same-length-3 Inv-loop μ-loop
-same-length-3 c = search needs
-
 returns : tie.Need-returns Inv-loop μ-loop
 returns c = search needs
 
@@ -41,14 +38,11 @@ loop-less c = search needs
 loop-again : tie.Need-loop-again Inv-loop μ-loop
 loop-again c = search needs
 
+same-length-3 : tie.Need-same-length-3 Inv-loop μ-loop
+same-length-3 c = search needs
+
 same-length-4 : tie.Need-same-length-4 Inv-loop μ-loop
 same-length-4 c = search needs
-
-same-length-5 : tie.Need-same-length-5 Inv-loop μ-loop
-same-length-5 c = search needs
-
-same-length-6 : tie.Need-same-length-6 Inv-loop μ-loop
-same-length-6 c = search needs
 
 returns-2 : tie.Need-returns-2 Inv-loop μ-loop
 returns-2 c = search needs
@@ -64,12 +58,10 @@ records-in-spec =
     is-within-requires
     same-length
     same-length-2
-    same-length-3
     returns
     sub-turns
     loop-less
     loop-again
+    same-length-3
     same-length-4
-    same-length-5
-    same-length-6
     returns-2)

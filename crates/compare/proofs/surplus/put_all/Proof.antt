@@ -7,10 +7,10 @@ use Rattle.compare.proofs.surplus.put_all.Statement.{statement}
 use Rattle.compare.proofs.surplus.put_all.Tie as tie
 
 abbrev Inv-loop : tie.InvT-loop
-Inv-loop side list bytes starts numbers out₀ p₀ i₀ out p i = (i ≤ length list) × (length out ≡ length out₀)
+Inv-loop side list bytes numbers out₀ p₀ i₀ out p i = (i ≤ length list) × (length out ≡ length out₀)
 
 abbrev μ-loop : tie.MeasureT-loop
-μ-loop side list bytes starts numbers out₀ p₀ i₀ out p i = length list - i
+μ-loop side list bytes numbers out₀ p₀ i₀ out p i = length list - i
 
 loop-holds : tie.Need-loop-holds Inv-loop μ-loop
 loop-holds c = search needs
