@@ -12,3 +12,4 @@ pub mod Stays
 pub mod Swaps
 pub mod CompareWords
 pub mod Nights
+pub mod NightLogs

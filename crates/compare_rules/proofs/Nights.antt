@@ -1,51 +1,43 @@
--- The laws of a comparison on two logs: a frame and three ticks against a tick and another frame, on channels 0 and 1.
-use Prim.Native.Nat.{ℕ, _+_, _≤_, _<_}
+-- The laws of a comparison on two lists of records: a frame and three ticks against a tick and another frame, on channels 0 and 1.
+use Prim.Native.Nat.{ℕ, _≤_, min}
 use native.Mathlib.Omega.{arith}
-use mathlib.Core.Path.{_≡_, refl, ap, ap₂, _∙_}
-use mathlib.Core.Logic.{inl, inr}
+use mathlib.Core.Path.{_≡_, refl}
 use mathlib.Core.Bool.{true}
-use mathlib.Core.Option.{none}
-use mathlib.Core.List.{List, [], _∷_, _++_}
-use lib.ListN.{length, take, drop, replicate, length-replicate}
-use lib.Dec.{ltb}
-use Rattle.refusals.specs.declared.Refusal.the-variants.{CompareLog, CompareRecords, CompareRoom}
-use Rattle.log_numbers.specs.Number.{groups, readGroups}
-use Rattle.log_records.specs.Record.{Rec, tick, frame, AllLoggable, recordBytes, logBytes}
-use Rattle.log_records.specs.Reading.{recordsIn, readFrom, recordAt, timePart, channelPart, identifierPart, lengthPart, logOf}
-use Rattle.compare_rules.specs.declared.Compared.{Compared}
-use Rattle.compare_rules.specs.declared.Compared.the-variants.{Listed, Refused}
+use mathlib.Core.List.{List, [], _∷_}
+use lib.ListN.{length, getD}
+use Rattle.log_records.specs.Record.{Rec, tick, frame, AllLoggable, recordBytes}
 use Rattle.compare_rules.specs.Records.{same, sameBytes}
-use Rattle.compare_rules.specs.Surplus.{countOf, surplusFrom, surplusOf, takenOut, Stands, SurplusRecord, Ascends}
+use Rattle.compare_rules.specs.Surplus.{countOf, surplusFrom, surplusOf, takenOut, Stands, Ascends}
 use Rattle.compare_rules.specs.Places.{onChannel, differ, placeOn, placesFrom, placesOf, SameOnEach, NothingFound}
-use Rattle.compare_rules.specs.Compare.{recordsOf, brokenAt, listedOf, comparedOf, firstAfter, secondAfter, placesAfter}
-use Rattle.compare_rules.specs.Cases.{Taken}
-use Rattle.compare_rules.specs.Words.{comparedFor, comparedOutcome, comparedWord, withNumbers}
-use Rattle.plain_words.specs.Words.{isAccepted}
-use Rattle.compare_rules.proofs.Lists.{listed-surplus, surplus-listed, ascends}
-use Rattle.compare_rules.proofs.Remains.{same-left}
-use Rattle.compare_rules.proofs.Firsts.{FirstApart, place-first}
-use Rattle.compare_rules.proofs.Nothing.{nothing, nothing-found, found-nothing, as-often}
-use Rattle.compare_rules.proofs.Cases.{refused-26, refused-27, refused-28, taken-is, refused-nothing}
-use Rattle.compare_rules.proofs.Written.{written-sound, written-records, piece-broken, all-alike}
-use Rattle.compare_rules.proofs.Stays.{first-holds}
-use Rattle.compare_rules.proofs.Swaps.{swap-answer, swap-first, swap-places}
-use Rattle.compare_rules.proofs.CompareWords.{compare-told, compare-refused}
+use Rattle.compare_rules.proofs.Sames.{rec-refl, rec-same, by-bytes}
+use Rattle.compare_rules.proofs.Lists.{listed-surplus, surplus-listed, ascends, few-listed}
+use Rattle.compare_rules.proofs.Remains.{smaller, same-left}
+use Rattle.compare_rules.proofs.Differs.{none-place, place-none, places-swap, nowhere}
+use Rattle.compare_rules.proofs.Firsts.{FirstApart, place-first, first-place, place-of-channel}
+use Rattle.compare_rules.proofs.Nothing.{nothing, nothing-found, found-nothing, no-place, as-often}
 
 -- a tick at 300 on channel 0, and two frames of Advantics_Controller_Status on channel 1
-abbrev t : Rec
+abbrev pub t : Rec
 t = tick 300 0
 
-abbrev f : Rec
+abbrev pub f : Rec
 f = frame 300 1 true 438272 (1 ∷ [])
 
-abbrev g : Rec
+abbrev pub g : Rec
 g = frame 300 1 true 438272 (2 ∷ [])
 
-abbrev own : List Rec
+abbrev pub own : List Rec
 own = f ∷ t ∷ t ∷ t ∷ []
 
-abbrev other : List Rec
+abbrev pub other : List Rec
 other = t ∷ g ∷ []
+
+-- the frames differ in a payload byte, and so do their bytes
+pub night-frames : sameBytes (recordBytes f) (recordBytes g) ≡ same f g
+night-frames = by-bytes f g (omega arith, omega arith, omega arith, omega arith) (omega arith, omega arith, omega arith, omega arith)
+
+pub night-equal : t ≡ t
+night-equal = rec-same t t (rec-refl t)
 
 -- the third tick is the fourth record: two of the three are surplus, and it is one of them
 pub night-stands : Stands 4 (surplusOf own other)
@@ -60,6 +52,13 @@ night-kept h = omega (arith, listed-surplus own other 2 h .2)
 pub night-ascends : Ascends 0 (surplusOf own other)
 night-ascends = ascends own other
 
+pub night-few : length (surplusOf own other) ≤ 4
+night-few = few-listed own other
+
+-- of three ticks and one, one stays
+pub night-smaller : countOf t (takenOut (surplusOf own other) 0 own) ≡ min (countOf t own) (countOf t other)
+night-smaller = smaller own other t
+
 -- one tick is left in both, and neither frame
 pub night-left : countOf t (takenOut (surplusOf own other) 0 own) ≡ countOf t (takenOut (surplusOf other own) 0 other)
 night-left = same-left own other t
@@ -69,7 +68,28 @@ pub night-places : FirstApart 1 (onChannel 0 own) (onChannel 0 other) × FirstAp
 unfolding differ onChannel same sameBytes
 night-places = (place-first 0 1 own other refl, place-first 1 0 own other refl)
 
+-- and these say where the places are
+pub night-firsts : (placeOn 0 own other ≡ 2) × (placeOn 1 own other ≡ 1)
+night-firsts = (first-place 0 1 own other (night-places .0), first-place 1 0 own other (night-places .1))
+
+pub night-place : getD (placesOf own other) 1 0 ≡ placeOn 1 own other
+night-place = place-of-channel own other 1 (omega arith)
+
+pub night-swap : placesOf own other ≡ placesOf other own
+night-swap = places-swap own other
+
+-- channel 2 has no record in either
+pub night-none : placeOn 2 own other ≡ 0
+unfolding onChannel
+night-none = none-place 2 own other refl
+
+pub night-none-back : onChannel 2 own ≡ onChannel 2 other
+night-none-back = place-none 2 own other night-none
+
 -- a log against itself
+pub night-nowhere : placeOn 0 own own ≡ 0
+night-nowhere = nowhere 0 own
+
 pub night-same : surplusOf own own ≡ []
 night-same = nothing own
 
@@ -91,99 +111,8 @@ night-order = found-nothing own mixed loggable-own loggable-mixed (refl, refl, r
 pub night-nothing : NothingFound own mixed
 night-nothing = nothing-found own mixed loggable-own loggable-mixed night-order
 
+pub night-alone : SameOnEach own mixed
+night-alone = no-place own mixed loggable-own loggable-mixed (night-nothing .2)
+
 pub night-often : countOf t own ≡ countOf t mixed
 night-often = as-often own mixed loggable-own loggable-mixed night-order t (omega arith)
-
--- ---- as bytes
-
-abbrev one : List ℕ
-one = 172 ∷ 2 ∷ 1 ∷ 129 ∷ 192 ∷ 53 ∷ 1 ∷ 1 ∷ 172 ∷ 2 ∷ 0 ∷ 0 ∷ 9 ∷ 172 ∷ 2 ∷ 0 ∷ 0 ∷ 9 ∷ 172 ∷ 2 ∷ 0 ∷ 0 ∷ 9 ∷ []
-
-abbrev two : List ℕ
-two = 172 ∷ 2 ∷ 0 ∷ 0 ∷ 9 ∷ 172 ∷ 2 ∷ 1 ∷ 129 ∷ 192 ∷ 53 ∷ 1 ∷ 2 ∷ []
-
-sound : (brokenAt (logOf one) ≡ none) × (brokenAt (logOf two) ≡ none) × (recordsOf one ≡ own) × (recordsOf two ≡ other)
-unfolding brokenAt recordsIn readFrom recordAt timePart channelPart identifierPart lengthPart readGroups
-sound = (refl, refl, refl, refl)
-
-few : (length (recordsOf one) ≡ 4) × (length (recordsOf two) ≡ 2)
-few = (ap length (sound .2), ap length (sound .3))
-
-taken : (x y z : ℕ) → 512 ≤ x → 512 ≤ y → 32 ≤ z → Taken one two x y z
-taken x y z hx hy hz = ((((sound .0, sound .1), omega (arith, few .0), omega (arith, few .1)), hx, hy), hz)
-
-counts : (length (surplusOf own other) ≡ 3) × (length (surplusOf other own) ≡ 1)
-unfolding surplusFrom countOf same sameBytes
-counts = (refl, refl)
-
--- the frame and two ticks against the other frame
-pub night-answer : comparedOf one two 512 512 32 ≡ Listed 3 1
-night-answer =
-    taken-is one two 512 512 32 (taken 512 512 32 (omega arith) (omega arith) (omega arith))
-    ∙ ap₂ (λ (a b : List Rec). listedOf a b) (sound .2) (sound .3) ∙ ap₂ Listed (counts .0) (counts .1)
-
-pub night-swapped : comparedOf two one 512 512 32 ≡ Listed 1 3
-night-swapped = swap-answer one two 512 512 32 3 1 night-answer
-
-abbrev held : List ℕ
-held = replicate 512 7
-
-pub night-lists : firstAfter two one (comparedOf two one 512 512 32) held ≡ secondAfter one two (comparedOf one two 512 512 32) held
-night-lists = swap-first one two 512 512 32 3 1 night-answer held
-
-pub night-channels : placesAfter two one (comparedOf two one 512 512 32) held ≡ placesAfter one two (comparedOf one two 512 512 32) held
-night-channels = swap-places one two 512 512 32 3 1 night-answer held
-
-pub night-first : firstAfter one two (comparedFor one two held held held) held ≡ surplusOf own other ++ drop 3 held
-night-first =
-    first-holds one two held held held (taken (length held) (length held) (length held) (omega (arith, many)) (omega (arith, many)) (omega (arith, many)))
-    ∙ ap₂ (λ (a b : List Rec). surplusOf a b ++ drop (length (surplusOf a b)) held) (sound .2) (sound .3)
-    ∙ ap (λ (k : ℕ). surplusOf own other ++ drop k held) (counts .0)
-  where
-    many : length held ≡ 512
-    many = length-replicate {A = ℕ} 512 7
-
--- ---- refused
-
--- 600 ticks, and then the first two bytes of another: 26, however many records there are and whatever is lent
-abbrev long : List ℕ
-long = logBytes (replicate 600 t) ++ take 2 (recordBytes t)
-
-two-bytes : 2 < length (recordBytes t)
-unfolding recordBytes groups
-two-bytes = omega arith
-
-pub night-26 : comparedOf long two 0 0 0 ≡ Refused CompareLog 1 (length (logBytes (replicate 600 t)))
-night-26 =
-    refused-26 long two 0 0 0 1 (length (logBytes (replicate 600 t))) .1
-    (inl (refl, piece-broken t 2 (omega arith) two-bytes (replicate 600 t) (all-alike t (omega arith, omega arith) 600) (omega arith, omega arith)))
-
--- 513 ticks: 27, before the lists
-abbrev full : List ℕ
-full = logBytes (replicate 513 t)
-
-ticks : AllLoggable (replicate 513 t)
-ticks = all-alike t (omega arith, omega arith) 513
-
-pub night-27 : comparedOf full two 0 0 0 ≡ Refused CompareRecords 1 0
-night-27 =
-    refused-27 full two 0 0 0 1 .1
-    ((written-sound (replicate 513 t) ticks, sound .1), inl (refl, omega (arith, ap length (written-records (replicate 513 t) ticks), length-replicate {A = Rec} 513 t)))
-
-pub night-28 : comparedOf one two 512 511 32 ≡ Refused CompareRoom 2 0
-night-28 = refused-28 one two 512 511 32 2 .1 (((sound .0, sound .1), omega (arith, few .0), omega (arith, few .1)), inr (refl, omega arith, omega arith))
-
-pub night-stays : firstAfter one two (comparedOf one two 512 511 32) held ≡ held
-night-stays = refused-nothing one two CompareRoom 2 0 night-28 held .0
-
--- ---- the word of the C entry, and what a refusal leaves
-pub night-told : ltb (comparedWord 2 (comparedFor one two held held held)) 65536 ≡ true
-night-told =
-    compare-told one two held held held 2 .told
-    ∙ ap (λ (r : Compared). isAccepted (comparedOutcome 2 r)) (taken-is one two (length held) (length held) (length held) (taken (length held) (length held) (length held) (omega (arith, many)) (omega (arith, many)) (omega (arith, many))))
-  where
-    many : length held ≡ 512
-    many = length-replicate {A = ℕ} 512 7
-
-pub night-refused : withNumbers 1 (firstAfter one two (comparedFor one two held held held) held) held ≡ held
-night-refused = compare-refused one two held held held 1 (omega arith) .0

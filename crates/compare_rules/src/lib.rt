@@ -3,8 +3,9 @@
 //   specs/Surplus.antt    the records that one log has and the other has not, by counting, and their numbers
 //   specs/Places.antt     for each channel the first place where its two sequences differ
 //   specs/Compare.antt    the whole answer: each refusal in 02's order, and what the lent lists and places hold afterwards
-//   specs/Words.antt      the same for C, as a word and two numbers
-// proofs/ has their laws, and proofs/Nights.antt each law on two logs. `compare_logs` and `lent_compare` answer by it.
+//   specs/Cases.antt      each refusal by its case
+//   specs/Words.antt      the answer for C, as a word and two numbers
+// proofs/ has their laws, and each of them on records and on logs (Nights.antt, NightLogs.antt). `compare_logs` and `lent_compare` answer by it.
 use refusals::Refusal;
 
 // How many records stand in each list; or why nothing is listed: of the first log (side 1) or of the second (side 2), 26 with the byte where a record
