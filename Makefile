@@ -1,7 +1,7 @@
 # make run    the March night replayed from its night log: a line for each record, the ending, and every number that occurred in words;
 #             NIGHT=NAME for another of nights/, NIGHT=FILE.log POSTS=FILE for a recording of your own
-# make test   what .ci/run runs: the tables against the maker's documents, the layout of the files, the gate, the C tests, nightlog, replay and the desk
-#             against the second program, recordings of candump, exit statuses, the pages of the nights; its last line is 'N passed, 0 failed'
+# make test   what .ci/run runs: the tables against the maker's documents, the layout of the files, the gate, the C tests, nightlog, replay, compare and
+#             the desk against the second program, recordings of candump, exit statuses, the pages of the nights; its last line is 'N passed, 0 failed'
 # make check  the proofs and the programs, without the must-fail edits
 # make lib    target/lib/librokemaipu.a, and rokemaipu.h and rokemaipu_pages.h beside it, for C and Rust
 # make bench  the library and the replay beside plain C in one run; BEFORE=REVISION, the library beside that revision of itself too
@@ -36,7 +36,7 @@ bench: lib replay
 	@. tests/machine; set -e; \
 	[ -z "$(BEFORE)" ] || bench/before $(BEFORE); \
 	bench/larger; \
-	$$cc -O2 -Wall -Wextra $(if $(BEFORE),-DBEFORE) -Itarget/lib -Ibench bench/bench.c bench/peer.c bench/peer_log.c bench/peer_batch.c target/lib/librokemaipu.a $(if $(BEFORE),target/before/libbefore.a) -o target/lib/bench; \
+	$$cc -O2 -Wall -Wextra $(if $(BEFORE),-DBEFORE) -Itarget/lib -Ibench bench/bench.c bench/peer.c bench/peer_log.c bench/peer_batch.c bench/peer_compare.c target/lib/librokemaipu.a $(if $(BEFORE),target/before/libbefore.a) -o target/lib/bench; \
 	$$cc -O2 -Wall -Wextra -Itarget/lib -Ibench bench/larger.c target/lib/librokemaipu.a target/larger/liblarger.a -o target/larger/larger; \
 	$$cc -O2 -Wall -Wextra -Itarget/lib -Wl,--wrap=memcpy,--wrap=memmove bench/copied.c target/lib/librokemaipu.a -o target/lib/copied; \
 	$$cc -O2 -Wall -Wextra -Itarget/lib -Ibench bench/peer_replay.c bench/peer.c bench/peer_log.c -o target/lib/peer_replay; \

@@ -270,6 +270,60 @@ static void bench_batch(void) {
     printf("   (%" PRIu32 " records, %zu bytes)\n", count, size);
 }
 
+/* ---- two recordings compared: 512 records against 512, beside plain C that does the same in the same order */
+
+typedef struct { uint8_t bytes[ROKEMAIPU_COMPARE_RECORDS * ROKEMAIPU_RECORD_BYTES]; size_t size; } recording;
+
+/* Record k of a recording: a frame of the mix on one of four channels at its own time, every tenth a tick. */
+static void record(recording *r, uint32_t time, uint32_t channel, uint32_t k) {
+    const frame *f = &mix[k % MIX];
+    uint8_t *to = r->bytes + r->size;
+    r->size += k % 10 == 9 ? peer_log_tick(time, channel, to, ROKEMAIPU_RECORD_BYTES) : peer_log_frame(time, channel, f->id, true, f->bytes, f->n, to, ROKEMAIPU_RECORD_BYTES);
+}
+
+typedef uint32_t comparison(const uint8_t *a, size_t size_a, const uint8_t *b, size_t size_b, uint32_t *first, size_t room_first, uint32_t *second, size_t room_second, uint32_t *places, size_t channels, uint64_t *numbers, size_t two);
+typedef struct { uint32_t first[ROKEMAIPU_COMPARE_RECORDS], second[ROKEMAIPU_COMPARE_RECORDS], places[ROKEMAIPU_CHANNELS]; uint64_t numbers[ROKEMAIPU_COMPARED_NUMBERS]; } listing;
+
+static uint32_t compared(comparison *f, const recording *a, const recording *b, listing *l) {
+    return f(a->bytes, a->size, b->bytes, b->size, l->first, ROKEMAIPU_COMPARE_RECORDS, l->second, ROKEMAIPU_COMPARE_RECORDS, l->places, ROKEMAIPU_CHANNELS, l->numbers, ROKEMAIPU_COMPARED_NUMBERS);
+}
+
+static void bench_compare(const char *what, const recording *a, const recording *b) {
+    static comparison *const ways[2] = {rokemaipu_compare, peer_compare};
+    static listing l[2];
+    double best[2] = {1e300, 1e300};
+    memset(l, 0, sizeof l);
+    if (compared(ways[0], a, b, &l[0]) != compared(ways[1], a, b, &l[1]) || memcmp(&l[0], &l[1], sizeof l[0])) differ("compare");
+    for (int again = 0; again < AGAIN / 3; again++)
+        for (int w = 0; w < 2; w++) {
+            double from = now();
+            for (int turn = 0; turn < 4; turn++) sum += compared(ways[w], a, b, &l[w]);
+            double took = (now() - from) / 4;
+            if (took < best[w]) best[w] = took;
+        }
+    printf("compare, %-17s %7.1f us   %7.1f us plain C, %5.2f times   (%" PRIu64 " and %" PRIu64 " listed)\n", what, best[0] / 1e3, best[1] / 1e3, best[0] / best[1], l[0].numbers[0], l[0].numbers[1]);
+}
+
+static void bench_comparisons(void) {
+    enum { N = ROKEMAIPU_COMPARE_RECORDS };
+    static recording a, less, back, other, alone, alike, one;
+    for (uint32_t k = 0; k < N; k++) {
+        record(&a, FIRST + k * APART, k % 4, k), record(&back, FIRST + (N - 1 - k) * APART, (N - 1 - k) % 4, N - 1 - k);
+        record(&other, FIRST + (N + k) * APART, k % 4, k), record(&one, FIRST, 1, 9);
+        if (k) record(&less, FIRST + k * APART, k % 4, k);
+        uint8_t bytes[8] = {(uint8_t)k, (uint8_t)(k >> 8)};
+        alone.size += peer_log_frame(FIRST, 1, 0x6b000, true, bytes, 8, alone.bytes + alone.size, ROKEMAIPU_RECORD_BYTES), bytes[7] = 1;
+        alike.size += peer_log_frame(FIRST, 1, 0x6b000, true, bytes, 8, alike.bytes + alike.size, ROKEMAIPU_RECORD_BYTES);
+    }
+    record(&less, FIRST + N * APART, 0, 9);
+    bench_compare("the same log", &a, &a);
+    bench_compare("one missing", &a, &less);
+    bench_compare("backwards", &a, &back);
+    bench_compare("nothing shared", &a, &other);
+    bench_compare("all at one time", &alone, &alike);
+    bench_compare("one record, 512 x", &one, &one);
+}
+
 int main(void) {
     bench_codec();
     bench_changes();
@@ -279,5 +333,6 @@ int main(void) {
     bench_watch("tick in place, 8 posts", tick, 8, 4 * TURNS, 1);
     bench_log();
     bench_batch();
+    bench_comparisons();
     return sum == 42;
 }

@@ -24,4 +24,5 @@ uint32_t peer_log_frame(uint32_t time, uint32_t channel, uint32_t id, bool exten
 uint32_t peer_log_tick(uint32_t time, uint32_t channel, uint8_t *buffer, size_t room);
 uint32_t peer_log_record(const uint8_t *log, size_t size, size_t at, uint64_t *numbers, size_t places);
 uint32_t peer_batch(rokemaipu_table *t, const uint8_t *records, size_t length, uint32_t *answers, size_t places);
+uint32_t peer_compare(const uint8_t *a, size_t size_a, const uint8_t *b, size_t size_b, uint32_t *first, size_t room_first, uint32_t *second, size_t room_second, uint32_t *places, size_t channels, uint64_t *numbers, size_t two);
 #endif

@@ -42,11 +42,14 @@ extern "C" {
 #define ROKEMAIPU_RECORD_BYTES 20 /* no record of the night log is longer */
 #define ROKEMAIPU_BATCH_BYTES 4096 /* a batch has no more */
 #define ROKEMAIPU_LINE_BYTES 40 /* no line of a replay is longer */
+#define ROKEMAIPU_CHANNELS 32 /* channels 0 to 31 */
+#define ROKEMAIPU_COMPARE_RECORDS 512 /* a log that is compared has no more */
 
 /* ---- answers
  *
  * An answer is one word. Below 65,536 a call was accepted; from there on it is 65,536 plus the number of the refusal, and of refusal 5
- * plus 256 times the start bit of the signal, and nothing was changed: neither the table nor a lent buffer. */
+ * plus 256 times the start bit of the signal, and nothing was changed: neither the table nor a lent buffer (but for the two numbers of
+ * rokemaipu_compare, which tell side and byte of what is refused). */
 #define ROKEMAIPU_REFUSED 65536u
 
 /* The refusal's number of an answer, 0 where it was accepted. */
@@ -83,7 +86,11 @@ enum rokemaipu_refused {
     /* of a batch */
     ROKEMAIPU_R22_BATCH_BYTES = 22,      /* more than 4,096 bytes */
     ROKEMAIPU_R23_BATCH_RECORD = 23,     /* a malformed or cut record */
-    ROKEMAIPU_R24_BATCH_ANSWERS = 24     /* fewer places for answers than records */
+    ROKEMAIPU_R24_BATCH_ANSWERS = 24,    /* fewer places for answers than records */
+    /* of a comparison */
+    ROKEMAIPU_R26_COMPARE_LOG = 26,      /* a log with a malformed or cut record */
+    ROKEMAIPU_R27_COMPARE_RECORDS = 27,  /* a log of more than 512 records */
+    ROKEMAIPU_R28_COMPARE_ROOM = 28      /* a list of fewer than 512 places */
 };
 
 /* Findings of an accepted frame or tick: finding k is bit k - 1 of the answer. */
@@ -348,6 +355,33 @@ uint32_t rokemaipu_log_record(const uint8_t *log, size_t size, size_t at, uint64
  * places than there are records, judged in this order; then neither the table nor answers is changed. That the watch refuses a record
  * refuses no batch. A place for each byte is always enough: a record has four bytes at least. */
 uint32_t rokemaipu_batch(rokemaipu_table *t, const uint8_t *records, size_t length, uint32_t *answers, size_t places);
+
+/* ---- two recordings compared ----
+ *
+ *     uint32_t first[ROKEMAIPU_COMPARE_RECORDS], second[ROKEMAIPU_COMPARE_RECORDS], places[ROKEMAIPU_CHANNELS];
+ *     uint64_t n[ROKEMAIPU_COMPARED_NUMBERS];
+ *     uint32_t answer = rokemaipu_compare(a, size_a, b, size_b, first, ROKEMAIPU_COMPARE_RECORDS, second, ROKEMAIPU_COMPARE_RECORDS,
+ *                                         places, ROKEMAIPU_CHANNELS, n, ROKEMAIPU_COMPARED_NUMBERS);
+ *     if (rokemaipu_refusal(answer)) ..                       n[0] is the side, 1 or 2, and n[1] of 26 the byte
+ *     else for (size_t k = 0; k < n[0]; k++) ..               record first[k] of a, counted from 1, is not in b */
+
+/* What a comparison tells beside its word. */
+enum rokemaipu_compared {
+    ROKEMAIPU_COMPARED_FIRST = 0,  /* how many records of the first log are listed; refused, the side: 1, 2, or 0 of refusal 8 */
+    ROKEMAIPU_COMPARED_SECOND = 1, /* how many of the second; refused with 26, the byte where the malformed or cut record begins, else 0 */
+    ROKEMAIPU_COMPARED_NUMBERS = 2 /* how many they are */
+};
+
+/* Compares two logs, of any length in bytes. Puts into first the numbers of the records that the first log has and the second has not, counting
+ * repeats, and into second those of the other way round: from 1 in that log's order over all channels, ascending, of repeats the later ones. Puts
+ * into places[c] the first place, from 1 within channel c, where the two sequences of channel c differ (the place after the shorter, if that one
+ * only ends), and 0 where they are the same, for each of the ROKEMAIPU_CHANNELS channels. Records are the same only in all parts. Answers 0, with
+ * the two counts in numbers; the places behind what was found stay as they were.
+ * Refuses with 8 where numbers has fewer than ROKEMAIPU_COMPARED_NUMBERS places, before anything else, and nothing is written. Then with 26 a log
+ * with a malformed or cut record, however many stand before it; then with 27 a log of more than ROKEMAIPU_COMPARE_RECORDS records; then with 28 a
+ * list of fewer than ROKEMAIPU_COMPARE_RECORDS places; each of them for the first log before the second; at last with 8 fewer than ROKEMAIPU_CHANNELS
+ * places. Then side and byte are in numbers, and all else is as it was. About 21 KB of stack are used. */
+uint32_t rokemaipu_compare(const uint8_t *a, size_t size_a, const uint8_t *b, size_t size_b, uint32_t *first, size_t room_first, uint32_t *second, size_t room_second, uint32_t *places, size_t channels, uint64_t *numbers, size_t two);
 
 /* ---- replay of a night log: a line for each record, one a call ----
  *

@@ -200,7 +200,7 @@ mod tests {
     #[test]
     fn each_slip_is_found_and_shrunk() {
         for name in slips::names() {
-            match against(|| slips::desk(name).unwrap(), &plan(1..5)) {
+            match against(|| slips::desk(name).unwrap(), &plan(1..9)) {
                 Verdict::Agreed(_) => panic!("{name} was not found"),
                 Verdict::Differs(found) => {
                     let (lines, bytes) = (found.shortest.len(), joined(&found.shortest).len());
@@ -212,6 +212,8 @@ mod tests {
                         Some(("replay", _)) => lines <= 3 && bytes <= 100,
                         // A batch of the largest size cannot be made smaller.
                         Some(("batch", _)) => lines <= 4,
+                        // Neither can two logs around 512 records.
+                        Some(("compare", _)) => lines == 1,
                         _ => lines <= 6,
                     };
                     assert!(few, "{name}: {lines} lines, {bytes} bytes");

@@ -5,13 +5,14 @@ use std::fmt;
 
 use crate::batch_coverage;
 use crate::posts::Table;
+use crate::recordings_coverage;
 use crate::replay_coverage;
 use crate::safety_coverage;
 use crate::sensor_coverage;
 
-const WORDS: [&[u8]; 15] = [
+const WORDS: [&[u8]; 16] = [
     b"setup", b"release", b"frame", b"tick", b"record", b"read", b"change", b"write", b"explain", b"logr", b"logw",
-    b"replay", b"batch", b"probe", b"duty",
+    b"replay", b"batch", b"compare", b"probe", b"duty",
 ];
 
 const REFUSALS: std::ops::RangeInclusive<u32> = 1..=15;
@@ -37,6 +38,7 @@ pub struct Coverage {
     safety: BTreeMap<String, u64>,
     replays: BTreeMap<String, u64>,
     batches: BTreeMap<String, u64>,
+    recordings: BTreeMap<String, u64>,
     findings: [u64; 11],
     clean: u64,
     accepted: u64,
@@ -61,6 +63,9 @@ impl Coverage {
         }
         for shown in batch_coverage::shown(step, answer) {
             *self.batches.entry(shown).or_default() += 1;
+        }
+        for shown in recordings_coverage::shown(step, answer) {
+            *self.recordings.entry(shown).or_default() += 1;
         }
         match answer.split_first() {
             Some((b'?', _)) => self.no_step += 1,
@@ -104,6 +109,7 @@ impl Coverage {
         missing.extend(safety_coverage::wanted().into_iter().filter(|shown| !self.safety.contains_key(shown)));
         missing.extend(replay_coverage::wanted().filter(|shown| !self.replays.contains_key(shown)));
         missing.extend(batch_coverage::wanted().filter(|shown| !self.batches.contains_key(shown)));
+        missing.extend(recordings_coverage::wanted().filter(|shown| !self.recordings.contains_key(shown)));
         missing.extend((self.no_step == 0).then(|| "?".to_string()));
         missing.extend((self.no_message == 0).then(|| "X".to_string()));
         missing
@@ -147,6 +153,10 @@ impl fmt::Display for Coverage {
         write!(out, "\nbatches: ")?;
         for shown in batch_coverage::wanted() {
             write!(out, " {} {},", shown.trim_start_matches("batch "), self.batches.get(&shown).unwrap_or(&0))?;
+        }
+        write!(out, "\ncompared:")?;
+        for shown in recordings_coverage::wanted() {
+            write!(out, " {} {},", shown.trim_start_matches("compare "), self.recordings.get(&shown).unwrap_or(&0))?;
         }
         write!(out, "\nother:    accepted {} ? {} X {}", self.accepted, self.no_step, self.no_message)
     }

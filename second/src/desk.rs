@@ -11,6 +11,7 @@ use crate::log_line;
 use crate::pages;
 use crate::posts::{Arrival, Frame, Post, Table};
 use crate::record;
+use crate::recordings::{self, Comparer};
 use crate::replay::{self, Line, Replayer};
 use crate::replay_line;
 use crate::replay_setups;
@@ -21,7 +22,7 @@ use crate::service::{self, Limiter, Probe, Prober};
 /// A longer line is no step.
 pub const LONGEST: usize = 65_535;
 
-/// What stands in the places for a batch's answers before the call, and how many places there can be.
+/// What stands in the places for a batch's answers before the call, and how many places there can be, for a comparison's numbers too.
 pub const UNTOUCHED: u32 = 3_735_928_559;
 pub const MOST_PLACES: u32 = 2048;
 
@@ -35,6 +36,7 @@ pub struct Desk {
     pub replayer: Replayer,
     pub replay_line: Line,
     pub batcher: Batcher,
+    pub comparer: Comparer,
     pub recorder: fn(&Post) -> String,
     pub prober: Prober,
     pub limiter: Limiter,
@@ -51,6 +53,7 @@ impl Desk {
             replayer: replay::replay,
             replay_line: replay::line,
             batcher: batch::batch,
+            comparer: recordings::compare,
             recorder: record::line,
             prober: service::probe,
             limiter: service::limited_duty,
@@ -94,6 +97,7 @@ fn step(desk: &mut Desk, line: &[u8]) -> Option<String> {
         b"logr" => log_read(desk.log_reader, &fields[1..]),
         b"replay" => replay(desk, &fields[1..]),
         b"batch" => batch(desk, &fields[1..]),
+        b"compare" => compare(desk.comparer, &fields[1..]),
         b"read" | b"change" | b"write" | b"explain" => message_step(desk, &fields),
         b"probe" | b"duty" => service_step(desk, &fields),
         b"record" => record(desk, &fields[1..]),
@@ -241,14 +245,29 @@ fn replay(desk: &mut Desk, fields: &[&[u8]]) -> Option<String> {
 fn batch(desk: &mut Desk, fields: &[&[u8]]) -> Option<String> {
     match *fields {
         [records, places] => {
-            let (records, places) = (bytes(records)?, natural(places).filter(|places| *places <= MOST_PLACES)?);
-            let mut answers = vec![UNTOUCHED; places as usize];
+            let (records, places) = (bytes(records)?, room(places)?);
+            let mut answers = vec![UNTOUCHED; places];
             let outcome = (desk.batcher)(&mut desk.table, &records, &mut answers);
             let words: String = answers.iter().map(|word| format!(" {word}")).collect();
             Some(said(outcome, |_| "A".to_string()) + &words)
         }
         _ => None,
     }
+}
+
+fn compare(comparer: Comparer, fields: &[&[u8]]) -> Option<String> {
+    match *fields {
+        [first, second, room1, room2] => {
+            let (first, second, rooms) = (bytes(first)?, bytes(second)?, [room(room1)?, room(room2)?]);
+            Some(recordings::line(comparer([&first, &second], rooms)))
+        }
+        _ => None,
+    }
+}
+
+/// So many places, if there can be.
+fn room(field: &[u8]) -> Option<usize> {
+    natural(field).filter(|places| *places <= MOST_PLACES).map(|places| places as usize)
 }
 
 fn explain_number(field: &[u8]) -> Option<String> {

@@ -28,6 +28,12 @@ mod program;
 #[cfg(test)]
 mod readings;
 mod record;
+mod recordings;
+mod recordings_coverage;
+#[cfg(test)]
+mod recordings_readings;
+mod recordings_shrink;
+mod recordings_slips;
 mod replay;
 mod replay_coverage;
 mod replay_line;

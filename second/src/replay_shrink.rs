@@ -52,7 +52,7 @@ fn write_batch(records: &[u8], places: &[u8]) -> Line {
 }
 
 /// The log with another channel in place of one.
-fn moved(bytes: &[u8], old: u32, new: u32) -> Vec<u8> {
+pub fn moved(bytes: &[u8], old: u32, new: u32) -> Vec<u8> {
     let mut log = log::read(bytes);
     for record in log.records.iter_mut().filter(|record| record.channel == old) {
         record.channel = new;
@@ -92,14 +92,14 @@ fn write(log: &[u8], set_ups: &[Vec<u32>]) -> Line {
 }
 
 /// The records, and behind them what is none.
-fn pieces(bytes: &[u8]) -> Vec<Vec<u8>> {
+pub fn pieces(bytes: &[u8]) -> Vec<Vec<u8>> {
     let log = log::read(bytes);
     let rest = (log.at < bytes.len()).then(|| bytes[log.at..].to_vec());
     log.records.iter().map(log::bytes).chain(rest).collect()
 }
 
 /// Each record earlier, where there are few.
-fn earlier(bytes: &[u8]) -> Vec<Vec<u8>> {
+pub fn earlier(bytes: &[u8]) -> Vec<Vec<u8>> {
     let records = log::read(bytes).records;
     let pieces = pieces(bytes);
     let mut simpler = Vec::new();

@@ -1,5 +1,6 @@
 //! Making a script that shows something shorter, while it still shows it.
 
+use crate::recordings_shrink;
 use crate::replay_shrink;
 
 pub type Line = Vec<u8>;
@@ -99,6 +100,7 @@ fn on_channel(line: &[u8], old: i64, new: i64) -> Line {
         b"frame" | b"tick" => 1,
         b"replay" => return replay_shrink::on_channel(line, old, new).unwrap_or_else(|| line.to_vec()),
         b"batch" => return replay_shrink::batch_on_channel(line, old, new).unwrap_or_else(|| line.to_vec()),
+        b"compare" => return recordings_shrink::on_channel(line, old, new).unwrap_or_else(|| line.to_vec()),
         _ => return line.to_vec(),
     };
     if let Some(channel) = fields.get_mut(place).filter(|channel| decimal(channel) == Some(old)) {
@@ -120,9 +122,10 @@ fn earlier(line: &[u8], by: i64) -> Line {
 fn simplify_replays(script: &mut [Line], shows: &mut dyn FnMut(&[Line]) -> bool) {
     for at in 0..script.len() {
         let mut shown = |script: &[Line]| {
-            let simpler =
+            let replays =
                 replay_shrink::simpler(&script[at]).into_iter().chain(replay_shrink::simpler_batch(&script[at]));
-            simpler.into_iter().find(|line| shows(&with(script, at, line.clone())))
+            let mut simpler = replays.chain(recordings_shrink::simpler(&script[at]));
+            simpler.find(|line| shows(&with(script, at, line.clone())))
         };
         while let Some(line) = shown(script) {
             script[at] = line;

@@ -8,6 +8,7 @@ use crate::label_slips;
 use crate::log_slips;
 use crate::pages::Kind;
 use crate::posts::Post;
+use crate::recordings_slips;
 use crate::replay_slips;
 use crate::rules::{self, limit, live, poor_insulation, powers, under_power, Limits, Rule};
 use crate::safety_slips;
@@ -40,6 +41,7 @@ pub fn names() -> Vec<&'static str> {
     let rules = WRONG_RULES.iter().map(|(name, ..)| *name);
     let early = log_slips::names().chain(label_slips::names()).chain(sensor_slips::names());
     let later = safety_slips::names().chain(replay_slips::names()).chain(batch_slips::names());
+    let later = later.chain(recordings_slips::names());
     rules.chain([SHARED_CLOCK]).chain(early).chain(later).collect()
 }
 
@@ -58,6 +60,7 @@ pub fn desk(name: &str) -> Option<Desk> {
             safety_slips::put_into,
             replay_slips::put_into,
             batch_slips::put_into,
+            recordings_slips::put_into,
         ];
         put.iter().find_map(|put_into| put_into(&mut desk, name))?;
     }

@@ -89,6 +89,11 @@ fn too_few_steps_to_reach_everything_fail() {
         "replay with R5 and its start",
         "replay with a finding",
         "replay of an empty log",
+        "compare of two empty logs",
+        "compare with a surplus of repeats",
+        "compare R26 behind 512 records",
+        "compare R27:2",
+        "compare R28:1",
     ] {
         assert!(missing.split(", ").any(|known| known == outcome), "{outcome}: {missing}");
     }

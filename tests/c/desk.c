@@ -329,6 +329,40 @@ static bool batch_step(void) {
     return putchar('\n'), true;
 }
 
+static void put_numbers(const char *name, const uint32_t *numbers, uint64_t n) {
+    printf(" %s=%s", name, n ? "" : "-");
+    for (uint64_t i = 0; i < n; i++) printf("%s%" PRIu32, i ? "," : "", numbers[i]);
+}
+
+static void put_places(const uint32_t *places) {
+    bool any = false;
+    printf(" chan=");
+    for (int c = 0; c < ROKEMAIPU_CHANNELS; c++)
+        if (places[c]) printf("%s%d:%" PRIu32, any ? "," : "", c, places[c]), any = true;
+    puts(any ? "" : "-");
+}
+
+static bool compare_step(void) {
+    static uint8_t log[LONGEST];
+    static uint32_t first[MOST_PLACES], second[MOST_PLACES], places[ROKEMAIPU_CHANNELS];
+    uint64_t numbers[ROKEMAIPU_COMPARED_NUMBERS];
+    uint32_t room1, room2, word;
+    size_t length;
+    if (!hex(words[1])) return false;
+    memcpy(log, bytes, length = size);
+    if (!hex(words[2]) || !u32(3, &room1) || !u32(4, &room2) || room1 > MOST_PLACES || room2 > MOST_PLACES) return false;
+    word = rokemaipu_compare(log, length, bytes, size, first, room1, second, room2, places, ROKEMAIPU_CHANNELS, numbers, ROKEMAIPU_COMPARED_NUMBERS);
+    if (word >= ROKEMAIPU_REFUSED) {
+        printf("R%" PRIu32 ":%" PRIu64, rokemaipu_refusal(word), numbers[ROKEMAIPU_COMPARED_FIRST]);
+        if (rokemaipu_refusal(word) == ROKEMAIPU_R26_COMPARE_LOG) printf(":%" PRIu64, numbers[ROKEMAIPU_COMPARED_SECOND]);
+        return putchar('\n'), true;
+    }
+    putchar('A');
+    put_numbers("first", first, numbers[ROKEMAIPU_COMPARED_FIRST]);
+    put_numbers("second", second, numbers[ROKEMAIPU_COMPARED_SECOND]);
+    return put_places(places), true;
+}
+
 static bool step(void) {
     uint32_t a, b, c, d, e, f, sensor = ROKEMAIPU_MEASURING, id;
     bool extended;
@@ -348,6 +382,7 @@ static bool step(void) {
     if (is("logr", 1)) return log_read_step();
     if (is("replay", 2)) return replay_step();
     if (is("batch", 2)) return batch_step();
+    if (is("compare", 4)) return compare_step();
     return false;
 }
 

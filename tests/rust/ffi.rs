@@ -9,6 +9,9 @@ pub const SIGNALS: usize = 16;
 pub const RECORD_BYTES: usize = 20;
 pub const BATCH_BYTES: usize = 4096;
 pub const LINE_BYTES: usize = 40;
+pub const CHANNELS: usize = 32;
+pub const COMPARE_RECORDS: usize = 512;
+pub const COMPARED_NUMBERS: usize = 2;
 pub const NUMBERS: usize = 12;
 pub const ENTRY_NUMBERS: usize = 8;
 pub const REFUSED: u32 = 65536;
@@ -112,6 +115,7 @@ extern "C" {
     pub fn rokemaipu_log_tick(time: u32, channel: u32, buffer: *mut u8, room: usize) -> u32;
     pub fn rokemaipu_log_record(log: *const u8, size: usize, at: usize, numbers: *mut u64, places: usize) -> u32;
     pub fn rokemaipu_batch(t: *mut Table, records: *const u8, length: usize, answers: *mut u32, places: usize) -> u32;
+    pub fn rokemaipu_compare(a: *const u8, size_a: usize, b: *const u8, size_b: usize, first: *mut u32, room_first: usize, second: *mut u32, room_second: usize, places: *mut u32, channels: usize, numbers: *mut u64, two: usize) -> u32;
     pub fn rokemaipu_replay_start(r: *mut Replay) -> u32;
     pub fn rokemaipu_replay_set_up(r: *mut Replay, post: u32, channel: u32, voltage: u32, charge: u32, discharge: u32, silence: u32, sensor: u32) -> u32;
     pub fn rokemaipu_replay_line(r: *mut Replay, log: *const u8, size: usize, at: usize, line: *mut u8, room: usize, next: *mut u64, places: usize) -> u32;

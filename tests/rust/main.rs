@@ -111,6 +111,23 @@ fn batch() {
     }
 }
 
+/// Three ticks against one and a tick on another channel: 2 and 3 are surplus, and 2; the shorter of channel 2 ends behind its first.
+fn compare() {
+    let (tick, other) = ([0xac, 0x02, 0x02, 0x00, 0x09], [0xac, 0x02, 0x03, 0x00, 0x09]);
+    let (a, b) = ([tick, tick, tick].concat(), [tick, other].concat());
+    let (mut first, mut second) = ([7u32; COMPARE_RECORDS], [7u32; COMPARE_RECORDS]);
+    let (mut places, mut numbers) = ([7u32; CHANNELS + 1], [7u64; COMPARED_NUMBERS]);
+    let mut call = |a: &[u8], b: &[u8], room: usize| unsafe {
+        let word = rokemaipu_compare(a.as_ptr(), a.len(), b.as_ptr(), b.len(), first.as_mut_ptr(), first.len(), second.as_mut_ptr(), room, places.as_mut_ptr(), places.len(), numbers.as_mut_ptr(), numbers.len());
+        (word, numbers, first[0..3].to_vec(), second[0..2].to_vec(), places[0..4].to_vec(), places[CHANNELS])
+    };
+    let kept = |word, numbers| (word, numbers, vec![7; 3], vec![7; 2], vec![7; 4], 7);
+    assert_eq!(call(&a, &b[..9], 0), kept(REFUSED + 26, [2, 5]));
+    assert_eq!(call(&a, &b, COMPARE_RECORDS - 1), kept(REFUSED + 28, [2, 0]));
+    assert_eq!(call(&a, &tick.repeat(513), 0), kept(REFUSED + 27, [2, 0]));
+    assert_eq!(call(&a, &b, COMPARE_RECORDS), (0, [2, 1], vec![2, 3, 7], vec![2, 7], vec![0, 0, 2, 1], 7));
+}
+
 /// 02's worked replay.
 fn replay() {
     let log = [0xac, 0x02, 0x02, 0x00, 0x09, 0xac, 0x02, 0x03, 0x00, 0x09];
@@ -141,6 +158,7 @@ fn main() {
     frames();
     log();
     batch();
+    compare();
     replay();
-    println!("Rust: sizes, offsets, numbers and functions are the header's; posts, frames, the log, a batch and a replay over the archive");
+    println!("Rust: sizes, offsets, numbers and functions are the header's; posts, frames, the log, a batch, a comparison and a replay over the archive");
 }

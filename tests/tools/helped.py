@@ -18,7 +18,7 @@ def called(tool, *words):
 
 class Helped(unittest.TestCase):
     def test_help(self):
-        self.assertEqual([tool.name for tool in TOOLS], ['candump2log', 'desk', 'lib', 'log2candump', 'night', 'nightlog', 'replay', 'report'])
+        self.assertEqual([tool.name for tool in TOOLS], ['candump2log', 'compare', 'desk', 'lib', 'log2candump', 'night', 'nightlog', 'replay', 'report'])
         for tool in TOOLS:
             status, usage, said = called(tool, '--help')
             self.assertEqual((status, said), (0, ''), tool)
@@ -28,7 +28,7 @@ class Helped(unittest.TestCase):
     def test_wrong_calls(self):
         """Those that ask the program itself are held in statuses.py."""
         for tool in TOOLS:
-            if tool.name not in ('desk', 'nightlog', 'replay'):
+            if tool.name not in ('compare', 'desk', 'nightlog', 'replay'):
                 status, out, said = called(tool, *WRONG)
                 self.assertEqual((status, out), (2, ''), tool)
                 self.assertIn(f'usage: {tool.name}', said)

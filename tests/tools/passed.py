@@ -1,4 +1,4 @@
-"""What passes through tools/nightlog, tools/desk and tools/replay: bytes, dialogues, terminals and signals, as if the program itself were called."""
+"""What passes through tools/nightlog, tools/desk, tools/replay and tools/compare: bytes, dialogues, terminals and signals, as if the program itself were called."""
 import os
 import pty
 import random
@@ -19,7 +19,7 @@ os.write(2, b'nightlog: %d\\n' % os.getpid())
 while True:
     time.sleep(1)
 '''
-NAMES = ('nightlog', 'desk', 'replay')
+NAMES = ('nightlog', 'desk', 'replay', 'compare')
 
 
 class Passed(unittest.TestCase):
@@ -125,7 +125,7 @@ class Ended(unittest.TestCase):
 
     def test_signals(self):
         """Both end by the signal that one of them got."""
-        for name in ('nightlog', 'desk', 'replay'):
+        for name in NAMES:
             for number in (signal.SIGTERM, signal.SIGINT, signal.SIGHUP, signal.SIGKILL) if name == 'nightlog' else (signal.SIGTERM, signal.SIGKILL):
                 run, program = self.started(name)
                 run.send_signal(number)
@@ -165,7 +165,7 @@ while True:
 
     def test_nobody_reads(self):
         """`nightlog show | head`: the program is ended by it, and so is its wrapper."""
-        for name, words in (('nightlog', ['show', 'x']), ('nightlog', ['check', 'x']), ('desk', []), ('replay', ['--lines'])):
+        for name, words in (('nightlog', ['show', 'x']), ('nightlog', ['check', 'x']), ('desk', []), ('replay', ['--lines']), ('compare', ['a', 'b'])):
             self.tools.stand_in(name, 'while True: os.write(1, b"tick 1 1\\n")')
             run = self.tools.start(name, *words, stdin=subprocess.DEVNULL, stdout=subprocess.PIPE)
             run.stdout.read(10)
@@ -190,16 +190,25 @@ while True:
                 self.assertEqual((run.communicate(timeout=20)[1].decode(), run.returncode), (f'{name}: writing standard output: No space left on device\n', 2))
 
     def test_a_program_that_is_not_there(self):
-        for name in ('nightlog', 'desk', 'replay'):
+        for name in NAMES:
             status, out, said = self.tools.call(name, 'a', 'b')
             self.assertEqual((status, out), (2, b''))
             path = f'{self.tools.root}/target/bin/{name}'
             self.assertEqual(said.decode(), f'{name}: {path} cannot be run: No such file or directory; `rt check {name}` builds it\n')
 
     def test_a_program_that_fails_or_says_nothing(self):
-        for name, words in (('nightlog', ['show', 'x']), ('desk', []), ('replay', ['a', 'b'])):
+        for name, words in (('nightlog', ['show', 'x']), ('desk', []), ('replay', ['a', 'b']), ('compare', ['a', 'b'])):
             self.tools.stand_in(name, 'sys.exit(1)')
             self.assertEqual(self.tools.call(name, *words)[0], 2, name)
-        for name, words in (('nightlog', ['append', 'x']), ('nightlog', ['check', 'x']), ('replay', ['a', 'b']), ('replay', ['--lines', 'a', 'b'])):
+        for name, words in (('nightlog', ['append', 'x']), ('nightlog', ['check', 'x']), ('replay', ['a', 'b']), ('replay', ['--lines', 'a', 'b']), ('compare', ['a', 'b'])):
             self.tools.stand_in(name, '')
             self.assertEqual(self.tools.call(name, *words), (2, b'', b''), name)
+
+    def test_what_a_comparison_ends_with(self):
+        """The status is that of its last line, and of nothing before it; whatever is said on standard error is trouble."""
+        for out, said, want in [
+            ('same', '', 0), ('differ', '', 1), ('first 1 tick 1 1\\ndiffer', '', 1), ('differ\\nsame', '', 0), ('same\\ncompared 1 and 1 records', '', 2),
+            ('same', 'x', 2), ('differ', 'compare: a: R26, CUT@1', 2), ('sam', '', 2), ('different', '', 2), ('same\\n', '', 0), ('same\\n\\n', '', 2), ('', '', 2),
+        ]:
+            self.tools.stand_in('compare', f'os.write(1, b"{out}")\nos.write(2, b"{said}")')
+            self.assertEqual(self.tools.call('compare', 'a', 'b')[0], want, (out, said))

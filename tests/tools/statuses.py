@@ -1,4 +1,5 @@
-"""The exit statuses of tools/nightlog, tools/desk and tools/replay over the proved programs, which say the same as they do by themselves."""
+"""The exit statuses of tools/nightlog, tools/desk, tools/replay and tools/compare over the proved programs, which say the same as they do by
+themselves."""
 import os
 import signal
 import subprocess
@@ -161,6 +162,24 @@ class Statuses(unittest.TestCase):
         self.assertEqual(self.status('desk', told=b'tick 1 1\n' * 100000), WELL)
         self.assertEqual(self.status('desk', told=b'tick 1 1\n' * 100000 + b'release 9\nsetup 9 1 1 1 1 1\n'), PARTLY)
 
+    def test_compare(self):
+        """As `cmp` has them: 0 same, 1 differ, 2 trouble."""
+        other = record('tick 3 301')
+        for name, log in ('one', TICK + other), ('turned', other + TICK), ('less', TICK), ('cut', CUT), ('bad', BAD), ('none', b''), ('many', TICK * 513):
+            Path(name).write_bytes(log)
+        for words, want in [
+            (('one', 'one'), WELL), (('one', 'turned'), WELL), (('none', 'none'), WELL), (('one', 'less'), PARTLY), (('none', 'one'), PARTLY),
+            (('one', 'less', '0', '300'), WELL), (('one', 'less', '301', '400'), PARTLY), (('many', 'many', '0', '299'), WELL),
+            (('cut', 'one'), FAILED), (('one', 'bad'), FAILED), (('cut', 'cut'), FAILED), (('many', 'many'), FAILED), (('one', 'missing'), FAILED),
+            (('folder', 'one'), FAILED), (('one', 'bad', '0', '1'), FAILED),
+        ]:
+            self.assertEqual(self.status('compare', *words), want, words)
+        for name in NAMES:
+            self.assertEqual(self.status('compare', name, 'one', fresh=(name, TICK + other)), WELL, name)
+            self.assertEqual(self.status('compare', 'one', name + b'none'), FAILED, name)
+        with open('/dev/full', 'wb') as full:
+            self.assertEqual(self.status('compare', 'one', 'less', stdout=full), FAILED)
+
     def test_make(self):
         """`make run` ends with the replay's status; `make report` writes a page of a cut log too, and of a refused set-up. The program stands already."""
         def made(*words):
@@ -177,7 +196,8 @@ class Statuses(unittest.TestCase):
 
     def test_wrong_usage(self):
         for tool, words in [('nightlog', ()), ('nightlog', ('show',)), ('nightlog', ('shows', 'a.log')), ('nightlog', ('show', 'a.log', 'b.log')),
-                            ('nightlog', ('append', 'a', 'b')), ('desk', ('lents',)), ('desk', ('lent', 'lent')), ('replay', ()), ('replay', ('a.posts',)), ('replay', ('a', 'b', 'c'))]:
+                            ('nightlog', ('append', 'a', 'b')), ('desk', ('lents',)), ('desk', ('lent', 'lent')), ('replay', ()), ('replay', ('a.posts',)), ('replay', ('a', 'b', 'c')),
+                            ('compare', ()), ('compare', ('a',)), ('compare', ('a', 'b', '0')), ('compare', ('a', 'b', '1', '0')), ('compare', ('a', 'b', 'x', '1'))]:
             self.assertEqual(self.status(tool, *words), FAILED, (tool, words))
 
     def test_ended_by_a_signal(self):

@@ -58,6 +58,7 @@ fn told(t: Telling, s: &[u8], at: usize, room: &mut [u8], out: &mut [u8], pen: P
         Telling::LogWrite => desk_log::write(s, at, room, out, pen),
         Telling::LogRead => desk_log::read(s, at, room, out, pen),
         Telling::Replay => desk_replay::replay(s, at, room, out, pen),
+        Telling::Compare => desk_compare::compare(s, at, room, out, pen),
         Telling::Probe => desk_screen::probe(s, at, out, pen),
         Telling::Duty => desk_screen::duty(s, at, out, pen),
         Telling::Explain => desk_words::explain(s, at, out, pen),

@@ -54,12 +54,13 @@ pub fn showing_word(word: &[u8]) -> Showing {
     Showing::No
 }
 
-// The steps of a log, of the service screen and of words.
+// The steps of logs, of the service screen and of words.
 pub enum Telling {
     No,
     LogWrite,
     LogRead,
     Replay,
+    Compare,
     Probe,
     Duty,
     Explain,
@@ -74,6 +75,9 @@ pub fn telling_word(word: &[u8]) -> Telling {
     }
     if check::same(word, b"replay") {
         return Telling::Replay;
+    }
+    if check::same(word, b"compare") {
+        return Telling::Compare;
     }
     if check::same(word, b"probe") {
         return Telling::Probe;

@@ -54,7 +54,7 @@ impl Generator {
 
 fn several(rng: &mut Rng) -> Vec<u8> {
     let count = rng.pick(&[0, 1, 1, 2, 2, 3, 4, 6]);
-    (0..count).flat_map(|_| parts(rng).concat()).collect()
+    (0..count).flat_map(|_| good_record(rng)).collect()
 }
 
 fn noise(rng: &mut Rng) -> Vec<u8> {
@@ -98,6 +98,11 @@ pub fn bad_record(rng: &mut Rng) -> (Vec<u8>, usize) {
         parts[other] = bad_part(rng, other);
     }
     (parts.concat(), parts[..=place].concat().len())
+}
+
+/// A record that the log can hold.
+pub fn good_record(rng: &mut Rng) -> Vec<u8> {
+    parts(rng).concat()
 }
 
 /// The five parts of a record that the log can hold.

@@ -4,7 +4,7 @@ use super::Generator;
 use crate::desk::LONGEST;
 use crate::rng::Rng;
 
-const ODD_LINES: [&[u8]; 66] = [
+const ODD_LINES: [&[u8]; 75] = [
     b" ",
     b"  ",
     b"\t",
@@ -57,6 +57,15 @@ const ODD_LINES: [&[u8]; 66] = [
     b"batch 0 1",
     b"batch - 0 0",
     b"batch - 2049",
+    b"compare",
+    b"compare -",
+    b"compare - -",
+    b"compare - - 512",
+    b"compare - - 512 ",
+    b"compare - -  512",
+    b"compare - - 512 2049",
+    b"compare - - 2049 512",
+    b"compare - - 512 512 512",
     b"replay",
     b"replay -",
     b"replay - ",
@@ -83,7 +92,7 @@ impl Generator {
             0 => self.long(),
             1..=5 => self.rng.pick(&ODD_LINES).to_vec(),
             _ => {
-                let line = match self.rng.below(10) {
+                let line = match self.rng.below(11) {
                     0 => self.rng.pick(&["setup 9 40 5000 1000 500 500", "setup 9 40 5000 1000 500 500 1"]).to_string(),
                     1 => self.record(),
                     2 => self.read(),
@@ -93,6 +102,7 @@ impl Generator {
                     6 => self.log_write(),
                     7 => self.service(),
                     8 => self.replay(),
+                    9 => self.compare(),
                     _ => self.refused(),
                 };
                 spoilt(&mut self.rng, line.into_bytes())
@@ -105,12 +115,13 @@ impl Generator {
         let length = self.rng.pick(&[LONGEST - 1, LONGEST, LONGEST, LONGEST + 1, LONGEST + 1, 70_000]);
         // Bytes are pairs of digits, so that each ending goes with lengths of one parity.
         let even = length.is_multiple_of(2);
-        let (head, fill, tail): (&[u8], &[u8], &[u8]) = match self.rng.below(8) {
+        let (head, fill, tail): (&[u8], &[u8], &[u8]) = match self.rng.below(9) {
             0 | 1 if even => (b"change 63000 x ", b"7", b" 16 1"),
             2 if even => (b"write 6b000 x 7 ", b"7", b""),
             3 if even => (b"logw f 0 0 0 s ", b"7", b" 00"),
             4 if even => (b"logw f 0 0 0 s 00 ", b"7", b""),
             5 if even => (b"replay ", TICK, b" 0,0,1,1,0,6000"),
+            8 if even => (b"compare - ", b"7", b" 512 512"),
             _ if even => (b"frame 4 100 6b000 x ", b"7", b""),
             0 => (b"read 63000 x ", b"7", b""),
             1 => (b"change 63000 x ", b"7", b" 16 -1"),
@@ -119,6 +130,7 @@ impl Generator {
             4 => (b"logr ", TICK, b""),
             5 => (b"replay ", TICK, b" -"),
             6 => (b"replay ", TICK, b" 0,0,1,1,0,60000"),
+            8 => (b"compare ", TICK, b" - 0 10"),
             _ => (b"logw t 0 0 ", b"7", b""),
         };
         let fill = fill.iter().copied().cycle().take(length - head.len() - tail.len());

@@ -1,9 +1,10 @@
-//! Seeded desk scripts that go to the edges of 01, of the log and of its replay.
+//! Seeded desk scripts that go to the edges of 01, of the log, of its replay and of two of them compared.
 
 mod batches;
 mod logs;
 mod malformed;
 mod messages;
+mod recordings;
 mod replays;
 mod setups;
 mod sketch;
@@ -68,6 +69,7 @@ enum Sort {
     LogWrite,
     Replay,
     Batch,
+    Compare,
     Malformed,
     Remark,
     Explain,
@@ -96,6 +98,7 @@ impl Generator {
             Sort::LogWrite => self.log_write().into_bytes(),
             Sort::Replay => self.replay().into_bytes(),
             Sort::Batch => self.batch().into_bytes(),
+            Sort::Compare => self.compare().into_bytes(),
             Sort::Malformed => self.malformed(),
             Sort::Remark => self.remark(),
             Sort::Explain => self.explain().into_bytes(),
@@ -124,6 +127,7 @@ impl Generator {
             (35, Sort::LogWrite),
             (60, Sort::Replay),
             (45, Sort::Batch),
+            (90, Sort::Compare),
             (35, Sort::Malformed),
             (12, Sort::Remark),
             (explain, Sort::Explain),
@@ -146,7 +150,7 @@ impl Generator {
             0 => self.rng.below(2048),
             1 => 1 << self.rng.below(13),
             2 => self.rng.pick(&[0, 2047, 2048, 4_294_967_295, 4_294_967_296]),
-            _ if self.rng.chance(60) => return format!("explain R{}", self.rng.below(24)),
+            _ if self.rng.chance(60) => return format!("explain R{}", self.rng.below(31)),
             _ => return self.explain_start(),
         };
         format!("explain {number}")

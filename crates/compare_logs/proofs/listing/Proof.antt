@@ -1,0 +1,51 @@
+-- `compare_logs::listing` meets its contract: each refusal in its case, and otherwise what was paired off, what was left over, and the places.
+use mathlib.Core.Path.{refl, sym, ap, _∙_}
+use lib.ListN.{length}
+use lib.Seq.{length-sets}
+use Rattle.compare_rules.specs.Compare.{recordsOf, listedOf}
+use Rattle.compare_logs.proofs.Ends.{many-first, many-second, short-first, short-second, few-places, taken, listed}
+use borrow.Author.Needs.{needs}
+use native.Mathlib.Omega.{arith}
+use Rattle.compare_logs.proofs.listing.Statement.{statement}
+use Rattle.compare_logs.proofs.listing.Tie as tie
+
+returns : tie.Need-returns
+returns c = (sym (many-first (c .before .before .before .before .before .before .args .n) (c .before .before .before .before .before .before .args .m) (length (c .before .before .before .before .before .before .args .first .now)) (length (c .before .before .before .before .before .before .args .second .now)) (length (c .before .before .before .before .before .before .args .places .now)) (listedOf (recordsOf (c .before .before .before .before .before .before .args .a .now)) (recordsOf (c .before .before .before .before .before .before .args .b .now))) (c .if1 .taken)), refl, refl, refl)
+
+returns-2 : tie.Need-returns-2
+returns-2 c = (sym (many-second (c .before .before .before .before .before .before .before .args .n) (c .before .before .before .before .before .before .before .args .m) (length (c .before .before .before .before .before .before .before .args .first .now)) (length (c .before .before .before .before .before .before .before .args .second .now)) (length (c .before .before .before .before .before .before .before .args .places .now)) (listedOf (recordsOf (c .before .before .before .before .before .before .before .args .a .now)) (recordsOf (c .before .before .before .before .before .before .before .args .b .now))) (c .before .if1 .left) (c .if2 .taken)), refl, refl, refl)
+
+returns-3 : tie.Need-returns-3
+returns-3 c = (sym (short-first (c .before .before .before .before .before .before .before .before .args .n) (c .before .before .before .before .before .before .before .before .args .m) (length (c .before .before .before .before .before .before .before .before .args .first .now)) (length (c .before .before .before .before .before .before .before .before .args .second .now)) (length (c .before .before .before .before .before .before .before .before .args .places .now)) (listedOf (recordsOf (c .before .before .before .before .before .before .before .before .args .a .now)) (recordsOf (c .before .before .before .before .before .before .before .before .args .b .now))) (c .before .before .if1 .left) (c .before .if2 .left) (c .if3 .taken)), refl, refl, refl)
+
+returns-4 : tie.Need-returns-4
+returns-4 c = (sym (short-second (c .before .before .before .before .before .before .before .before .before .args .n) (c .before .before .before .before .before .before .before .before .before .args .m) (length (c .before .before .before .before .before .before .before .before .before .args .first .now)) (length (c .before .before .before .before .before .before .before .before .before .args .second .now)) (length (c .before .before .before .before .before .before .before .before .before .args .places .now)) (listedOf (recordsOf (c .before .before .before .before .before .before .before .before .before .args .a .now)) (recordsOf (c .before .before .before .before .before .before .before .before .before .args .b .now))) (c .before .before .before .if1 .left) (c .before .before .if2 .left) (c .before .if3 .left) (c .if4 .taken)), refl, refl, refl)
+
+returns-5 : tie.Need-returns-5
+returns-5 c = (sym (few-places (c .before .before .before .before .before .before .before .before .before .before .args .n) (c .before .before .before .before .before .before .before .before .before .before .args .m) (length (c .before .before .before .before .before .before .before .before .before .before .args .first .now)) (length (c .before .before .before .before .before .before .before .before .before .before .args .second .now)) (length (c .before .before .before .before .before .before .before .before .before .before .args .places .now)) (listedOf (recordsOf (c .before .before .before .before .before .before .before .before .before .before .args .a .now)) (recordsOf (c .before .before .before .before .before .before .before .before .before .before .args .b .now))) (c .before .before .before .before .if1 .left) (c .before .before .before .if2 .left) (c .before .before .if3 .left) (c .before .if4 .left) (c .if5 .taken)), refl, refl, refl)
+
+pair-off-requires : tie.Need-pair-off-requires
+pair-off-requires c κs = ((c .before .before .before .before .before .before .if1 .left, c .before .before .before .before .before .before .before .before .before .before .before .before .pre .0 .0, c .before .before .before .before .before .before .before .before .before .before .before .before .pre .0 .1 (c .before .before .before .before .before .before .if1 .left)), (c .before .before .before .before .before .if2 .left, c .before .before .before .before .before .before .before .before .before .before .before .before .pre .1 .0, c .before .before .before .before .before .before .before .before .before .before .before .before .pre .1 .1 (c .before .before .before .before .before .if2 .left)), c .before .before .before .before .if3 .left, refl)
+
+list-free-requires : tie.Need-list-free-requires
+list-free-requires c κs = (c .before .before .before .before .before .before .before .before .before .before .if2 .left, c .before .before .before .before .before .before .before .before .if4 .left)
+
+all-places-requires : tie.Need-all-places-requires
+all-places-requires c κs = ((c .before .before .before .before .before .before .before .before .before .before .before .before .before .before .before .if1 .left, c .before .before .before .before .before .before .before .before .before .before .before .before .before .before .before .before .before .before .before .before .before .pre .0 .0, c .before .before .before .before .before .before .before .before .before .before .before .before .before .before .before .before .before .before .before .before .before .pre .0 .1 (c .before .before .before .before .before .before .before .before .before .before .before .before .before .before .before .if1 .left)), (c .before .before .before .before .before .before .before .before .before .before .before .before .before .before .if2 .left, c .before .before .before .before .before .before .before .before .before .before .before .before .before .before .before .before .before .before .before .before .before .pre .1 .0, c .before .before .before .before .before .before .before .before .before .before .before .before .before .before .before .before .before .before .before .before .before .pre .1 .1 (c .before .before .before .before .before .before .before .before .before .before .before .before .before .before .if2 .left)), c .before .before .before .before .before .before .before .before .before .before .before .if5 .left)
+
+same-length : tie.Need-same-length
+same-length c = ap length (c .before .before .before .before .before .before .before .before .before .before .before .pair-off .ensures .1) ∙ simp length-sets
+
+same-length-2 : tie.Need-same-length-2
+same-length-2 c = ap length (c .before .before .before .before .before .before .list-free .ensures .1) ∙ simp length-sets
+
+same-length-3 : tie.Need-same-length-3
+same-length-3 c = ap length (c .before .before .all-places .ensures) ∙ simp length-sets
+
+returns-6 : tie.Need-returns-6
+returns-6 c =
+    let w = listed (recordsOf (c .before .before .before .before .before .before .before .before .before .before .before .before .before .before .before .before .before .before .before .before .before .before .before .before .args .a .now)) (recordsOf (c .before .before .before .before .before .before .before .before .before .before .before .before .before .before .before .before .before .before .before .before .before .before .before .before .args .b .now)) (c .before .before .before .before .before .before .before .before .before .before .before .before .before .before .before .before .before .before .before .before .before .before .before .before .args .first .now) (c .before .before .before .before .before .before .before .before .before .before .before .before .before .before .before .before .before .before .before .before .before .before .before .before .args .second .now) (c .before .before .before .before .before .before .before .before .before .before .before .before .before .before .before .before .before .before .before .before .before .before .before .before .args .places .now) _ (c .before .before .before .before .before .before .before .before .before .before .before .before .before .before .before .before .before .before .before .before .before .before .before .before .args .m) (c .before .before .before .before .before .before .before .before .before .before .before .pair-off .result) (c .before .before .before .before .before .before .list-free .result) (c .before .before .before .before .before .before .before .before .before .before .before .before .before .before .before .before .before .before .before .before .before .before .before .before .pre .1 .0) (c .before .before .before .before .before .before .before .before .before .before .before .pair-off .ensures) (c .before .before .before .before .before .before .list-free .ensures) (c .before .before .all-places .ensures) in
+    (w .0 ∙ sym (taken (c .before .before .before .before .before .before .before .before .before .before .before .before .before .before .before .before .before .before .before .before .before .before .before .before .args .n) (c .before .before .before .before .before .before .before .before .before .before .before .before .before .before .before .before .before .before .before .before .before .before .before .before .args .m) (length (c .before .before .before .before .before .before .before .before .before .before .before .before .before .before .before .before .before .before .before .before .before .before .before .before .args .first .now)) (length (c .before .before .before .before .before .before .before .before .before .before .before .before .before .before .before .before .before .before .before .before .before .before .before .before .args .second .now)) (length (c .before .before .before .before .before .before .before .before .before .before .before .before .before .before .before .before .before .before .before .before .before .before .before .before .args .places .now)) (listedOf (recordsOf (c .before .before .before .before .before .before .before .before .before .before .before .before .before .before .before .before .before .before .before .before .before .before .before .before .args .a .now)) (recordsOf (c .before .before .before .before .before .before .before .before .before .before .before .before .before .before .before .before .before .before .before .before .before .before .before .before .args .b .now))) (c .before .before .before .before .before .before .before .before .before .before .before .before .before .before .before .before .before .before .if1 .left) (c .before .before .before .before .before .before .before .before .before .before .before .before .before .before .before .before .before .if2 .left) (c .before .before .before .before .before .before .before .before .before .before .before .before .before .before .before .before .if3 .left) (c .before .before .before .before .before .before .before .before .before .before .before .before .before .before .before .if4 .left) (c .before .before .before .before .before .before .before .before .before .before .before .before .before .before .if5 .left)), w .1, w .2, w .3)
+
+pub listing-spec : {M : Type 1} → statement M
+listing-spec = tie.close (tie.spec returns returns-2 returns-3 returns-4 returns-5 pair-off-requires list-free-requires all-places-requires same-length same-length-2 same-length-3 returns-6)

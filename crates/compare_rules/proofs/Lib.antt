@@ -1,0 +1,15 @@
+pub mod Bytes
+pub mod Sames
+pub mod Counts
+pub mod Lists
+pub mod Remains
+pub mod Differs
+pub mod Firsts
+pub mod Nothing
+pub mod Cases
+pub mod Written
+pub mod Stays
+pub mod Swaps
+pub mod CompareWords
+pub mod Nights
+pub mod NightLogs
