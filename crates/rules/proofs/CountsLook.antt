@@ -1,10 +1,11 @@
 -- Counting an event more in the head is counting over the longer history, while that has room for it.
 use Prim.Native.Nat.{ℕ, suc, _+_, _*_, _/_, _%_, _≤_, _<_}
+use native.Mathlib.Nat.{zero-add}
 use native.Mathlib.Omega.{arith}
 use mathlib.Core.Path.{_≡_, refl, sym, ap, ap₂, _∙_}
 use mathlib.Core.List.{List, [], _∷_, map}
-use mathlib.Core.Bool.{Bool, true, false}
-use lib.Dec.{leb}
+use mathlib.Core.Bool.{Bool, true, false, cond}
+use lib.Dec.{eqb, leb}
 use lib.ListN.{length}
 use borrow.Author.Tests.{leb-false}
 use Rattle.rule_limits.specs.declared.PlainLimits.{PlainLimits}
@@ -38,12 +39,13 @@ module _ (lim : PlainLimits) (h : History) (e : Event) (room : isFull h ≡ fals
   few = leb-false largest (length h) room
 
   -- one tally more, with its bit at the bottom of n
-  one-more : (f : Rule) (x : ℕ) → (timesFound f lim h + (bit (f lim h e) 1 + (x + x)) % 2) % 4294967296 ≡ bit (f lim h e) 1 + timesFound f lim h
+  one-more : (f : Rule) (x : ℕ)
+      → cond (eqb ((bit (f lim h e) 1 + (x + x)) % 2) 1) ((timesFound f lim h + 1) % 4294967296) (timesFound f lim h) ≡ bit (f lim h e) 1 + timesFound f lim h
   one-more f x = go (f lim h e)
     where
-      go : (b : Bool) → (timesFound f lim h + (bit b 1 + (x + x)) % 2) % 4294967296 ≡ bit b 1 + timesFound f lim h
-      go true = omega (arith, few, times-few f lim h)
-      go false = omega (arith, few, times-few f lim h)
+      go : (b : Bool) → cond (eqb ((bit b 1 + (x + x)) % 2) 1) ((timesFound f lim h + 1) % 4294967296) (timesFound f lim h) ≡ bit b 1 + timesFound f lim h
+      go true = let odd : (1 + (x + x)) % 2 ≡ 1 = omega arith in rw odd (omega (arith, few, times-few f lim h))
+      go false = let even : (0 + (x + x)) % 2 ≡ 0 = omega arith in rw even (sym (zero-add (timesFound f lim h)))
 
   others : (b : Bool) (x : ℕ) → (bit b 1 + (x + x)) / 2 ≡ x
   others true x = omega arith
@@ -59,8 +61,11 @@ module _ (lim : PlainLimits) (h : History) (e : Event) (room : isFull h ≡ fals
   pub counts-look : counted (findings01 lim h e) (countsOf lim h) ≡ countsOf lim (e ∷ h)
   unfolding counted talliesOf findings01
   counts-look =
-      ap₂ _∷_ (omega (arith, few))
+      ap₂ _∷_ (first (findings01 lim h e))
       (ap (λ (n : ℕ). withBits n (talliesBy rules01 lim h)) (halved (bitsFrom 1 (found rules01 lim h e))) ∙ tallies-look rules01)
     where
+      first : (n : ℕ) → cond (eqb ((1 + 2 * n) % 2) 1) ((length h + 1) % 4294967296) (length h) ≡ suc (length h)
+      first n = let odd : (1 + 2 * n) % 2 ≡ 1 = omega arith in rw odd (omega (arith, few))
+
       halved : (n : ℕ) → (1 + 2 * n) / 2 ≡ n
       halved n = omega arith

@@ -157,10 +157,10 @@ messageFindings p k raw =
 
 -- ---- the counts
 
--- each with its bit of n, in 32 bits
+-- one more in 32 bits for each that has its bit of n
 abbrev pub withBits : ℕ → List ℕ → List ℕ
 withBits n [] = []
-withBits n (x ∷ l) = (x + n % 2) % 4294967296 ∷ withBits (n / 2) l
+withBits n (x ∷ l) = cond (eqb (n % 2) 1) ((x + 1) % 4294967296) x ∷ withBits (n / 2) l
 
 -- an event with the findings n counts once, and once for each finding
 unfoldable pub counted : ℕ → List ℕ → List ℕ
