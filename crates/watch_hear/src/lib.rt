@@ -43,7 +43,7 @@ fn turned_away(h: Head, w: Refusal) -> Heard
 fn is_full(h: Head) -> bool
     ensures { λ r. ⌜ r ≡ isFullIn h ⌝ }
 {
-    h.counts[0] == u32::MAX
+    4294967295 <= h.counts[0]
 }
 
 fn ticked(h: Head, time: u32) -> Heard
