@@ -152,13 +152,6 @@ fn put_setting(out: &mut [u8], pen: Pen, r: Record) -> Pen {
     put_limits(out, p, limits)
 }
 
-fn put_session_part(out: &mut [u8], pen: Pen, r: Record) -> Pen {
-    let last = r.last;
-    let session = r.session;
-    let p = put_last(out, pen, last);
-    put_session(out, p, session)
-}
-
 // The tallies, finding 1 first.
 fn put_tallies(out: &mut [u8], pen: Pen, tallies: [u32; FINDINGS]) -> Pen {
     let mut p = named(out, pen, b" tally=", tallies[0]);
@@ -176,6 +169,14 @@ fn put_counts(out: &mut [u8], pen: Pen, r: Record) -> Pen {
     put_tallies(out, p, tallies)
 }
 
+fn put_session_part(out: &mut [u8], pen: Pen, r: Record) -> Pen {
+    let last = r.last;
+    let session = r.session;
+    let p = put_last(out, pen, last);
+    let q = put_session(out, p, session);
+    put_counts(out, q, r)
+}
+
 fn put_messages(out: &mut [u8], pen: Pen, r: Record) -> Pen {
     let p = text_pen::put(out, pen, b" latest=");
     let q = put_latest(out, p, r);
@@ -185,8 +186,7 @@ fn put_messages(out: &mut [u8], pen: Pen, r: Record) -> Pen {
 fn put(out: &mut [u8], pen: Pen, r: Record) -> Pen {
     let p = put_setting(out, pen, r);
     let q = put_session_part(out, p, r);
-    let c = put_counts(out, q, r);
-    put_messages(out, c, r)
+    put_messages(out, q, r)
 }
 
 // `record POST`
