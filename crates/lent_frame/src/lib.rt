@@ -22,7 +22,9 @@ pub extern "C" fn rokemaipu_frame(
 {
     let i = some_place(*t, channel);
     let h = t.posts[i].head;
-    let r = frame_on(h, channel, time, id, extended, payload);
+    let n = t.refused;
+    let r = frame_on(h, n, channel, time, id, extended, payload);
+    t.refused = r.refused;
     t.posts[i].head = r.head;
     let at = r.at;
     if at < KINDS {

@@ -2,7 +2,9 @@
 --     fn g(t: &mut Table, channel: u32, a1, .., ak) -> u32 {
 --         let i = at(*t, channel);
 --         let h = t.posts[i].head;
---         let r = f(h, channel, a1, .., ak);
+--         let n = t.refused;
+--         let r = f(h, n, channel, a1, .., ak);
+--         t.refused = r.refused;
 --         t.posts[i].head = r.head;
 --         let at = r.at;
 --         if at < KINDS {
@@ -10,14 +12,14 @@
 --         }
 --         r.answer
 --     }
--- One head is copied out and stored back, with the slot that the step fills; no post and no table is stored.
+-- One head is copied out and stored back, with the slot that the step fills and the count of what was refused; no post and no table is stored.
 --     fn           the function's MIR, for n lifetimes, arguments of the types τs, and the two callees' names.
 --                  A function's `code.function` is this at its own arguments, by computation
 --     Finds v      what the call of `at` is to give: some i with `Here i`, which is a place of the table
 --     Gives i v    what the call of f is to give for `Lent` and the head at i: `Back`, and the result w i. `Kept` stays with the entry
 --     post-part, slot-part     the post at i, and a slot of it once its head is stored, as parts of what lies behind the reference
 --     walk         from these, and from what is to be shown at exit
--- Nothing here says what a table has beside its posts, nor what a head or a slot holds. Assumes `Given`.
+-- Nothing here says what a head or a slot holds. Assumes `Given`.
 use mathlib.Core.Path.{_≡_, refl, sym, _∙_, ap, subst}
 use Prim.Native.Nat.{ℕ, suc, _+_, _*_, _<_, _^_}
 use native.Mathlib.Omega.{arith}
@@ -66,7 +68,7 @@ use Rattle.lent_walks.proofs.Elem.{elem, whole-raw, as-value, writes-at, reads-
 use Rattle.lent_walks.proofs.InPlace.{Of}
 use Rattle.lent_walks.proofs.Locals.{alloc-all, free-all, span, var, val}
 use Rattle.lent_table.proofs.Entry.{table-val, Held}
-use Rattle.lent_heads.proofs.Posts.{slot-val, head-val, post-val, post-of, table-of, us-of, ss-of, us-at, post-at, head-at, headed, us-long, us-within, head-is, ss-long, ss-within, table-set, stored-is, head-stored, headed-long, headed-within, headed-at, slot-stored, slot-left, τS, Parts, Known}
+use Rattle.lent_heads.proofs.Posts.{slot-val, head-val, post-val, post-of, table-of, us-of, ss-of, us-at, post-at, head-at, headed, us-long, us-within, count-is, head-is, ss-long, ss-within, table-set, stored-is, head-stored, headed-long, headed-within, headed-at, slot-stored, slot-left, τS, Parts, Known}
 
 abbrev τT : Ty
 τT = T′.mir
@@ -81,19 +83,19 @@ abbrev τL : Ty
 τL = S′.mir
 
 -- the locals past the arguments:
---     0 i; 1 h; 2 r; 3 at; 4 the table that `at` is handed
---     5 the post's index in bytes; 6 and 7 the array's and the post's address as the head is read; 8 and 9 as it is stored; 10 the test
---     where it holds: 11 the post's index in bytes; 12 and 13 the array's and the post's address; 14 the slot's index in bytes;
---     15 and 16 the slots' and the slot's address
+--     0 i; 1 h; 2 n; 3 r; 4 at; 5 the table that `at` is handed
+--     6 the post's index in bytes; 7 and 8 the array's and the post's address as the head is read; 9 and 10 as it is stored; 11 the test
+--     where it holds: 12 the post's index in bytes; 13 and 14 the array's and the post's address; 15 the slot's index in bytes;
+--     16 and 17 the slots' and the slot's address
 abbrev σs : List Ty
-σs = tyInt w64 ∷ τH ∷ τS ∷ tyInt w64 ∷ τT ∷ tyInt w64 ∷ tyPtr ∷ tyPtr ∷ tyPtr ∷ tyPtr ∷ tyBool ∷ tyInt w64 ∷ tyPtr ∷ tyPtr ∷ tyInt w64 ∷ tyPtr ∷ tyPtr ∷ []
+σs = tyInt w64 ∷ τH ∷ tyInt w64 ∷ τS ∷ tyInt w64 ∷ τT ∷ tyInt w64 ∷ tyPtr ∷ tyPtr ∷ tyPtr ∷ tyPtr ∷ tyBool ∷ tyInt w64 ∷ tyPtr ∷ tyPtr ∷ tyInt w64 ∷ tyPtr ∷ tyPtr ∷ []
 
 abbrev past-args : List Ty → ℕ → ℕ
 past-args τs k = suc (suc (suc (past τs k)))
 
 -- what runs after the branch
 abbrev rest : List Ty → Code
-rest τs = seq (assign (place 0 []) (rvOpd (copy (place (past-args τs 2) (field 3 ∷ []))))) return
+rest τs = seq (assign (place 0 []) (rvOpd (copy (place (past-args τs 3) (field 4 ∷ []))))) return
 
 abbrev pub fn : ℕ → List Ty → Name → Name → Fn
 fn n τs at f = record {
@@ -101,29 +103,31 @@ fn n τs at f = record {
   outlives = [];
   params = suc (suc (past τs 0));
   locals = local (tyInt w32) valueLocal ∷ local (tyRef (named 0) mut (pointee (T.the-row .written))) valueLocal ∷ local (tyInt w32) valueLocal ∷ locs τs (locs σs []);
-  body = seq (assign (place (past-args τs 4) []) (rvOpd (copy (place 1 (deref τT ∷ [])))))
-      (seq (call at (copy (place (past-args τs 4) []) ∷ copy (place 2 []) ∷ []) (place (past-args τs 0) []))
-      (seq (assign (place (past-args τs 5) []) (op2 (mul unsigned) (copy (place (past-args τs 0) [])) (int w64 (size τP))))
-      (seq (assign (place (past-args τs 6) []) (addrOf (place 1 (deref τT ∷ field 0 ∷ []))))
-      (seq (assign (place (past-args τs 7) []) (op2 offset (copy (place (past-args τs 6) [])) (copy (place (past-args τs 5) []))))
-      (seq (assign (place (past-args τs 1) []) (rvOpd (copy (place (past-args τs 7) (deref τP ∷ field 0 ∷ [])))))
-      (seq (call f (copy (place (past-args τs 1) []) ∷ copy (place 2 []) ∷ copies (λ j. suc (suc (suc j))) τs) (place (past-args τs 2) []))
-      (seq (assign (place (past-args τs 5) []) (op2 (mul unsigned) (copy (place (past-args τs 0) [])) (int w64 (size τP))))
-      (seq (assign (place (past-args τs 8) []) (addrOf (place 1 (deref τT ∷ field 0 ∷ []))))
-      (seq (assign (place (past-args τs 9) []) (op2 offset (copy (place (past-args τs 8) [])) (copy (place (past-args τs 5) []))))
-      (seq (assign (place (past-args τs 9) (deref τP ∷ field 0 ∷ [])) (rvOpd (copy (place (past-args τs 2) (field 0 ∷ [])))))
-      (seq (assign (place (past-args τs 3) []) (rvOpd (copy (place (past-args τs 2) (field 2 ∷ [])))))
-      (seq (assign (place (past-args τs 10) []) (op2 (lt unsigned) (copy (place (past-args τs 3) [])) (int w64 kindCount)))
-      (seq (cond (copy (place (past-args τs 10) []))
-      (seq (assign (place (past-args τs 11) []) (op2 (mul unsigned) (copy (place (past-args τs 0) [])) (int w64 (size τP))))
-      (seq (assign (place (past-args τs 12) []) (addrOf (place 1 (deref τT ∷ field 0 ∷ []))))
-      (seq (assign (place (past-args τs 13) []) (op2 offset (copy (place (past-args τs 12) [])) (copy (place (past-args τs 11) []))))
-      (seq (assign (place (past-args τs 14) []) (op2 (mul unsigned) (copy (place (past-args τs 3) [])) (int w64 (size τL))))
-      (seq (assign (place (past-args τs 15) []) (addrOf (place (past-args τs 13) (deref τP ∷ field 1 ∷ []))))
-      (seq (assign (place (past-args τs 16) []) (op2 offset (copy (place (past-args τs 15) [])) (copy (place (past-args τs 14) []))))
-      (assign (place (past-args τs 16) (deref τL ∷ [])) (rvOpd (copy (place (past-args τs 2) (field 1 ∷ [])))))))))))
+  body = seq (assign (place (past-args τs 5) []) (rvOpd (copy (place 1 (deref τT ∷ [])))))
+      (seq (call at (copy (place (past-args τs 5) []) ∷ copy (place 2 []) ∷ []) (place (past-args τs 0) []))
+      (seq (assign (place (past-args τs 6) []) (op2 (mul unsigned) (copy (place (past-args τs 0) [])) (int w64 (size τP))))
+      (seq (assign (place (past-args τs 7) []) (addrOf (place 1 (deref τT ∷ field 0 ∷ []))))
+      (seq (assign (place (past-args τs 8) []) (op2 offset (copy (place (past-args τs 7) [])) (copy (place (past-args τs 6) []))))
+      (seq (assign (place (past-args τs 1) []) (rvOpd (copy (place (past-args τs 8) (deref τP ∷ field 0 ∷ [])))))
+      (seq (assign (place (past-args τs 2) []) (rvOpd (copy (place 1 (deref τT ∷ field 1 ∷ [])))))
+      (seq (call f (copy (place (past-args τs 1) []) ∷ copy (place (past-args τs 2) []) ∷ copy (place 2 []) ∷ copies (λ j. suc (suc (suc j))) τs) (place (past-args τs 3) []))
+      (seq (assign (place 1 (deref τT ∷ field 1 ∷ [])) (rvOpd (copy (place (past-args τs 3) (field 3 ∷ [])))))
+      (seq (assign (place (past-args τs 6) []) (op2 (mul unsigned) (copy (place (past-args τs 0) [])) (int w64 (size τP))))
+      (seq (assign (place (past-args τs 9) []) (addrOf (place 1 (deref τT ∷ field 0 ∷ []))))
+      (seq (assign (place (past-args τs 10) []) (op2 offset (copy (place (past-args τs 9) [])) (copy (place (past-args τs 6) []))))
+      (seq (assign (place (past-args τs 10) (deref τP ∷ field 0 ∷ [])) (rvOpd (copy (place (past-args τs 3) (field 0 ∷ [])))))
+      (seq (assign (place (past-args τs 4) []) (rvOpd (copy (place (past-args τs 3) (field 2 ∷ [])))))
+      (seq (assign (place (past-args τs 11) []) (op2 (lt unsigned) (copy (place (past-args τs 4) [])) (int w64 kindCount)))
+      (seq (cond (copy (place (past-args τs 11) []))
+      (seq (assign (place (past-args τs 12) []) (op2 (mul unsigned) (copy (place (past-args τs 0) [])) (int w64 (size τP))))
+      (seq (assign (place (past-args τs 13) []) (addrOf (place 1 (deref τT ∷ field 0 ∷ []))))
+      (seq (assign (place (past-args τs 14) []) (op2 offset (copy (place (past-args τs 13) [])) (copy (place (past-args τs 12) []))))
+      (seq (assign (place (past-args τs 15) []) (op2 (mul unsigned) (copy (place (past-args τs 4) [])) (int w64 (size τL))))
+      (seq (assign (place (past-args τs 16) []) (addrOf (place (past-args τs 14) (deref τP ∷ field 1 ∷ []))))
+      (seq (assign (place (past-args τs 17) []) (op2 offset (copy (place (past-args τs 16) [])) (copy (place (past-args τs 15) []))))
+      (assign (place (past-args τs 17) (deref τL ∷ [])) (rvOpd (copy (place (past-args τs 3) (field 1 ∷ [])))))))))))
       skip)
-      (rest τs))))))))))))));
+      (rest τs))))))))))))))));
 }
 
 -- the environment
@@ -146,7 +150,7 @@ module _ {M : Type 1} (𝓤 : URA M) (H : Heap 𝓤) (A : Atoms 𝓤) (W : Given
   after i r = lentAt h i r .table
 
   after-is : Was → (i : ℕ) → i < postCount → (r : Worded) → Parts r → Is T.the-row (after i r) (table-val (after i r) ∷ [])
-  after-is was i l r p = table-set h was i _ (stored-is h was i l r (p .0) (p .1 .0))
+  after-is was i l r p = table-set h was i _ (r .refused) (stored-is h was i l r (p .0) (p .1 .0)) (p .1 .1 .1 .0)
 
   of-head : (x : Head) → Is D.the-row x (head-val x ∷ []) → Of τH (head-val x)
   of-head x is = LL.lawful D.the-type D′.the-laws 𝓤 H A W .typed x _ is .0
@@ -174,91 +178,96 @@ module _ {M : Type 1} (𝓤 : URA M) (H : Heap 𝓤) (A : Atoms 𝓤) (W : Given
   slot-place : (i k : ℕ) → Index.place (size τL) (Index.place (size τP) (o + 0) i + size τH) k ≡ k * size τL + (i * size τP + (o + 0) + size τH)
   slot-place i k = ap (λ (m : ℕ). Index.place (size τL) (m + size τH) k) (Index.place-is (size τP) (o + 0) i) ∙ Index.place-is (size τL) _ k
 
-  -- what lies behind the reference: the table with these machine values of posts
-  abbrev cell : List Val → Item 𝓤
-  cell us = ‵ (fat fullShare (rawTy τT) b o (table-of h us))
+  -- what lies behind the reference: the table with this count and these machine values of posts
+  abbrev cell : ℕ → List Val → Item 𝓤
+  cell m us = ‵ (fat fullShare (rawTy τT) b o (table-of us m))
 
-  module _ {K : Type 0} (t : K) (was : Was) (i : ℕ) (l : i < postCount) where
-    post-part : Part K W (cell (us-of (h .posts))) fullShare τP b (Index.place (size τP) (o + 0) i) (post-val (post-at h i)) (λ u. cell (set (us-of (h .posts)) i u))
+  module _ {K : Type 0} (t : K) (was : Was) (i : ℕ) (l : i < postCount) (m : ℕ) where
+    post-part : Part K W (cell m (us-of (h .posts))) fullShare τP b (Index.place (size τP) (o + 0) i) (post-val (post-at h i)) (λ u. cell m (set (us-of (h .posts)) i u))
     post-part = as-value (us-at (h .posts) i) (elem t (us-of (h .posts)) i (post-val noPost) (us-within h was i l) (us-long h was) (sub t 0 refl (whole-raw t {τ = τT})))
 
     module _ (x : Head) where
-      headed-part : Part K W (cell (us-of (headed h i x))) fullShare τP b (Index.place (size τP) (o + 0) i) (post-of (head-val x) (ss-of (post-at h i .latest))) (λ u. cell (set (us-of (headed h i x)) i u))
+      headed-part : Part K W (cell m (us-of (headed h i x))) fullShare τP b (Index.place (size τP) (o + 0) i) (post-of (head-val x) (ss-of (post-at h i .latest))) (λ u. cell m (set (us-of (headed h i x)) i u))
       headed-part = as-value (headed-at h was i l x) (elem t (us-of (headed h i x)) i (post-val noPost) (headed-within h was i l x) (headed-long h was i l x) (sub t 0 refl (whole-raw t {τ = τT})))
 
       slot-part : (k : ℕ) → k < kindCount
-          → Part K W (cell (us-of (headed h i x))) fullShare τL b (Index.place (size τL) (Index.place (size τP) (o + 0) i + size τH) k) (getD (ss-of (post-at h i .latest)) k (slot-val unknown))
-          (λ u. cell (set (us-of (headed h i x)) i (post-of (head-val x) (set (ss-of (post-at h i .latest)) k u))))
-      slot-part k m = elem t (ss-of (post-at h i .latest)) k (slot-val unknown) (ss-within h was i l k m) (ss-long h was i l) (sub t 1 refl headed-part)
+          → Part K W (cell m (us-of (headed h i x))) fullShare τL b (Index.place (size τL) (Index.place (size τP) (o + 0) i + size τH) k) (getD (ss-of (post-at h i .latest)) k (slot-val unknown))
+          (λ u. cell m (set (us-of (headed h i x)) i (post-of (head-val x) (set (ss-of (post-at h i .latest)) k u))))
+      slot-part k low = elem t (ss-of (post-at h i .latest)) k (slot-val unknown) (ss-within h was i l k low) (ss-long h was i l) (sub t 1 refl headed-part)
 
   pub walk : (Was → ent 𝓤 (mean 𝓤 H A (‵ ftrue)) (C at (table-val h ∷ vint w32 c ∷ []) (λ v. mean 𝓤 H A (Finds v))))
-      → ((i : ℕ) → Here i → Is D.the-row (head-at h i) (head-val (head-at h i) ∷ []) → ent 𝓤 (mean 𝓤 H A Lent) (C f (head-val (head-at h i) ∷ vint w32 c ∷ vs) (λ v. mean 𝓤 H A (Gives i v))))
+      → (Was → (i : ℕ) → Here i → Is D.the-row (head-at h i) (head-val (head-at h i) ∷ []) → ent 𝓤 (mean 𝓤 H A Lent) (C f (head-val (head-at h i) ∷ vint w64 (h .refused) ∷ vint w32 c ∷ vs) (λ v. mean 𝓤 H A (Gives i v))))
       → (Was → (i : ℕ) → Here i → (r : Worded) → Parts r → r ≡ w i → ent 𝓤 (⋆ 𝓤 H A (Held 𝓤 κ q b o γ (after i r) (Back ∷ Kept ∷ []))) (Post (answer-val (r .answer))))
       → ent 𝓤 (⋆ 𝓤 H A (Held 𝓤 κ q b o γ h (Lent ∷ Kept ∷ []))) (WpFn 𝓤 H C Λ (fn n τs at f) (vptr b o ∷ vint w32 c ∷ vs) Post)
   walk found gave leaves =
       qed W (Held 𝓤 κ q b o γ h (Lent ∷ Kept ∷ [])) ∵ enter ! C Λ (fn n τs at f) (vptr b o ∷ vint w32 c ∷ vs) _ $
       alloc1 ! (λ l₀. alloc1 ! (λ l₁. alloc1 ! (λ l₂. alloc-args ! τs (λ bs. alloc-all ! σs (λ cs. params1 ! $
-      pass1 ! (init ! 37 refl (tt, tt)) $ pass1 ! (init ! 35 refl (tt, record { fits = c-fits })) $ move ! (34 ∷ []) $ pass-args ! τs bs vs ty _ $
-      move ! (41 ∷ 42 ∷ 43 ∷ []) $ opens ! tt T.the-row {h = h} b o (λ us.
+      pass1 ! (init ! 39 refl (tt, tt)) $ pass1 ! (init ! 37 refl (tt, record { fits = c-fits })) $ move ! (36 ∷ []) $ pass-args ! τs bs vs ty _ $
+      move ! (43 ∷ 44 ∷ 45 ∷ []) $ opens ! tt T.the-row {h = h} b o (λ us.
       spelt ! T.the-row (Is T.the-row) (shows 𝓤 H A T.the-row) (LL.vals T.the-type T′.the-laws) (LL.tells T.the-type T′.the-laws) fullShare h us b o $
       move ! (1 ∷ []) $ peeks ! T.the-row (Is T.the-row) (shows 𝓤 H A T.the-row) h (table-val h ∷ []) (λ was.
-      -- [what a table owns; the cell 1; the open borrow; obs; auth; the arguments 5; local k at 6 + 2 k; l₂ 40; l₁ 42; l₀ 44; what is lent 46; what is kept]
+      -- [what a table owns; the cell 1; the open borrow; obs; auth; the arguments 5; local k at 6 + 2 k; l₂ 42; l₁ 44; l₀ 46; what is lent 48; what is kept]
       -- the place
-      assigns ! (of-opd ! (load ! (from ! (hop ! (look ! 42 refl) (stop !))) (look-raw ! 1 refl))) (var ! τs bs _ 4) (init ! 14 refl (LL.lawful T.the-type T′.the-laws 𝓤 H A W .typed h _ was .0)) $
+      assigns ! (of-opd ! (load ! (from ! (hop ! (look ! 44 refl) (stop !))) (look-raw ! 1 refl))) (var ! τs bs _ 5) (init ! 16 refl (LL.lawful T.the-type T′.the-laws 𝓤 H A W .typed h _ was .0)) $
       drop ! $ nothing ! $
       calls-from ! fm (‵ ftrue) (table-val h ∷ vint w32 c ∷ []) (λ v. mean 𝓤 H A (Finds v)) (found was)
-      (and-then ! (val ! τs bs _ 4 14 refl) (and-then ! (load ! (from ! (stop !)) (look ! 40 refl)) (no-more !)))
+      (and-then ! (val ! τs bs _ 5 16 refl) (and-then ! (load ! (from ! (stop !)) (look ! 42 refl)) (no-more !)))
       (λ v₁. use1 W (Finds v₁) (id⊢ 𝓤 _) $ await ! tt $ pick ! (λ i. learn ! (λ g₁.
       land ! (var ! τs bs _ 0) (init ! 6 refl (subst (Of (tyInt w64)) (sym (g₁ .0 .0)) (tt, record { fits = g₁ .0 .1 .fits }))) $
       rewrite ! 6 (λ (u : Val). ‵ (fat fullShare (tyInt w64) (cs .0) 0 u)) (g₁ .0 .0) refl $
       -- the head is read
-      assigns ! (bin ! (val ! τs bs _ 0 6 refl) (lit ! tt) (of-post i (g₁ .1 .1))) (var ! τs bs _ 5) (init ! 16 refl (tt, of-post i (g₁ .1 .1))) $
-      assigns ! (addr ! (from ! (hop ! (look ! 42 refl) (fld ! refl (stop !))))) (var ! τs bs _ 6) (init ! 18 refl (tt, tt)) $
-      assigns ! (bin ! (val ! τs bs _ 6 18 refl) (val ! τs bs _ 5 16 refl) tt) (var ! τs bs _ 7) (init ! 20 refl (tt, tt)) $
-      assigns ! (of-opd ! (load ! (at-place ! (past-is 𝓤 H τs bs _ 7) (hop ! (look ! 20 refl) (fld ! refl (stop !))))
-      (reads-as (head-place i) refl (look-in ! 1 (sub ! 0 refl (post-part ! was i (g₁ .1 .1))))))) (var ! τs bs _ 1) (init ! 8 refl (of-head (head-at h i) (head-is h was i (g₁ .1 .1)))) $
+      assigns ! (bin ! (val ! τs bs _ 0 6 refl) (lit ! tt) (of-post i (g₁ .1 .1))) (var ! τs bs _ 6) (init ! 18 refl (tt, of-post i (g₁ .1 .1))) $
+      assigns ! (addr ! (from ! (hop ! (look ! 44 refl) (fld ! refl (stop !))))) (var ! τs bs _ 7) (init ! 20 refl (tt, tt)) $
+      assigns ! (bin ! (val ! τs bs _ 7 20 refl) (val ! τs bs _ 6 18 refl) tt) (var ! τs bs _ 8) (init ! 22 refl (tt, tt)) $
+      assigns ! (of-opd ! (load ! (at-place ! (past-is 𝓤 H τs bs _ 8) (hop ! (look ! 22 refl) (fld ! refl (stop !))))
+      (reads-as (head-place i) refl (look-in ! 1 (sub ! 0 refl (post-part ! was i (g₁ .1 .1) (h .refused))))))) (var ! τs bs _ 1) (init ! 8 refl (of-head (head-at h i) (head-is h was i (g₁ .1 .1)))) $
+      -- and the count
+      assigns ! (of-opd ! (load ! (from ! (hop ! (look ! 44 refl) (fld ! refl (stop !)))) (look-in ! 1 (sub ! 1 refl (whole-raw ! {τ = τT}))))) (var ! τs bs _ 2) (init ! 10 refl (tt, record { fits = count-is h was .1 })) $
       -- the step
-      drop ! $ move ! (45 ∷ 4 ∷ []) $
+      drop ! $ move ! (47 ∷ 4 ∷ []) $
       -- [what is lent; the arguments 1; the cell 2; the open borrow; obs; auth; the locals as before; what is kept]
-      calls-from ! fm Lent (head-val (head-at h i) ∷ vint w32 c ∷ vs) (λ v. mean 𝓤 H A (Gives i v)) (gave i (g₁ .1 .0) (head-is h was i (g₁ .1 .1)))
-      (and-then ! (val ! τs bs _ 1 8 refl) (and-then ! (load ! (from ! (stop !)) (look ! 40 refl)) (swapped (read-args ! τs bs vs ty (λ j. suc (suc (suc j))) _ _ (λ j. refl) _))))
+      calls-from ! fm Lent (head-val (head-at h i) ∷ vint w64 (h .refused) ∷ vint w32 c ∷ vs) (λ v. mean 𝓤 H A (Gives i v)) (gave was i (g₁ .1 .0) (head-is h was i (g₁ .1 .1)))
+      (and-then ! (val ! τs bs _ 1 8 refl) (and-then ! (val ! τs bs _ 2 10 refl) (and-then ! (load ! (from ! (stop !)) (look ! 42 refl)) (swapped (read-args ! τs bs vs ty (λ j. suc (suc (suc j))) _ _ (λ j. refl) _)))))
       (λ v. use1 W (Gives i v) (id⊢ 𝓤 _) $ await ! tt $ pick ! (λ r. learn ! (λ g.
-      land ! (var ! τs bs _ 2) (init ! 10 refl (g .1 .0)) $ rewrite ! 10 (λ (u : Val). ‵ (fat fullShare τS (cs .1 .1 .0) 0 u)) (g .0) refl $
+      land ! (var ! τs bs _ 3) (init ! 12 refl (g .1 .0)) $ rewrite ! 12 (λ (u : Val). ‵ (fat fullShare τS (cs .1 .1 .1 .0) 0 u)) (g .0) refl $
+      -- the count is stored
+      assigns ! (of-opd ! (load ! (at-place ! (past-is 𝓤 H τs bs _ 3) (fld ! refl (stop !))) (look-in ! 12 (sub ! 3 refl (whole !))))) (from ! (hop ! (look ! 44 refl) (fld ! refl (stop !))))
+      (store-in ! 2 (sub ! 1 refl (whole-raw ! {τ = τT})) (tt, record { fits = g .1 .1 .0 .1 .1 .1 .0 .1 })) $
       -- the head is stored
-      assigns ! (bin ! (val ! τs bs _ 0 6 refl) (lit ! tt) (of-post i (g₁ .1 .1))) (var ! τs bs _ 5) (store ! 16 refl (tt, of-post i (g₁ .1 .1))) $
-      assigns ! (addr ! (from ! (hop ! (look ! 42 refl) (fld ! refl (stop !))))) (var ! τs bs _ 8) (init ! 22 refl (tt, tt)) $
-      assigns ! (bin ! (val ! τs bs _ 8 22 refl) (val ! τs bs _ 5 16 refl) tt) (var ! τs bs _ 9) (init ! 24 refl (tt, tt)) $
-      assigns ! (of-opd ! (load ! (at-place ! (past-is 𝓤 H τs bs _ 2) (fld ! refl (stop !))) (look-in ! 10 (sub ! 0 refl (whole !))))) (at-place ! (past-is 𝓤 H τs bs _ 9) (hop ! (look ! 24 refl) (fld ! refl (stop !))))
-      (writes-at (head-place i) (store-in ! 2 (sub ! 0 refl (post-part ! was i (g₁ .1 .1))) (of-head (r .head) (g .1 .1 .0 .0)))) $
-      rewrite ! 2 cell (head-stored h was i (g₁ .1 .1) (r .head)) refl $
+      assigns ! (bin ! (val ! τs bs _ 0 6 refl) (lit ! tt) (of-post i (g₁ .1 .1))) (var ! τs bs _ 6) (store ! 18 refl (tt, of-post i (g₁ .1 .1))) $
+      assigns ! (addr ! (from ! (hop ! (look ! 44 refl) (fld ! refl (stop !))))) (var ! τs bs _ 9) (init ! 24 refl (tt, tt)) $
+      assigns ! (bin ! (val ! τs bs _ 9 24 refl) (val ! τs bs _ 6 18 refl) tt) (var ! τs bs _ 10) (init ! 26 refl (tt, tt)) $
+      assigns ! (of-opd ! (load ! (at-place ! (past-is 𝓤 H τs bs _ 3) (fld ! refl (stop !))) (look-in ! 12 (sub ! 0 refl (whole !))))) (at-place ! (past-is 𝓤 H τs bs _ 10) (hop ! (look ! 26 refl) (fld ! refl (stop !))))
+      (writes-at (head-place i) (store-in ! 2 (sub ! 0 refl (post-part ! was i (g₁ .1 .1) (r .refused))) (of-head (r .head) (g .1 .1 .0 .0)))) $
+      rewrite ! 2 (cell (r .refused)) (head-stored h was i (g₁ .1 .1) (r .head)) refl $
       -- the slot, where its place is one
-      assigns ! (of-opd ! (load ! (at-place ! (past-is 𝓤 H τs bs _ 2) (fld ! refl (stop !))) (look-in ! 10 (sub ! 2 refl (whole !))))) (var ! τs bs _ 3) (init ! 12 refl (tt, record { fits = g .1 .1 .0 .1 .1 .0 })) $
-      assigns ! (bin ! (val ! τs bs _ 3 12 refl) (lit ! tt) tt) (var ! τs bs _ 10) (init ! 26 refl (tt, tt)) $
-      first ! $ branches ! (val ! τs bs _ 10 26 refl)
+      assigns ! (of-opd ! (load ! (at-place ! (past-is 𝓤 H τs bs _ 3) (fld ! refl (stop !))) (look-in ! 12 (sub ! 2 refl (whole !))))) (var ! τs bs _ 4) (init ! 14 refl (tt, record { fits = g .1 .1 .0 .1 .1 .0 })) $
+      assigns ! (bin ! (val ! τs bs _ 4 14 refl) (lit ! tt) tt) (var ! τs bs _ 11) (init ! 28 refl (tt, tt)) $
+      first ! $ branches ! (val ! τs bs _ 11 28 refl)
       (λ in-it.
-      assigns ! (bin ! (val ! τs bs _ 0 6 refl) (lit ! tt) (of-post i (g₁ .1 .1))) (var ! τs bs _ 11) (init ! 28 refl (tt, of-post i (g₁ .1 .1))) $
-      assigns ! (addr ! (from ! (hop ! (look ! 42 refl) (fld ! refl (stop !))))) (var ! τs bs _ 12) (init ! 30 refl (tt, tt)) $
-      assigns ! (bin ! (val ! τs bs _ 12 30 refl) (val ! τs bs _ 11 28 refl) tt) (var ! τs bs _ 13) (init ! 32 refl (tt, tt)) $
-      assigns ! (bin ! (val ! τs bs _ 3 12 refl) (lit ! tt) (of-kind (r .at) (ltb→lt (r .at) kindCount in-it))) (var ! τs bs _ 14) (init ! 34 refl (tt, of-kind (r .at) (ltb→lt (r .at) kindCount in-it))) $
-      assigns ! (addr ! (at-place ! (past-is 𝓤 H τs bs _ 13) (hop ! (look ! 32 refl) (fld ! refl (stop !))))) (var ! τs bs _ 15) (init ! 36 refl (tt, tt)) $
-      assigns ! (bin ! (val ! τs bs _ 15 36 refl) (val ! τs bs _ 14 34 refl) tt) (var ! τs bs _ 16) (init ! 38 refl (tt, tt)) $
-      assigns-last ! (of-opd ! (load ! (at-place ! (past-is 𝓤 H τs bs _ 2) (fld ! refl (stop !))) (look-in ! 10 (sub ! 1 refl (whole !))))) (at-place ! (past-is 𝓤 H τs bs _ 16) (hop ! (look ! 38 refl) (stop !)))
-      (writes-at (slot-place i (r .at)) (store-in ! 2 (slot-part ! was i (g₁ .1 .1) (r .head) (r .at) (ltb→lt (r .at) kindCount in-it)) (of-slot (r .slot) (g .1 .1 .0 .1 .0)))) $
-      exec ! C Λ (env τs bs l₀ l₁ l₂ cs) (rest τs) (atRet (env τs bs l₀ l₁ l₂ cs) Post) $ rewrite ! 2 cell (slot-stored h was i (g₁ .1 .1) r in-it) refl $
-      assigns ! (of-opd ! (load ! (at-place ! (past-is 𝓤 H τs bs _ 2) (fld ! refl (stop !))) (look-in ! 10 (sub ! 3 refl (whole !))))) (from ! (stop !)) (init ! 44 refl (tt, record { fits = g .1 .1 .0 .1 .1 .1 .1 })) $
+      assigns ! (bin ! (val ! τs bs _ 0 6 refl) (lit ! tt) (of-post i (g₁ .1 .1))) (var ! τs bs _ 12) (init ! 30 refl (tt, of-post i (g₁ .1 .1))) $
+      assigns ! (addr ! (from ! (hop ! (look ! 44 refl) (fld ! refl (stop !))))) (var ! τs bs _ 13) (init ! 32 refl (tt, tt)) $
+      assigns ! (bin ! (val ! τs bs _ 13 32 refl) (val ! τs bs _ 12 30 refl) tt) (var ! τs bs _ 14) (init ! 34 refl (tt, tt)) $
+      assigns ! (bin ! (val ! τs bs _ 4 14 refl) (lit ! tt) (of-kind (r .at) (ltb→lt (r .at) kindCount in-it))) (var ! τs bs _ 15) (init ! 36 refl (tt, of-kind (r .at) (ltb→lt (r .at) kindCount in-it))) $
+      assigns ! (addr ! (at-place ! (past-is 𝓤 H τs bs _ 14) (hop ! (look ! 34 refl) (fld ! refl (stop !))))) (var ! τs bs _ 16) (init ! 38 refl (tt, tt)) $
+      assigns ! (bin ! (val ! τs bs _ 16 38 refl) (val ! τs bs _ 15 36 refl) tt) (var ! τs bs _ 17) (init ! 40 refl (tt, tt)) $
+      assigns-last ! (of-opd ! (load ! (at-place ! (past-is 𝓤 H τs bs _ 3) (fld ! refl (stop !))) (look-in ! 12 (sub ! 1 refl (whole !))))) (at-place ! (past-is 𝓤 H τs bs _ 17) (hop ! (look ! 40 refl) (stop !)))
+      (writes-at (slot-place i (r .at)) (store-in ! 2 (slot-part ! was i (g₁ .1 .1) (r .refused) (r .head) (r .at) (ltb→lt (r .at) kindCount in-it)) (of-slot (r .slot) (g .1 .1 .0 .1 .0)))) $
+      exec ! C Λ (env τs bs l₀ l₁ l₂ cs) (rest τs) (atRet (env τs bs l₀ l₁ l₂ cs) Post) $ rewrite ! 2 (cell (r .refused)) (slot-stored h was i (g₁ .1 .1) r in-it) refl $
+      assigns ! (of-opd ! (load ! (at-place ! (past-is 𝓤 H τs bs _ 3) (fld ! refl (stop !))) (look-in ! 12 (sub ! 4 refl (whole !))))) (from ! (stop !)) (init ! 46 refl (tt, record { fits = g .1 .1 .0 .1 .1 .1 .1 .1 })) $
       move ! (2 ∷ []) $ owned ! T.the-row (Is T.the-row) (LL.makes T.the-type T′.the-plain 𝓤 H A) (after i r) _ (after-is was i (g₁ .1 .1) r (g .1 .1 .0)) $
       move ! (1 ∷ 0 ∷ 4 ∷ 5 ∷ 6 ∷ []) $ closes ! tt T.the-row (after i r) (table-val (after i r) ∷ []) b o $
-      -- [obs; the borrow; the token; what came back; the arguments 4; local k at 5 + 2 k; l₂ 39; l₁ 41; l₀ 43; what is kept]
-      returns ! (look ! 43 refl) $ forget ! 39 refl $ forget ! 41 refl $ forget ! 43 refl $
-      move ! (43 ∷ 44 ∷ []) $ free1 ! $ move ! (41 ∷ 42 ∷ []) $ free1 ! $ move ! (39 ∷ 40 ∷ []) $ free1 ! $ move ! (4 ∷ []) $ free-args ! τs bs vs ty $
-      move ! (span 4 34) $ free-all ! σs cs (full _ ∷ full _ ∷ full _ ∷ full _ ∷ full _ ∷ full _ ∷ full _ ∷ full _ ∷ full _ ∷ full _ ∷ full _ ∷ full _ ∷ full _ ∷ full _ ∷ full _ ∷ full _ ∷ full _ ∷ []) $
+      -- [obs; the borrow; the token; what came back; the arguments 4; local k at 5 + 2 k; l₂ 41; l₁ 43; l₀ 45; what is kept]
+      returns ! (look ! 45 refl) $ forget ! 41 refl $ forget ! 43 refl $ forget ! 45 refl $
+      move ! (45 ∷ 46 ∷ []) $ free1 ! $ move ! (43 ∷ 44 ∷ []) $ free1 ! $ move ! (41 ∷ 42 ∷ []) $ free1 ! $ move ! (4 ∷ []) $ free-args ! τs bs vs ty $
+      move ! (span 4 36) $ free-all ! σs cs (full _ ∷ full _ ∷ full _ ∷ full _ ∷ full _ ∷ full _ ∷ full _ ∷ full _ ∷ full _ ∷ full _ ∷ full _ ∷ full _ ∷ full _ ∷ full _ ∷ full _ ∷ full _ ∷ full _ ∷ full _ ∷ []) $
       by ! (leaves was i (g₁ .1 .0) r (g .1 .1 .0) (g .1 .1 .1)))
-      (λ past-it. skips ! $ exec ! C Λ (env τs bs l₀ l₁ l₂ cs) (rest τs) (atRet (env τs bs l₀ l₁ l₂ cs) Post) $ rewrite ! 2 cell (slot-left h was i (g₁ .1 .1) r past-it) refl $
-      assigns ! (of-opd ! (load ! (at-place ! (past-is 𝓤 H τs bs _ 2) (fld ! refl (stop !))) (look-in ! 10 (sub ! 3 refl (whole !))))) (from ! (stop !)) (init ! 44 refl (tt, record { fits = g .1 .1 .0 .1 .1 .1 .1 })) $
+      (λ past-it. skips ! $ exec ! C Λ (env τs bs l₀ l₁ l₂ cs) (rest τs) (atRet (env τs bs l₀ l₁ l₂ cs) Post) $ rewrite ! 2 (cell (r .refused)) (slot-left h was i (g₁ .1 .1) r past-it) refl $
+      assigns ! (of-opd ! (load ! (at-place ! (past-is 𝓤 H τs bs _ 3) (fld ! refl (stop !))) (look-in ! 12 (sub ! 4 refl (whole !))))) (from ! (stop !)) (init ! 46 refl (tt, record { fits = g .1 .1 .0 .1 .1 .1 .1 .1 })) $
       move ! (2 ∷ []) $ owned ! T.the-row (Is T.the-row) (LL.makes T.the-type T′.the-plain 𝓤 H A) (after i r) _ (after-is was i (g₁ .1 .1) r (g .1 .1 .0)) $
       move ! (1 ∷ 0 ∷ 4 ∷ 5 ∷ 6 ∷ []) $ closes ! tt T.the-row (after i r) (table-val (after i r) ∷ []) b o $
-      -- [obs; the borrow; the token; what came back; the arguments 4; local k at 5 + 2 k; l₂ 39; l₁ 41; l₀ 43; what is kept]
-      returns ! (look ! 43 refl) $ forget ! 39 refl $ forget ! 41 refl $ forget ! 43 refl $
-      move ! (43 ∷ 44 ∷ []) $ free1 ! $ move ! (41 ∷ 42 ∷ []) $ free1 ! $ move ! (39 ∷ 40 ∷ []) $ free1 ! $ move ! (4 ∷ []) $ free-args ! τs bs vs ty $
-      move ! (span 4 34) $ free-all ! σs cs (full _ ∷ full _ ∷ full _ ∷ full _ ∷ full _ ∷ full _ ∷ full _ ∷ full _ ∷ full _ ∷ full _ ∷ full _ ∷ []) $
+      -- [obs; the borrow; the token; what came back; the arguments 4; local k at 5 + 2 k; l₂ 41; l₁ 43; l₀ 45; what is kept]
+      returns ! (look ! 45 refl) $ forget ! 41 refl $ forget ! 43 refl $ forget ! 45 refl $
+      move ! (45 ∷ 46 ∷ []) $ free1 ! $ move ! (43 ∷ 44 ∷ []) $ free1 ! $ move ! (41 ∷ 42 ∷ []) $ free1 ! $ move ! (4 ∷ []) $ free-args ! τs bs vs ty $
+      move ! (span 4 36) $ free-all ! σs cs (full _ ∷ full _ ∷ full _ ∷ full _ ∷ full _ ∷ full _ ∷ full _ ∷ full _ ∷ full _ ∷ full _ ∷ full _ ∷ full _ ∷ []) $
       by ! (leaves was i (g₁ .1 .0) r (g .1 .1 .0) (g .1 .1 .1))))))))))))))))

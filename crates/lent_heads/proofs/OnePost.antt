@@ -1,5 +1,5 @@
 -- The entries over one post: the head of the post that holds the channel, or of the first, is copied out, stepped by value,
--- and stored back with the slot that the step fills.
+-- and stored back with the slot that the step fills, and with the table's count.
 --     by-head      what a call of a step gives, from its contract
 --     meets        the entry's contract, from what a call of the step gives and that its step, stored back, is the one wanted:
 --                  `InHead.antt`'s walk, over what `some_place` ensures
@@ -25,7 +25,7 @@ use sound.WpLaws.{fmOf}
 use denote.RattleType.{Denots, Valss, flat, owns}
 use denote.Laws.{Is, Typed, all-typed, valss}
 use denote.Plain.{uint-makes}
-use denote.Builtin.{u32}
+use denote.Builtin.{u32, u64}
 use denote.Exit.{yes}
 use denote.Signature.{Slot, plain, typesAt}
 use denote.Steps.{only, owned, nothing}
@@ -58,15 +58,15 @@ use Rattle.lent_walks.proofs.Params.{Param, word, rows, mir-types, mirs-are, la
 use Rattle.lent_table.proofs.Entry.{table-val, Wanted, values, in-a-row, signature, ended, Tok, Own, Held, Walk, Shown}
 use Rattle.lent_table.proofs.Entry as Entry
 use Rattle.lent_heads.proofs.InHead as In
-use Rattle.lent_heads.proofs.Posts.{head-val, head-at, posts-long, Parts, Known}
+use Rattle.lent_heads.proofs.Posts.{head-val, head-at, posts-long, count-is, Parts, Known}
 
 -- a head's step, with the entry's parameters
 abbrev pub OfHead : {n : ℕ} → List (Param (suc n)) → Type 0
-OfHead {n} ps = (κs : Lfts (suc n)) → Head → Denots (rows (word ∷ ps) κs) → Worded
+OfHead {n} ps = (κs : Lfts (suc n)) → Head → ℕ → Denots (rows (word ∷ ps) κs) → Worded
 
 -- the signature of a step
 abbrev pub taking : {n : ℕ} → List (Slot n) → Ended
-taking {n} cs = record { signature = record { lifetimes = n; outlives = []; params = plain (λ κs. D.the-row) ∷ cs; result = plain (λ κs. F.the-row) }; kept = (yes, all yes cs) }
+taking {n} cs = record { signature = record { lifetimes = n; outlives = []; params = plain (λ κs. D.the-row) ∷ plain (λ κs. u64) ∷ cs; result = plain (λ κs. F.the-row) }; kept = (yes, (yes, all yes cs)) }
 
 -- what whoever holds what the step gives knows of its fields
 told : {M : Type 1} (𝓤 : URA M) (H : Heap 𝓤) (A : Atoms 𝓤) (W : Given 𝓤 H A) (w r : Worded) (v : Val) → r ≡ w → Is F.the-row r (v ∷ []) → Known w r v
@@ -76,7 +76,7 @@ told 𝓤 H A W w r v e is = (
 )
   where
     parts : AreAll (fields F.the-type) (F.the-type .to r) (valss (fields F.the-type) (LL.spells (F.the-type .parts) F′.the-laws) (F.the-type .to r)) → Parts r
-    parts o = (o .0, (o .1 .0, (o .1 .1 .0 .1, o .1 .1 .1 .0)))
+    parts o = (o .0, (o .1 .0, (o .1 .1 .0 .1, (o .1 .1 .1 .0, o .1 .1 .1 .1 .0))))
 
 module _ {M : Type 1} (𝓤 : URA M) (H : Heap 𝓤) (A : Atoms 𝓤) where
   -- what a call gives that has the result w
@@ -84,12 +84,12 @@ module _ {M : Type 1} (𝓤 : URA M) (H : Heap 𝓤) (A : Atoms 𝓤) where
   Gives tokens w v = mean 𝓤 H A (later (some (λ (r : Worded). given (Known w r v) (raw tokens ⊛ ‵ ftrue))))
 
 module _ {M : Type 1} (𝓤 : URA M) (H : Heap 𝓤) (𝓜 : Model 𝓤 H) (𝓖 : GhostRules 𝓤 H) (𝓡 : Running 𝓤 H 𝓜) (env : Env) (f : Name) (e : Routine) (means : env f ≡ e) (n : ℕ) (cs : List (Slot n)) (c : Clauses 𝓤 (taking cs)) (met : Triple 𝓤 (𝓡 .run e) (tripleOf 𝓤 H (𝓖 .A) (taking cs .signature) (closing 𝓤 H (𝓖 .A) (taking cs) c)))
-    (κs : Lfts n) (qs : Shares n) (x : Head) (a : Denots (typesAt cs κs)) (vss : Valss (typesAt cs κs)) (g : c κs (x, a) .ghost) where
-  pub by-head : (w : Worded) → ent 𝓤 (emp 𝓤) (c κs (x, a) .requires g) → ((r : Worded) (ws : Lasts (taking cs) κs (x, a)) → ent 𝓤 (c κs (x, a) .ensures g r (atExit (taking cs) κs (x, a) ws)) (fact 𝓤 (r ≡ w)))
-      → ent 𝓤 (mean 𝓤 H (𝓖 .A) (raw (toks 𝓤 (𝓖 .A) n κs qs) ⊛ ‵ (owns (D.the-row ∷ typesAt cs κs) (x, a) (head-val x ∷ [], vss))))
-      (tables 𝓤 H 𝓜 𝓡 env .C f (head-val x ∷ flat (typesAt cs κs) vss) (Gives 𝓤 H (𝓖 .A) (toks 𝓤 (𝓖 .A) n κs qs) w))
+    (κs : Lfts n) (qs : Shares n) (x : Head) (m : ℕ) (a : Denots (typesAt cs κs)) (vss : Valss (typesAt cs κs)) (g : c κs (x, (m, a)) .ghost) where
+  pub by-head : (w : Worded) → ent 𝓤 (emp 𝓤) (c κs (x, (m, a)) .requires g) → ((r : Worded) (ws : Lasts (taking cs) κs (x, (m, a))) → ent 𝓤 (c κs (x, (m, a)) .ensures g r (atExit (taking cs) κs (x, (m, a)) ws)) (fact 𝓤 (r ≡ w)))
+      → ent 𝓤 (mean 𝓤 H (𝓖 .A) (raw (toks 𝓤 (𝓖 .A) n κs qs) ⊛ ‵ (owns (D.the-row ∷ u64 ∷ typesAt cs κs) (x, (m, a)) (head-val x ∷ [], (vint w64 m ∷ [], vss)))))
+      (tables 𝓤 H 𝓜 𝓡 env .C f (head-val x ∷ vint w64 m ∷ flat (typesAt cs κs) vss) (Gives 𝓤 H (𝓖 .A) (toks 𝓤 (𝓖 .A) n κs qs) w))
   by-head w asked says =
-      called 𝓤 H 𝓜 𝓖 𝓡 env f e means (taking cs) c met κs qs tt (x, a) (head-val x ∷ [], vss) g {X = Worded} (λ r ws. r) (λ r ws. r ≡ w) (Known w) (λ r. ftrue) says
+      called 𝓤 H 𝓜 𝓖 𝓡 env f e means (taking cs) c met κs qs tt (x, (m, a)) (head-val x ∷ [], (vint w64 m ∷ [], vss)) g {X = Worded} (λ r ws. r) (λ r ws. r ≡ w) (Known w) (λ r. ftrue) says
       (λ r ws v. told 𝓤 H (𝓖 .A) (givenOf 𝓤 H 𝓜 𝓖) w r v) (λ r ws. top 𝓤 _) asked
 
 -- what `some_place` says of the place i, beside that it is one
@@ -114,9 +114,9 @@ module _ {M : Type 1} (𝓤 : URA M) (H : Heap 𝓤) (𝓜 : Model 𝓤 H) (𝓖
       (λ i ws. i) (λ i ws. Here h c i × (i < postCount)) (λ i v. ((v ≡ vint w64 i) × Fits w64 i) × (Here h c i × (i < postCount))) (λ i. ftrue) (λ i ws. id⊢ 𝓤 _) (λ i ws v e is. ((ap only (is .0), record { fits = is .1 }), e)) (λ i ws. top 𝓤 _) (id⊢ 𝓤 _))
 
   module _ {n : ℕ} (ps : List (Param (suc n))) (wanted : Wanted (word ∷ ps)) (f : Name) (step : OfHead ps)
-      (same : (κs : Lfts (suc n)) (h : Table) (a : Denots (rows (word ∷ ps) κs)) → length (h .posts) ≡ postCount → lentAt h (somePlace (h .posts) (a .0)) (step κs (head-at h (somePlace (h .posts) (a .0))) a) ≡ wanted κs h a)
-      (gave : (κs : Lfts (suc n)) (qs : Shares (suc n)) (x : Head) (a : Denots (rows (word ∷ ps) κs))
-      → ent 𝓤 (mean 𝓤 H A (Tok (word ∷ ps) 𝓤 A κs qs ⊛ ‵ (owns (D.the-row ∷ rows (word ∷ ps) κs) (x, a) (head-val x ∷ [], values (word ∷ ps) κs a)))) (C f (head-val x ∷ in-a-row (word ∷ ps) κs a) (Gives 𝓤 H A (toks 𝓤 A n (κs .1) (qs .1)) (step κs x a)))) where
+      (same : (κs : Lfts (suc n)) (h : Table) (a : Denots (rows (word ∷ ps) κs)) → length (h .posts) ≡ postCount → lentAt h (somePlace (h .posts) (a .0)) (step κs (head-at h (somePlace (h .posts) (a .0))) (h .refused) a) ≡ wanted κs h a)
+      (gave : (κs : Lfts (suc n)) (qs : Shares (suc n)) (x : Head) (m : ℕ) (a : Denots (rows (word ∷ ps) κs))
+      → ent 𝓤 (mean 𝓤 H A (Tok (word ∷ ps) 𝓤 A κs qs ⊛ ‵ (owns (D.the-row ∷ u64 ∷ rows (word ∷ ps) κs) (x, (m, a)) (head-val x ∷ [], (vint w64 m ∷ [], values (word ∷ ps) κs a))))) (C f (head-val x ∷ vint w64 m ∷ in-a-row (word ∷ ps) κs a) (Gives 𝓤 H A (toks 𝓤 A n (κs .1) (qs .1)) (step κs x m a)))) where
     -- the entry's MIR
     abbrev entry : Fn
     entry = In.fn (suc n) (mir-types ps) finder-def.name f
@@ -127,7 +127,7 @@ module _ {M : Type 1} (𝓤 : URA M) (H : Heap 𝓤) (𝓜 : Model 𝓤 H) (𝓖
         In.walk 𝓤 H A (givenOf 𝓤 H 𝓜 𝓖) (suc n) (mir-types ps) finder-def.name f (κs .0) (qs .0) b o γ h (a .0) (are .0 .1) (in-a-row ps κs (a .1))
         (subst (λ (σs : List Ty). Typed σs (in-a-row ps κs (a .1))) (mirs-are ps κs) (all-typed 𝓤 H A (rows ps κs) (lawful 𝓤 H A (givenOf 𝓤 H 𝓜 𝓖) ps κs) (a .1) _ (are .1))) C (tables 𝓤 H 𝓜 𝓡 env .Λ)
         (fmOf 𝓤 H (givenOf 𝓤 H 𝓜 𝓖 .laws) (tablesOf 𝓤 H 𝓜 (tables 𝓤 H 𝓜 𝓡 env))) (Here h (a .0)) stepped (raw (emp 𝓤) ⊛ ‵ ftrue) (tok ⊛ own) (tok ⊛ ‵ ftrue) own Post′
-        (λ was. finds h (a .0) was (are .0)) (λ i e is. via 𝓤 _ (hands i is) (gave κs qs (head-at h i) a)) leaves
+        (λ was. finds h (a .0) was (are .0)) (λ was i e is. via 𝓤 _ (hands i is (count-is h was)) (gave κs qs (head-at h i) (h .refused) a)) leaves
       where
         tok : Item 𝓤
         tok = Tok (word ∷ ps) 𝓤 A κs qs
@@ -136,10 +136,11 @@ module _ {M : Type 1} (𝓤 : URA M) (H : Heap 𝓤) (𝓜 : Model 𝓤 H) (𝓖
         own = Own (word ∷ ps) 𝓤 κs a
 
         stepped : ℕ → Worded
-        stepped i = step κs (head-at h i) a
+        stepped i = step κs (head-at h i) (h .refused) a
 
-        hands : (i : ℕ) → Is D.the-row (head-at h i) (head-val (head-at h i) ∷ []) → ent 𝓤 (mean 𝓤 H A (tok ⊛ own)) (mean 𝓤 H A (tok ⊛ ‵ (owns (D.the-row ∷ rows (word ∷ ps) κs) (head-at h i, a) (head-val (head-at h i) ∷ [], values (word ∷ ps) κs a))))
-        hands i is = qed (givenOf 𝓤 H 𝓜 𝓖) ((tok ⊛ own) ∷ []) ∵ split ! $ move ! (1 ∷ []) $ owned ! D.the-row (Is D.the-row) (LL.makes D.the-type D′.the-plain 𝓤 H A) (head-at h i) _ is $ fjoin ! $ move ! (1 ∷ 0 ∷ []) $ done !
+        hands : (i : ℕ) → Is D.the-row (head-at h i) (head-val (head-at h i) ∷ []) → Is u64 (h .refused) (vint w64 (h .refused) ∷ [])
+            → ent 𝓤 (mean 𝓤 H A (tok ⊛ own)) (mean 𝓤 H A (tok ⊛ ‵ (owns (D.the-row ∷ u64 ∷ rows (word ∷ ps) κs) (head-at h i, (h .refused, a)) (head-val (head-at h i) ∷ [], (vint w64 (h .refused) ∷ [], values (word ∷ ps) κs a)))))
+        hands i is count = qed (givenOf 𝓤 H 𝓜 𝓖) ((tok ⊛ own) ∷ []) ∵ split ! $ move ! (1 ∷ []) $ owned ! u64 (Is u64) (uint-makes 𝓤 H A (givenOf 𝓤 H 𝓜 𝓖) w64) (h .refused) _ count $ fjoin ! $ owned ! D.the-row (Is D.the-row) (LL.makes D.the-type D′.the-plain 𝓤 H A) (head-at h i) _ is $ fjoin ! $ move ! (1 ∷ 0 ∷ []) $ done !
 
         is-wanted : Is T.the-row h (table-val h ∷ []) → (i : ℕ) → Here h (a .0) i → (r : Worded) → r ≡ stepped i → lentAt h i r ≡ wanted κs h a
         is-wanted was i e r d = ap (λ (s : Worded). lentAt h i s) d ∙ ap (λ (j : ℕ). lentAt h j (stepped j)) e ∙ same κs h a (posts-long h was)
@@ -148,7 +149,7 @@ module _ {M : Type 1} (𝓤 : URA M) (H : Heap 𝓤) (𝓜 : Model 𝓤 H) (𝓖
             → ent 𝓤 (⋆ 𝓤 H A (Held 𝓤 (κs .0) (qs .0) b o γ (lentAt h i r .table) ((tok ⊛ ‵ ftrue) ∷ own ∷ []))) (Post′ (answer-val (r .answer)))
         leaves was i e r parts d = via 𝓤 _
             (qed (givenOf 𝓤 H 𝓜 𝓖) (Held 𝓤 (κs .0) (qs .0) b o γ (lentAt h i r .table) ((tok ⊛ ‵ ftrue) ∷ own ∷ [])) ∵ move ! (3 ∷ []) $ split ! $ keep ! (2 ∷ 3 ∷ 4 ∷ 0 ∷ 5 ∷ []) $ done !)
-            (exits (r .answer) (lentAt h i r .table) (parts .1 .1 .1) (ap (λ (s : Lent). s .answer) (is-wanted was i e r d), ap (λ (s : Lent). s .table) (is-wanted was i e r d)))
+            (exits (r .answer) (lentAt h i r .table) (parts .1 .1 .1 .1) (ap (λ (s : Lent). s .answer) (is-wanted was i e r d), ap (λ (s : Lent). s .table) (is-wanted was i e r d)))
 
     pub meets : (c : Clauses 𝓤 (ended (word ∷ ps))) → Shown 𝓤 H A (word ∷ ps) wanted c → Meets 𝓤 H A (signature (word ∷ ps)) (WpFn 𝓤 H C (tables 𝓤 H 𝓜 𝓡 env .Λ) entry) (closing 𝓤 H A (ended (word ∷ ps)) c)
     meets c shown = Entry.meets 𝓤 H 𝓜 𝓖 𝓡 env (word ∷ ps) wanted c shown entry walk

@@ -1,8 +1,7 @@
 -- What a walk that reads and stores parts of one post of a lent table needs:
 -- the machine values of posts, heads and slots, how many there are, and that a table with another post is a table.
 --     post-of x us         the machine value of a post, of its head's and its slots'
---     table-of h us        the machine value of the table h with other posts: the one place that says how a table lies.
---                          Fields behind the posts are taken as they are
+--     table-of us n        the machine value of a table, of its posts' and its count's: the one place that says how a table lies
 --     head-stored, slot-stored, slot-left      the posts' machine values after the store of a head, and then of a slot, or of none
 --     Known w r v          what a walk has of the step's result r at the machine value v, where the step ensures that it is w
 -- Assumes nothing.
@@ -14,11 +13,10 @@ use lib.Dec.{T as Holds, ltb}
 use lib.ListN.{length, getD, set, length-map, length-set, List·getD-map}
 use lib.Seq.{getD-set-same, set-set}
 use mir.Syntax.{Ty, w32, w64, tyInt, tyStruct, tcons, tnil}
-use mir.Val.{Val, vint, vstruct, vcons, vnil, ofList, restOf}
-use prog.Memory.{fieldsOf}
+use mir.Val.{Val, vint, vstruct, vcons, vnil, ofList}
 use denote.RattleType.{RattleType}
 use denote.Array.{arrayVal, Array}
-use denote.Builtin.{u32}
+use denote.Builtin.{u32, u64}
 use denote.Laws.{Is}
 use denote.Struct.Laws as LL
 use Rattle.rules.specs.declared.Slot.{Slot}
@@ -33,7 +31,7 @@ use Rattle.rules.proofs.Head.Laws as D′
 use Rattle.rules.proofs.Post as P
 use Rattle.rules.proofs.Post.Laws as P′
 use Rattle.watch_rules.specs.declared.Table.{Table}
-use Rattle.watch_rules.specs.Table.{postCount, putIn, noPost}
+use Rattle.watch_rules.specs.Table.{postCount, noPost}
 use Rattle.watch_rules.proofs.Table as T
 use Rattle.watch_rules.proofs.Table.Laws as T′
 use Rattle.lent_step.specs.declared.Worded.{Worded}
@@ -56,8 +54,8 @@ post-val = LL.val P.the-type P′.the-laws
 abbrev pub post-of : Val → List Val → Val
 post-of x us = vstruct (vcons x (vcons (vstruct (ofList us)) vnil))
 
-abbrev pub table-of : Table → List Val → Val
-table-of h us = vstruct (vcons (vstruct (ofList us)) (restOf (fieldsOf (table-val h))))
+abbrev pub table-of : List Val → ℕ → Val
+table-of us n = vstruct (vcons (vstruct (ofList us)) (vcons (vint w64 n) vnil))
 
 -- a post and a slot as an array holds them: type, machine value, and the machine values of an array's
 abbrev PF : RattleType
@@ -133,11 +131,18 @@ module _ (h : Table) (was : Is T.the-row h (table-val h ∷ [])) where
   pub us-long : length (us-of (h .posts)) ≡ postCount
   us-long = length-map ds p-val ∙ array-long PF postCount ds dvs posts-are
 
-  pub table-set : (i : ℕ) (p : Post) → Is P.the-row p (post-val p ∷ []) → Is T.the-row (putIn h i p) (table-val (putIn h i p) ∷ [])
-  table-set i p is = LL.owes T.the-type T′.the-laws (putIn h i p) (
+  pub count-is : Is u64 (h .refused) (vint w64 (h .refused) ∷ [])
+  count-is = LL.owed T.the-type T′.the-laws h _ was .1 .0
+
+  -- the table with another post, and another count
+  abbrev pub tableWith : ℕ → Post → ℕ → Table
+  tableWith i p n = record { posts = set (h .posts) i p; refused = n }
+
+  pub table-set : (i : ℕ) (p : Post) (n : ℕ) → Is P.the-row p (post-val p ∷ []) → Is u64 n (vint w64 n ∷ []) → Is T.the-row (tableWith i p n) (table-val (tableWith i p n) ∷ [])
+  table-set i p n is count = LL.owes T.the-type T′.the-laws (tableWith i p n) (
     subst (λ (xs : List (PF .Denot)). Is (Array PF postCount) xs (arrayVal (map p-val xs) ∷ [])) (map-set (P.the-type .to) (h .posts) i p)
         (array-set PF p-val (LL.tuple-tells P.the-type P′.the-laws) postCount ds dvs posts-are i (P.the-type .to p) is),
-    LL.owed T.the-type T′.the-laws h _ was .1,
+    (count, tt),
   )
 
   module _ (i : ℕ) (l : i < postCount) where
@@ -205,14 +210,14 @@ module _ (h : Table) (was : Is T.the-row h (table-val h ∷ [])) where
 -- ---- what a step gives
 
 abbrev pub τS : Ty
-τS = tyStruct (F.struct .name) (tcons D′.mir (tcons S′.mir (tcons (tyInt w64) (tcons (tyInt w32) tnil))))
+τS = tyStruct (F.struct .name) (tcons D′.mir (tcons S′.mir (tcons (tyInt w64) (tcons (tyInt w64) (tcons (tyInt w32) tnil)))))
 
 -- the machine value of a result, what is known of its parts, and all that a walk has of it
 abbrev pub stepped-val : Worded → Val
-stepped-val r = vstruct (vcons (head-val (r .head)) (vcons (slot-val (r .slot)) (vcons (vint w64 (r .at)) (vcons (answer-val (r .answer)) vnil))))
+stepped-val r = vstruct (vcons (head-val (r .head)) (vcons (slot-val (r .slot)) (vcons (vint w64 (r .at)) (vcons (vint w64 (r .refused)) (vcons (answer-val (r .answer)) vnil)))))
 
 abbrev pub Parts : Worded → Type 0
-Parts r = Is D.the-row (r .head) (head-val (r .head) ∷ []) × (Is S.the-row (r .slot) (slot-val (r .slot) ∷ []) × ((r .at < 2 ^ 64) × Is u32 (r .answer) (answer-val (r .answer) ∷ [])))
+Parts r = Is D.the-row (r .head) (head-val (r .head) ∷ []) × (Is S.the-row (r .slot) (slot-val (r .slot) ∷ []) × ((r .at < 2 ^ 64) × (Is u64 (r .refused) (vint w64 (r .refused) ∷ []) × Is u32 (r .answer) (answer-val (r .answer) ∷ []))))
 
 abbrev pub Known : Worded → Worded → Val → Type 0
 Known w r v = (v ≡ stepped-val r) × (Of τS v × (Parts r × (r ≡ w)))

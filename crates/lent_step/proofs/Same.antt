@@ -13,10 +13,10 @@ module _ (t : Table) (c time : ℕ) where
   abbrev place : ℕ
   place = somePlace (t .posts) c
 
-  pub frame-same : (m : ℕ) (x : Bool) (bs : List ℕ) → lentAt t place (frameOn (postIn t place .head) c time m x bs) ≡ frameWord t c time m x bs
+  pub frame-same : (m : ℕ) (x : Bool) (bs : List ℕ) → lentAt t place (frameOn (postIn t place .head) (t .refused) c time m x bs) ≡ frameWord t c time m x bs
   unfolding frameWord feedAt
   frame-same m x bs = ap lentFed (feed-same t c time (framing m x bs))
 
-  pub tick-same : lentAt t place (tickOn (postIn t place .head) c time) ≡ tickWord t c time
+  pub tick-same : lentAt t place (tickOn (postIn t place .head) (t .refused) c time) ≡ tickWord t c time
   unfolding tickWord feedAt
   tick-same = ap lentFed (feed-same t c time ticking)

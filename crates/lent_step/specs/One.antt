@@ -3,29 +3,31 @@
 use Prim.Native.Nat.{ℕ}
 use mathlib.Core.List.{List}
 use mathlib.Core.Bool.{Bool}
+use lib.ListN.{set}
 use Rattle.rules.specs.declared.Head.{Head}
 use Rattle.rules.specs.declared.Post.{Post}
 use Rattle.rules.specs.After.{stored}
 use Rattle.watch_rules.specs.declared.Table.{Table}
 use Rattle.watch_rules.specs.declared.Heard.{Heard}
 use Rattle.watch_rules.specs.declared.Arrival.the-variants.{Tick}
-use Rattle.watch_rules.specs.Table.{putIn, postIn, arrivalFor, heardOf}
+use Rattle.watch_rules.specs.Table.{postIn, arrivalFor, heardOf, refusedAfter}
 use Rattle.lent_words.specs.declared.Lent.{Lent}
 use Rattle.lent_words.specs.Words.{answerWord}
 use Rattle.lent_step.specs.declared.Worded.{Worded}
 
-abbrev pub wordedBy : Heard → Worded
-wordedBy r = record { head = r .head; slot = r .slot; at = r .at; answer = answerWord (r .answer) }
+-- n of the table's frames and ticks were refused before
+abbrev pub wordedBy : ℕ → Heard → Worded
+wordedBy n r = record { head = r .head; slot = r .slot; at = r .at; refused = refusedAfter n (r .answer); answer = answerWord (r .answer) }
 
-abbrev pub frameOn : Head → ℕ → ℕ → ℕ → Bool → List ℕ → Worded
-frameOn p c time m x bs = wordedBy (heardOf p c time (arrivalFor (p .limits) m x bs))
+abbrev pub frameOn : Head → ℕ → ℕ → ℕ → ℕ → Bool → List ℕ → Worded
+frameOn p n c time m x bs = wordedBy n (heardOf p c time (arrivalFor (p .limits) m x bs))
 
-abbrev pub tickOn : Head → ℕ → ℕ → Worded
-tickOn p c time = wordedBy (heardOf p c time Tick)
+abbrev pub tickOn : Head → ℕ → ℕ → ℕ → Worded
+tickOn p n c time = wordedBy n (heardOf p c time Tick)
 
--- the post with the stepped head, and the slot, and the table with that post in its place
+-- the post with the stepped head, and the slot, and the table with that post in its place, and with the count
 abbrev pub storedBy : Post → Worded → Post
 storedBy p r = stored p (r .head) (r .at) (r .slot)
 
 abbrev pub lentAt : Table → ℕ → Worded → Lent
-lentAt t i r = record { table = putIn t i (storedBy (postIn t i) r); answer = r .answer }
+lentAt t i r = record { table = record { posts = set (t .posts) i (storedBy (postIn t i) r); refused = r .refused }; answer = r .answer }

@@ -1,5 +1,5 @@
 // A frame and a tick over one post's head, by value and with the answer as a word: `watch_hear::hear`, by which the table's own step goes too.
-// For `lent_frame` and `lent_tick`, which copy a head out of a lent table, and store the head and one slot back.
+// For `lent_frame` and `lent_tick`, which copy a head out of a lent table, and store the head, one slot and the count of what was refused back.
 ghost use mathlib.Core.Path.{_≡_};
 ghost use Rattle.lent_step.specs.One.{wordedBy, frameOn, tickOn};
 use lent_words::answer_word;
@@ -7,19 +7,21 @@ use rules::Head;
 use rules::Slot;
 use watch_hear::arrival_for;
 use watch_hear::hear;
+use watch_hear::refused_after;
 use watch_rules::Arrival;
 use watch_rules::Heard;
 
-// What a post heard, with the answer as a word.
+// What a post heard, with the table's count of refused frames and ticks afterwards, and the answer as a word.
 pub struct Worded {
     pub head: Head,
     pub slot: Slot,
     pub at: usize,
+    pub refused: u64,
     pub answer: u32,
 }
 
-fn in_words(r: Heard) -> Worded
-    ensures { λ w. ⌜ w ≡ wordedBy r ⌝ }
+fn in_words(n: u64, r: Heard) -> Worded
+    ensures { λ w. ⌜ w ≡ wordedBy n r ⌝ }
 {
     let head = r.head;
     let slot = r.slot;
@@ -28,20 +30,29 @@ fn in_words(r: Heard) -> Worded
         head,
         slot,
         at: r.at,
+        refused: refused_after(n, answer),
         answer: answer_word(answer),
     }
 }
 
-pub fn frame_on(h: Head, channel: u32, time: u32, id: u32, extended: bool, payload: &[u8]) -> Worded
-    ensures { λ r. ⌜ r ≡ frameOn h channel time id extended (now (payload .entry)) ⌝ }
+pub fn frame_on(
+    h: Head,
+    refused: u64,
+    channel: u32,
+    time: u32,
+    id: u32,
+    extended: bool,
+    payload: &[u8],
+) -> Worded
+    ensures { λ r. ⌜ r ≡ frameOn h refused channel time id extended (now (payload .entry)) ⌝ }
 {
     let limits = h.limits;
     let a = arrival_for(limits, id, extended, payload);
-    in_words(hear(h, channel, time, a))
+    in_words(refused, hear(h, channel, time, a))
 }
 
-pub fn tick_on(h: Head, channel: u32, time: u32) -> Worded
-    ensures { λ r. ⌜ r ≡ tickOn h channel time ⌝ }
+pub fn tick_on(h: Head, refused: u64, channel: u32, time: u32) -> Worded
+    ensures { λ r. ⌜ r ≡ tickOn h refused channel time ⌝ }
 {
-    in_words(hear(h, channel, time, Arrival::Tick))
+    in_words(refused, hear(h, channel, time, Arrival::Tick))
 }

@@ -13,7 +13,9 @@ pub extern "C" fn rokemaipu_tick(t: &mut Table, channel: u32, time: u32) -> u32
 {
     let i = some_place(*t, channel);
     let h = t.posts[i].head;
-    let r = tick_on(h, channel, time);
+    let n = t.refused;
+    let r = tick_on(h, n, channel, time);
+    t.refused = r.refused;
     t.posts[i].head = r.head;
     let at = r.at;
     if at < KINDS {

@@ -1,6 +1,6 @@
 // One post of the session watch, by value: a post that is set up, and its head stepped by a tick or a frame, with the event's findings. For the tables of
 // posts.
-// A step has two promises: what it is for every head, and, for whatever history the head stands for,
+// A step has two promises: what it is for every head, and, for whatever history with room for one event more the head stands for,
 // that its findings are 01's over that history and that the post with what it leaves stands for the longer one.
 ghost use mathlib.Core.Path.{_≡_};
 ghost use Rattle.rules.specs.Right.{tickAt, frameAt, AfterRight};
@@ -10,6 +10,7 @@ mod step; // step.rt: a head after one event more
 
 use rule_limits::PlainLimits;
 use rules::AfterEvent;
+use rules::COUNTS;
 use rules::Head;
 use rules::KINDS;
 use rules::Post;
@@ -29,6 +30,7 @@ fn new_post(used: u32, channel: u32, limits: PlainLimits) -> Post
         controller: none,
         parameters: none,
         session,
+        counts: [0; COUNTS],
     };
     Post {
         head,
@@ -57,18 +59,20 @@ pub fn fresh_post(channel: u32, limits: PlainLimits) -> Post
     new_post(1, channel, limits)
 }
 
-// The head goes to the event's time first, and is judged there; then the frame is put in. A tick is the first half.
+// The head goes to the event's time first, and is judged there; then the frame is put in, and the event counted. A tick is the same without a frame.
 pub fn tick(h: Head, time: u32) -> AfterEvent
     ensures by_record { λ r. ⌜ r ≡ afterTick h time ⌝ }
     ensures by_history { λ r. ⌜ AfterRight h (tickAt time) r ⌝ }
 {
     let g = step::aged(h, post_times::stamp(h, time));
+    let findings = post_times::any_findings(g);
     let slot = step::no_slot();
+    let counted = step::with_counts(g, findings);
     AfterEvent {
-        head: g,
+        head: counted,
         slot,
         at: KINDS,
-        findings: post_times::any_findings(g),
+        findings,
     }
 }
 
@@ -80,8 +84,9 @@ pub fn frame(h: Head, time: u32, kind: usize, raw: u64) -> AfterEvent
     let findings = post_times::any_findings(g) + post_findings::message_findings(g, kind, raw);
     let slot = step::slot_at(g.time, raw);
     let f = step::with_frame(g, kind, slot);
+    let counted = step::with_counts(f, findings);
     AfterEvent {
-        head: f,
+        head: counted,
         slot,
         at: kind,
         findings,

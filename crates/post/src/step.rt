@@ -2,7 +2,7 @@
 ghost use mathlib.Core.Path.{_≡_};
 ghost use Prim.Native.Nat.{_<_};
 ghost use Rattle.rules.specs.Record.{unknown, slotAt, closedSession};
-ghost use Rattle.rules.specs.After.{keptCount, keptPut, openedBy, sessionAfter, agedTo, putAt, withFrame};
+ghost use Rattle.rules.specs.After.{keptCount, keptPut, openedBy, sessionAfter, agedTo, putAt, withFrame, withCounts};
 use message_types::CONTROL;
 use message_types::CONTROLLER;
 use message_types::FINISHED;
@@ -118,5 +118,16 @@ pub fn with_frame(h: Head, kind: usize, n: Slot) -> Head
     g.controller = put_at(CONTROLLER, kind, n, c);
     g.parameters = put_at(PARAMETERS, kind, n, p);
     g.session = session_after(s, kind, n);
+    g
+}
+
+// The head with an event counted.
+pub fn with_counts(h: Head, findings: u32) -> Head
+    ensures { λ r. ⌜ r ≡ withCounts h findings ⌝ }
+{
+    let kept = h.counts;
+    let counts = post_counts::count(kept, findings);
+    let mut g = h;
+    g.counts = counts;
     g
 }

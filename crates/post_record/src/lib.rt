@@ -2,16 +2,19 @@
 ghost use lib.ListN.{getD};
 ghost use mathlib.Core.List.{map};
 ghost use mathlib.Core.Path.{_≡_};
+ghost use Prim.Native.Nat.{_+_};
 ghost use Rattle.rules.specs.History.{receivedOf, countFrom};
 ghost use Rattle.rules.specs.Record.{kindCount, unknown};
 ghost use Rattle.rules.specs.Right.{RecordRight};
-ghost use Rattle.rules.specs.After.{datedIn, partIn, lastIn, postRecord};
+ghost use Rattle.rules.specs.After.{datedIn, partIn, lastIn, findingCount, postRecord};
 use message_types::CONTROL;
 use message_types::STATUS;
 use rule_asks::is_set;
 use rule_limits::kept::limits_in;
 use rules::CONTROL_PLACE;
+use rules::COUNTS;
 use rules::Dated;
+use rules::FINDINGS;
 use rules::Head;
 use rules::KINDS;
 use rules::LastTime;
@@ -91,6 +94,19 @@ fn messages_of(now: u64, slots: [Slot; KINDS]) -> [Latest; KINDS]
     latest
 }
 
+// The tallies, finding 1 first.
+fn tallies_of(counts: [u32; COUNTS]) -> [u32; FINDINGS]
+    ensures { λ r. ⌜ r ≡ map (λ k. getD counts (k + 1) 0) (countFrom 0 findingCount) ⌝ }
+{
+    let mut tallies = [0; FINDINGS];
+    let mut k: usize = 0;
+    while k < FINDINGS {
+        tallies[k] = counts[k + 1];
+        k += 1;
+    }
+    tallies
+}
+
 pub fn of_post(p: Post) -> Record
     ensures by_record { λ r. ⌜ r ≡ postRecord p ⌝ }
     ensures by_history { λ r. ⌜ RecordRight p r ⌝ }
@@ -104,11 +120,15 @@ pub fn of_post(p: Post) -> Record
     let s = h.session;
     let session = part(now, s);
     let last = last_time(h);
+    let counts = h.counts;
+    let tallies = tallies_of(counts);
     Record {
         channel: h.channel,
         limits,
         last,
         latest,
         session,
+        accepted: counts[0],
+        tallies,
     }
 }

@@ -15,7 +15,7 @@ use Rattle.rules.specs.declared.Head.{Head}
 use Rattle.rules.specs.declared.AfterEvent.{AfterEvent}
 use Rattle.rules.specs.History.{Event, frame, tick, History, sinceFinished, opening, inSession}
 use Rattle.rules.specs.Rules.{sessionStatus, sessionControl, limitOf, f1, f2, f3, f4, f5, f6, f7, f8, f9, f10, f11, findings01}
-use Rattle.rules.specs.After.{sessionAfter, agedTo, withFrame, silentIn, lateAfter, anyFindings, unreadyIn, carryingIn, controlFindings, statusFindings, openingFindings, finishedFindings, messageFindings, afterTick, afterFrame, newHead}
+use Rattle.rules.specs.After.{sessionAfter, agedTo, withFrame, silentIn, lateAfter, anyFindings, unreadyIn, carryingIn, controlFindings, statusFindings, openingFindings, finishedFindings, messageFindings, withCounts, afterTick, afterFrame, newHead}
 
 -- ---- the findings of events in order of arrival
 
@@ -83,5 +83,5 @@ All [] = Unit {0}
 All (x ∷ xs) = ((lookedBack limits [] (x .0) ≡ x .1) × (inTurn (newHead 1 4 limits) (x .0) ≡ x .1)) × All xs
 
 pub both-sides : All table
-unfolding sinceFinished opening inSession lowersBadly outside leaking badInsulation differs sessionStatus sessionControl limitOf f1 f2 f3 f4 f5 f6 f7 f8 f9 f10 f11 findings01 sessionAfter agedTo withFrame silentIn lateAfter anyFindings unreadyIn carryingIn controlFindings statusFindings openingFindings finishedFindings messageFindings afterTick afterFrame statusIn parametersIn sessionIn controlIn rows ofKind firstAt wholesOf pad rawsOf getBits toSigned
+unfolding sinceFinished opening inSession lowersBadly outside leaking badInsulation differs sessionStatus sessionControl limitOf f1 f2 f3 f4 f5 f6 f7 f8 f9 f10 f11 findings01 sessionAfter agedTo withFrame silentIn lateAfter anyFindings unreadyIn carryingIn controlFindings statusFindings openingFindings finishedFindings messageFindings withCounts afterTick afterFrame statusIn parametersIn sessionIn controlIn rows ofKind firstAt wholesOf pad rawsOf getBits toSigned
 both-sides = ((refl, refl), ((refl, refl), ((refl, refl), ((refl, refl), ((refl, refl), ((refl, refl), ((refl, refl), tt)))))))

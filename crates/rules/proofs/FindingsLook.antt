@@ -2,6 +2,7 @@
 use Prim.Native.Nat.{ℕ, _+_}
 use native.Mathlib.Omega.{arith}
 use mathlib.Core.Path.{_≡_, refl, sym, _∙_}
+use mathlib.Core.List.{List}
 use mathlib.Core.Bool.{true, _&&_}
 use mathlib.Core.Option.{Option, none, some}
 use lib.Dec.{ltb}
@@ -73,14 +74,14 @@ differs-look (some o) a n = refl
 
 -- ---- the sum
 
-module _ (c : ℕ) (lim : PlainLimits) (h : History) where
-  any-look : (e : Event) → anyFindings (headAt c lim true (timeOf e) h) ≡ bit (f1 lim h e) 1 + bit (f2 lim h e) 2
+module _ (c : ℕ) (lim : PlainLimits) (cs : List ℕ) (h : History) where
+  any-look : (e : Event) → anyFindings (headAt c lim cs true (timeOf e) h) ≡ bit (f1 lim h e) 1 + bit (f2 lim h e) 2
   unfolding anyFindings headAt session01 sessionStatus f1 f2
   any-look e = simp (silent-look, late-look)
 
   -- as of any time `now`: these rules ask for none
   module _ (now t raw : ℕ) where
-    status-look : statusFindings (headAt c lim true now h) (statusIn raw) ≡ messageBits lim h (frame t statusKind raw)
+    status-look : statusFindings (headAt c lim cs true now h) (statusIn raw) ≡ messageBits lim h (frame t statusKind raw)
     unfolding statusFindings headAt session01 sessionStatus sessionControl limitOf f3 f4 f5 f6 f7 f8 f9 f10 f11
     status-look = simp (open-look, carrying-look, limit-look) (omega arith)
 
@@ -88,7 +89,7 @@ module _ (c : ℕ) (lim : PlainLimits) (h : History) where
     unfolding session01 f3 f4 f5 f6 f7 f8 f9 f10 f11
     session-look = simp differs-look (omega arith)
 
-    control-look : controlFindings (headAt c lim true now h) (controlIn raw) ≡ messageBits lim h (frame t controlKind raw)
+    control-look : controlFindings (headAt c lim cs true now h) (controlIn raw) ≡ messageBits lim h (frame t controlKind raw)
     unfolding controlFindings headAt session01 sessionStatus sessionControl limitOf f3 f4 f5 f6 f7 f8 f9 f10 f11
     control-look = simp (open-look, unready-look, limit-look) (omega arith)
 
@@ -96,19 +97,19 @@ module _ (c : ℕ) (lim : PlainLimits) (h : History) where
     unfolding finishedFindings session01 f3 f4 f5 f6 f7 f8 f9 f10 f11
     finished-look = simp open-look (omega arith)
 
-    message-look : (k : ℕ) → messageFindings (headAt c lim true now h) k raw ≡ messageBits lim h (frame t k raw)
+    message-look : (k : ℕ) → messageFindings (headAt c lim cs true now h) k raw ≡ messageBits lim h (frame t k raw)
     unfolding messageFindings headAt
     message-look =
-        by-kind (λ k. messageFindings (headAt c lim true now h) k raw ≡ messageBits lim h (frame t k raw))
+        by-kind (λ k. messageFindings (headAt c lim cs true now h) k raw ≡ messageBits lim h (frame t k raw))
         status-look
         session-look
         control-look
         finished-look
         (λ k s n d f. rw (s, n, d, f) (sym (no-bits lim h (frame t k raw) (unasked-frame t k raw s n d f))))
 
-  pub findings-tick : (t : ℕ) → anyFindings (headAt c lim true t h) ≡ findings01 lim h (tick t)
+  pub findings-tick : (t : ℕ) → anyFindings (headAt c lim cs true t h) ≡ findings01 lim h (tick t)
   findings-tick t = any-look (tick t) ∙ sym (only-f1-f2 lim h (tick t) (refl, refl, refl, refl))
 
-  pub findings-frame : (t k raw : ℕ) → anyFindings (headAt c lim true t h) + messageFindings (headAt c lim true t h) k raw ≡ findings01 lim h (frame t k raw)
+  pub findings-frame : (t k raw : ℕ) → anyFindings (headAt c lim cs true t h) + messageFindings (headAt c lim cs true t h) k raw ≡ findings01 lim h (frame t k raw)
   unfolding findings01
   findings-frame t k raw = rw (any-look (frame t k raw), message-look t t raw k) (omega arith)

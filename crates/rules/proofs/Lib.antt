@@ -5,6 +5,7 @@ pub mod ByKind
 pub mod Unasked
 pub mod SessionLook
 pub mod FindingsLook
+pub mod CountsLook
 pub mod Look
 pub mod Right
 pub mod Excludes

@@ -3,7 +3,7 @@
 use Prim.Native.Nat.{ℕ, _<_}
 use native.Mathlib.Omega.{arith}
 use mathlib.Core.Path.{_≡_, refl, sym}
-use mathlib.Core.List.{[], _∷_, map}
+use mathlib.Core.List.{List, [], _∷_, map}
 use mathlib.Core.Bool.{Bool, true, false, cond}
 use mathlib.Core.Option.{Option, none, some}
 use borrow.Author.Tests.{eq-eqb, ne-eqb, ltb-false}
@@ -14,11 +14,13 @@ use Rattle.rule_limits.specs.declared.PlainLimits.{PlainLimits}
 use Rattle.rules.specs.declared.Latest.{Latest}
 use Rattle.rules.specs.History.{frame, tick, History, newest, ofKind, sinceFinished, opening, inSession, stampOf, earlierIn, countFrom}
 use Rattle.rules.specs.Rules.{sessionStatus, sessionControl, findings01}
+use Rattle.rules.specs.Counts.{timesFound, talliesOf, countsOf, isFull}
 use Rattle.rules.specs.Record.{kindCount, datedOf, lastOf, partOf, latestTime, recordAsOf, recordOf, unknown, slotAt, slotOf, keptOf, sessionOf, session01, headAt, headOf, latests, postOf}
-use Rattle.rules.specs.After.{putAt, agedTo, withFrame, isEarly, afterTick, afterFrame, keepIn, stored, freshPost, latestIn, datedIn, partIn, lastIn, postRecord}
+use Rattle.rules.specs.After.{putAt, agedTo, withFrame, isEarly, counted, isFullIn, tallyIn, findingCount, withCounts, afterTick, afterFrame, keepIn, stored, freshPost, latestIn, datedIn, partIn, lastIn, postRecord}
 use Rattle.rules.proofs.Counted.{count-at, count-same, count-set}
 use Rattle.rules.proofs.SessionLook.{session-stays, session-frame}
 use Rattle.rules.proofs.FindingsLook.{findings-tick, findings-frame}
+use Rattle.rules.proofs.CountsLook.{counts-look}
 
 -- ---- the latest of each kind
 
@@ -70,17 +72,25 @@ part-look now h (some o) = simp dated-look
 module _ (c : ℕ) (lim : PlainLimits) where
   -- ---- the head after one event more
 
-  aged-look : (h : History) (t : ℕ) → agedTo (headOf c lim h) t ≡ headAt c lim true t h
+  aged-look : (h : History) (t : ℕ) → agedTo (headOf c lim h) t ≡ headAt c lim (countsOf lim h) true t h
   unfolding agedTo headAt
   aged-look h t = refl
 
-  head-frame : (h : History) (t k raw : ℕ) → withFrame (headAt c lim true t h) k (slotAt t raw) ≡ headOf c lim (frame t k raw ∷ h)
+  head-frame : (cs : List ℕ) (h : History) (t k raw : ℕ) → withFrame (headAt c lim cs true t h) k (slotAt t raw) ≡ headAt c lim cs true t (frame t k raw ∷ h)
   unfolding withFrame headAt
-  head-frame h t k raw = rw (session-frame h t k raw, put-frame h controllerKind t k raw, put-frame h parametersKind t k raw)
+  head-frame cs h t k raw = rw (session-frame h t k raw, put-frame h controllerKind t k raw, put-frame h parametersKind t k raw)
 
-  head-tick : (h : History) (t : ℕ) → headAt c lim true t h ≡ headOf c lim (tick t ∷ h)
+  head-tick : (cs : List ℕ) (h : History) (t : ℕ) → headAt c lim cs true t h ≡ headAt c lim cs true t (tick t ∷ h)
   unfolding headAt
-  head-tick h t = rw (session-stays h (tick t) (refl, refl, refl, refl))
+  head-tick cs h t = rw (session-stays h (tick t) (refl, refl, refl, refl))
+
+  counted-look : (cs : List ℕ) (t n : ℕ) (h : History) → withCounts (headAt c lim cs true t h) n ≡ headAt c lim (counted n cs) true t h
+  unfolding withCounts headAt
+  counted-look cs t n h = refl
+
+  pub full-look : (h : History) → isFullIn (headOf c lim h) ≡ isFull h
+  unfolding headAt
+  full-look h = refl
 
   -- ---- the record's parts
 
@@ -122,7 +132,7 @@ module _ (c : ℕ) (lim : PlainLimits) where
   limits-look h = refl
 
   pub fresh-look : freshPost c lim ≡ postOf c lim []
-  unfolding headAt latests session01 opening sinceFinished
+  unfolding headAt latests session01 opening sinceFinished talliesOf
   fresh-look = refl
 
   pub early-look : (h : History) (t : ℕ) → isEarly (headOf c lim h) t ≡ earlierIn h t
@@ -130,17 +140,19 @@ module _ (c : ℕ) (lim : PlainLimits) where
   early-look [] t = refl
   early-look (e ∷ h) t = refl
 
-  pub tick-look : (h : History) (t : ℕ)
+  pub tick-look : (h : History) (t : ℕ) → isFull h ≡ false
       → afterTick (headOf c lim h) t
       ≡ record { head = headOf c lim (tick (stampOf h t) ∷ h); slot = unknown; at = kindCount; findings = findings01 lim h (tick (stampOf h t)) }
   unfolding afterTick
-  tick-look h t = rw (aged-look h t, findings-tick c lim h t, head-tick h t)
+  tick-look h t room =
+      rw (aged-look h t, findings-tick c lim (countsOf lim h) h t, head-tick (countsOf lim h) h t, counted-look (countsOf lim h) t (findings01 lim h (tick t)) (tick t ∷ h), counts-look lim h (tick t) room)
 
-  pub frame-look : (h : History) (t k raw : ℕ)
+  pub frame-look : (h : History) (t k raw : ℕ) → isFull h ≡ false
       → afterFrame (headOf c lim h) t k raw
       ≡ record { head = headOf c lim (frame (stampOf h t) k raw ∷ h); slot = slotAt (stampOf h t) raw; at = k; findings = findings01 lim h (frame (stampOf h t) k raw) }
   unfolding afterFrame
-  frame-look h t k raw = rw (aged-look h t, findings-frame c lim h t k raw, head-frame h t k raw)
+  frame-look h t k raw room =
+      rw (aged-look h t, findings-frame c lim (countsOf lim h) h t k raw, head-frame (countsOf lim h) h t k raw, counted-look (countsOf lim h) t (findings01 lim h (frame t k raw)) (frame t k raw ∷ h), counts-look lim h (frame t k raw) room)
 
   -- the post with what a step left of it
   pub stored-tick : (h : History) (t : ℕ) → stored (postOf c lim h) (headOf c lim (tick t ∷ h)) kindCount unknown ≡ postOf c lim (tick t ∷ h)
@@ -153,5 +165,5 @@ module _ (c : ℕ) (lim : PlainLimits) where
   stored-still h = refl
 
   pub record-look : (h : History) → postRecord (postOf c lim h) ≡ recordOf c lim h
-  unfolding postRecord recordAsOf headAt
+  unfolding postRecord recordAsOf headAt talliesOf
   record-look h = rw (last-look h, messages-look (latestTime h) h, session-look (latestTime h) h)

@@ -1,10 +1,10 @@
 -- Inner step: a post's head after one event more, and the event's findings, as the code takes them.
 -- The first promise of an operation, by_record, is in these words; the second, by_history, is in those of looking back:
 -- `frame-look` and `tick-look` make the two one.
-use Prim.Native.Nat.{ℕ, _+_, max}
-use mathlib.Core.List.{List, [], map}
+use Prim.Native.Nat.{ℕ, suc, _+_, _*_, _/_, _%_, max}
+use mathlib.Core.List.{List, [], _∷_, map}
 use mathlib.Core.Bool.{Bool, true, cond, not, _&&_}
-use lib.Dec.{ltb, eqb}
+use lib.Dec.{ltb, leb, eqb}
 use lib.ListN.{getD, set, replicate}
 use Rattle.message_types.specs.declared.DcPowerParameters.{DcPowerParameters}
 use Rattle.message_types.specs.declared.DcPowerControl.{DcPowerControl}
@@ -29,6 +29,7 @@ use Rattle.rules.specs.declared.SessionPart.{SessionPart}
 use Rattle.rules.specs.declared.SessionPart.the-variants as part
 use Rattle.rules.specs.declared.Record.{Record}
 use Rattle.rules.specs.History.{elapsed, earlier, receivedOf, countFrom}
+use Rattle.rules.specs.Counts.{largest}
 use Rattle.rules.specs.Record.{kindCount, isSet, unknown, slotAt, closedSession}
 
 -- ---- the session's part after a frame
@@ -76,6 +77,7 @@ agedTo p t =
       controller = p .controller;
       parameters = p .parameters;
       session = p .session;
+      counts = p .counts;
     }
 
 abbrev pub putAt : ℕ → ℕ → Slot → Slot → Slot
@@ -92,6 +94,7 @@ withFrame p k n =
       controller = putAt controllerKind k n (p .controller);
       parameters = putAt parametersKind k n (p .parameters);
       session = sessionAfter (p .session) k n;
+      counts = p .counts;
     }
 
 abbrev pub isEarly : Head → ℕ → Bool
@@ -152,19 +155,62 @@ messageFindings p k raw =
     (cond (eqb k controlKind) (controlFindings p (controlIn raw))
     (cond (eqb k finishedKind) (finishedFindings (p .session)) 0)))
 
+-- ---- the counts
+
+-- one more in 32 bits for each that has its bit of n
+abbrev pub withBits : ℕ → List ℕ → List ℕ
+withBits n [] = []
+withBits n (x ∷ l) = cond (eqb (n % 2) 1) ((x + 1) % 4294967296) x ∷ withBits (n / 2) l
+
+-- an event with the findings n counts once, and once for each finding
+unfoldable pub counted : ℕ → List ℕ → List ℕ
+counted n cs = withBits (1 + 2 * n) cs
+
+abbrev pub acceptedBy : Head → ℕ
+acceptedBy p = getD (p .counts) 0 0
+
+abbrev pub isFullIn : Head → Bool
+isFullIn p = leb largest (acceptedBy p)
+
+abbrev pub tallyIn : Head → ℕ → ℕ
+tallyIn p k = getD (p .counts) (suc k) 0
+
+unfoldable pub withCounts : Head → ℕ → Head
+withCounts p n =
+    record {
+      used = p .used;
+      channel = p .channel;
+      limits = p .limits;
+      heard = p .heard;
+      time = p .time;
+      controller = p .controller;
+      parameters = p .parameters;
+      session = p .session;
+      counts = counted n (p .counts);
+    }
+
 -- ---- the steps
 
 unfoldable pub afterTick : Head → ℕ → AfterEvent
 afterTick p t =
-    record { head = agedTo p (stampIn p t); slot = unknown; at = kindCount; findings = anyFindings (agedTo p (stampIn p t)) }
+    record {
+      head = withCounts (agedTo p (stampIn p t)) (anyFindings (agedTo p (stampIn p t)));
+      slot = unknown;
+      at = kindCount;
+      findings = anyFindings (agedTo p (stampIn p t));
+    }
+
+-- the findings of a frame, of a head that was aged to its time
+abbrev pub frameFindings : Head → ℕ → ℕ → ℕ
+frameFindings p k raw = anyFindings p + messageFindings p k raw
 
 unfoldable pub afterFrame : Head → ℕ → ℕ → ℕ → AfterEvent
 afterFrame p t k raw =
     record {
-      head = withFrame (agedTo p (stampIn p t)) k (slotAt (stampIn p t) raw);
+      head = withCounts (withFrame (agedTo p (stampIn p t)) k (slotAt (stampIn p t) raw)) (frameFindings (agedTo p (stampIn p t)) k raw);
       slot = slotAt (stampIn p t) raw;
       at = k;
-      findings = anyFindings (agedTo p (stampIn p t)) + messageFindings (agedTo p (stampIn p t)) k raw;
+      findings = frameFindings (agedTo p (stampIn p t)) k raw;
     }
 
 -- ---- the post with a head, and with a frame of a kind; a number that is no kind leaves the latest frames as they were
@@ -180,9 +226,26 @@ stored p d k n = record { head = d; latest = keepIn (p .latest) k n }
 abbrev pub noLimits : PlainLimits
 noLimits = record { voltage = 0; charge = 0; discharge = 0; silence = 0; sensor = 0 }
 
+-- place 0 and a place for each finding
+abbrev pub findingCount : ℕ
+findingCount = 11
+
+abbrev pub countCount : ℕ
+countCount = 12
+
 abbrev pub newHead : ℕ → ℕ → PlainLimits → Head
 newHead used c lim =
-    record { used = used; channel = c; limits = lim; heard = 0; time = 0; controller = unknown; parameters = unknown; session = closedSession }
+    record {
+      used = used;
+      channel = c;
+      limits = lim;
+      heard = 0;
+      time = 0;
+      controller = unknown;
+      parameters = unknown;
+      session = closedSession;
+      counts = replicate countCount 0;
+    }
 
 abbrev pub newPost : ℕ → ℕ → PlainLimits → Post
 newPost used c lim = record { head = newHead used c lim; latest = replicate kindCount unknown }
@@ -226,4 +289,6 @@ postRecord p =
       last = lastIn (p .head);
       latest = map (λ k. record { message = datedIn (p .head .time) k (latestIn p k) }) (countFrom 0 kindCount);
       session = partIn (p .head .time) (p .head .session);
+      accepted = acceptedBy (p .head);
+      tallies = map (tallyIn (p .head)) (countFrom 0 findingCount);
     }

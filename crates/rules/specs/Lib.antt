@@ -1,5 +1,6 @@
 pub mod History
 pub mod Rules
+pub mod Counts
 pub mod Record
 pub mod After
 pub mod Right

@@ -2,11 +2,12 @@
 -- the latest accepted message of each kind with its time,
 -- whether a session is open, since when and with which first protocol and plug, and the latest Power_Modules_Status and DC_Power_Control accepted in that
 -- session, each possibly none.
--- With no session open all of the session's part is none."
+-- With no session open all of the session's part is none." 02, Req 08: and the counts of what was accepted and found.
 use Prim.Native.Nat.{ℕ}
 use mathlib.Core.List.{List, [], _∷_, map}
 use mathlib.Core.Bool.{Bool, true, false}
 use mathlib.Core.Option.{Option, none, some}
+use lib.ListN.{length}
 pub use Rattle.message_types.specs.KindNumbers.{kindCount}
 use Rattle.message_parts.specs.Parts.{statusKind, controlKind, sessionIn}
 use Rattle.message_build.specs.Built.{messageOf}
@@ -27,6 +28,7 @@ use Rattle.rules.specs.declared.SessionPart.the-variants as part
 use Rattle.rules.specs.declared.Record.{Record}
 use Rattle.rules.specs.History.{Event, History, timeOf, newest, ofKind, statusOf, commandOf, limitsTold, controllerOf, opening, inSession, receivedOf, countFrom}
 use Rattle.rules.specs.Rules.{sessionStatus, sessionControl}
+use Rattle.rules.specs.Counts.{talliesOf, countsOf}
 
 -- ---- as it is handed out, at the time `now` of the post's latest event
 
@@ -63,6 +65,8 @@ recordAsOf c lim now h =
       last = lastOf h;
       latest = map (λ k. record { message = datedOf now k (newest (ofKind k) h) }) (countFrom 0 kindCount);
       session = partOf now (opening h) (sessionStatus h) (sessionControl h);
+      accepted = length h;
+      tallies = talliesOf lim h;
     }
 
 abbrev pub recordOf : ℕ → PlainLimits → History → Record
@@ -101,9 +105,9 @@ abbrev pub heardIn : History → Bool
 heardIn [] = false
 heardIn (e ∷ h) = true
 
--- as of the time `now`
-unfoldable pub headAt : ℕ → PlainLimits → Bool → ℕ → History → Head
-headAt c lim heard now h =
+-- with the counts cs, as of the time `now`
+unfoldable pub headAt : ℕ → PlainLimits → List ℕ → Bool → ℕ → History → Head
+headAt c lim cs heard now h =
     record {
       used = 1;
       channel = c;
@@ -113,10 +117,11 @@ headAt c lim heard now h =
       controller = slotOf (newest controllerOf h);
       parameters = slotOf (newest limitsTold h);
       session = session01 h;
+      counts = cs;
     }
 
 abbrev pub headOf : ℕ → PlainLimits → History → Head
-headOf c lim h = headAt c lim (heardIn h) (latestTime h) h
+headOf c lim h = headAt c lim (countsOf lim h) (heardIn h) (latestTime h) h
 
 unfoldable pub latests : History → List Slot
 latests h = map (λ k. slotOf (newest (ofKind k) h)) (countFrom 0 kindCount)

@@ -2,6 +2,7 @@
 use Prim.Native.Nat.{ℕ}
 use mathlib.Core.Path.{_≡_}
 use mathlib.Core.List.{_∷_}
+use mathlib.Core.Bool.{false}
 use Rattle.rule_limits.specs.declared.PlainLimits.{PlainLimits}
 use Rattle.rules.specs.declared.Head.{Head}
 use Rattle.rules.specs.declared.Post.{Post}
@@ -9,6 +10,7 @@ use Rattle.rules.specs.declared.AfterEvent.{AfterEvent}
 use Rattle.rules.specs.declared.Record.{Record}
 use Rattle.rules.specs.History.{Event, frame, tick, History, stampOf}
 use Rattle.rules.specs.Rules.{findings01}
+use Rattle.rules.specs.Counts.{isFull}
 use Rattle.rules.specs.Record.{headOf, postOf, recordOf}
 use Rattle.rules.specs.After.{stored}
 
@@ -25,9 +27,9 @@ pub record After01 (c : ℕ) (lim : PlainLimits) (h : History) (e : Event) (r : 
   pub head : r .head ≡ headOf c lim (e ∷ h)
   pub post : stored (postOf c lim h) (r .head) (r .at) (r .slot) ≡ postOf c lim (e ∷ h)
 
--- of a head that stands for some history
+-- of a head that stands for some history, which has room for one event more
 abbrev pub AfterRight : Head → (History → Event) → AfterEvent → Type 0
-AfterRight p e r = (c : ℕ) (lim : PlainLimits) (h : History) → p ≡ headOf c lim h → After01 c lim h (e h) r
+AfterRight p e r = (c : ℕ) (lim : PlainLimits) (h : History) → p ≡ headOf c lim h → isFull h ≡ false → After01 c lim h (e h) r
 
 -- of a post that stands for some history
 abbrev pub RecordRight : Post → Record → Type 0

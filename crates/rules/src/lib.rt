@@ -1,6 +1,7 @@
 // 01's session watch, one post: definitions and laws, and no function. Read with 01 beside it, in this order:
 //   specs/History.antt    a post's accepted frames and ticks, newest first, and looking back over them: the session, times
 //   specs/Rules.antt      F1 to F11, each over the history before an event and the event
+//   specs/Counts.antt     02's counts: the events of a history, and of how many of them a rule finds something
 //   specs/Record.antt     the record that is handed out, and the post that the table keeps, each read off the history
 //   specs/After.antt       the same step by step, as the code of `post` takes it; proofs/Look.antt has the laws that make it looking back
 // For every crate that steps a post or hands out its record. What a rule asks of a message's fields stands in `rule_asks`, limits in `rule_limits`.
@@ -11,6 +12,11 @@ use rule_limits::Limits;
 use rule_limits::PlainLimits;
 
 pub const KINDS: usize = 12;
+
+pub const FINDINGS: usize = 11;
+
+// A post counts its accepted frames and ticks in place 0, and finding k in place k (02, Req 08).
+pub const COUNTS: usize = 12;
 
 // ---- a post as the table keeps it: plain data, so that a table of posts can be lent from C. A flag is a whole word, 0 or 1, and times are as wide as words:
 // nothing that is stepped by value has padding, which the compiler would carry along byte by byte.
@@ -39,7 +45,8 @@ pub struct Session {
     pub kept: [Slot; KEPT],
 }
 
-// What the rules read of a post. The latest Advantics_Controller_Status and DC_Power_Parameters stand here too, so that they read nothing else.
+// What an event steps of a post: what the rules read, and the counts. The latest Advantics_Controller_Status and DC_Power_Parameters stand here too, so that
+// they read nothing else.
 #[repr(C)]
 pub struct Head {
     pub used: u32,
@@ -50,6 +57,7 @@ pub struct Head {
     pub controller: Slot,
     pub parameters: Slot,
     pub session: Session,
+    pub counts: [u32; COUNTS],
 }
 
 #[repr(C)]
@@ -101,4 +109,6 @@ pub struct Record {
     pub last: LastTime,
     pub latest: [Latest; KINDS],
     pub session: SessionPart,
+    pub accepted: u32,
+    pub tallies: [u32; FINDINGS],
 }

@@ -8,6 +8,7 @@ ghost use Rattle.watch_rules.specs.Steps.{Steps, Kept, FeedRight};
 ghost use Rattle.watch_rules.specs.Table.{postCount, framing, ticking, fedBy, feedOf};
 use watch_hear::arrival_for;
 use watch_hear::hear;
+use watch_hear::refused_after;
 use watch_places::put;
 use watch_places::some_place;
 use watch_places::store;
@@ -26,7 +27,8 @@ fn fed(t: Table, i: usize, r: Heard) -> Fed
     let slot = r.slot;
     let answer = r.answer;
     let q = store(p, head, r.at, slot);
-    let u = put(t, i, q);
+    let mut u = put(t, i, q);
+    u.refused = refused_after(t.refused, answer);
     Fed { table: u, answer }
 }
 

@@ -1,8 +1,9 @@
-// One post hears what comes to it: 1 where it does not hold the channel, 2, then the reader's 3 to 6, then the findings. For every way to step a table of
+// One post hears what comes to it: 1 where it does not hold the channel, 2, then the reader's 3 to 6, then 25, then the findings. For every way to step a table of
 // posts.
 ghost use mathlib.Core.Path.{_≡_};
+ghost use Rattle.rules.specs.After.{isFullIn, afterTick, afterFrame};
 ghost use Rattle.watch_rules.specs.Steps.{HearRight};
-ghost use Rattle.watch_rules.specs.Table.{arrivalFor, turnedAway, heardOf};
+ghost use Rattle.watch_rules.specs.Table.{arrivalFor, turnedAway, heardBy, unlessFull, heardOf, oneMore, refusedAfter};
 use page_read::Judged;
 use refusals::Refusal;
 use rule_limits::PlainLimits;
@@ -38,6 +39,54 @@ fn turned_away(h: Head, w: Refusal) -> Heard
     }
 }
 
+// 02, Req 08: one event more "would take its post's count past the largest".
+fn is_full(h: Head) -> bool
+    ensures { λ r. ⌜ r ≡ isFullIn h ⌝ }
+{
+    4294967295 <= h.counts[0]
+}
+
+fn ticked(h: Head, time: u32) -> Heard
+    ensures { λ r. ⌜ r ≡ unlessFull h (heardBy (afterTick h time)) ⌝ }
+{
+    if is_full(h) {
+        return turned_away(h, Refusal::CountFull);
+    }
+    let r = post::tick(h, time);
+    let g = r.head;
+    let slot = r.slot;
+    Heard {
+        head: g,
+        slot,
+        at: r.at,
+        answer: Answer::Findings(r.findings),
+    }
+}
+
+fn framed(h: Head, time: u32, kind: usize, raw: u64) -> Heard
+    ensures { λ r. ⌜ r ≡ unlessFull h (heardBy (afterFrame h time kind raw)) ⌝ }
+{
+    if is_full(h) {
+        return turned_away(h, Refusal::CountFull);
+    }
+    let r = post::frame(h, time, kind, raw);
+    let g = r.head;
+    let slot = r.slot;
+    Heard {
+        head: g,
+        slot,
+        at: r.at,
+        answer: Answer::Findings(r.findings),
+    }
+}
+
+// It stays at 4,294,967,295 once there.
+fn one_more(n: u64) -> u64
+    ensures { λ r. ⌜ r ≡ oneMore n ⌝ }
+{
+    if n < 4294967295 { n + 1 } else { n }
+}
+
 pub fn hear(h: Head, channel: u32, time: u32, a: Arrival) -> Heard
     ensures by_record { λ r. ⌜ r ≡ heardOf h channel time a ⌝ }
     ensures by_history { λ r. ⌜ HearRight h channel time a r ⌝ }
@@ -52,28 +101,18 @@ pub fn hear(h: Head, channel: u32, time: u32, a: Arrival) -> Heard
         return turned_away(h, Refusal::Earlier);
     }
     match a {
-        Arrival::Tick => {
-            let r = post::tick(h, time);
-            let g = r.head;
-            let slot = r.slot;
-            Heard {
-                head: g,
-                slot,
-                at: r.at,
-                answer: Answer::Findings(r.findings),
-            }
-        }
-        Arrival::Frame(kind, raw) => {
-            let r = post::frame(h, time, kind, raw);
-            let g = r.head;
-            let slot = r.slot;
-            Heard {
-                head: g,
-                slot,
-                at: r.at,
-                answer: Answer::Findings(r.findings),
-            }
-        }
+        Arrival::Tick => ticked(h, time),
+        Arrival::Frame(kind, raw) => framed(h, time, kind, raw),
         Arrival::Unread(w) => turned_away(h, w),
+    }
+}
+
+// The table's count of refused frames and ticks after an answer.
+pub fn refused_after(n: u64, a: Answer) -> u64
+    ensures { λ r. ⌜ r ≡ refusedAfter n a ⌝ }
+{
+    match a {
+        Answer::Findings(_) => n,
+        Answer::Refused(_) => one_more(n),
     }
 }

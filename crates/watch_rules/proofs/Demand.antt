@@ -7,7 +7,7 @@ use lib.Dec.{ltb}
 use lib.ListN.{getD}
 use borrow.Author.Tests.{eqb-true, eq-eqb, ltb-true, lt-ltb}
 use Rattle.refusals.specs.declared.Refusal.{Refusal}
-use Rattle.refusals.specs.declared.Refusal.the-variants.{ChannelFree, Earlier}
+use Rattle.refusals.specs.declared.Refusal.the-variants.{ChannelFree, Earlier, CountFull}
 use Rattle.page_read.specs.declared.Judged.the-variants as judged
 use Rattle.page_read.specs.Judge.{judgeOf}
 use Rattle.rule_limits.specs.declared.PlainLimits.{PlainLimits}
@@ -17,15 +17,16 @@ use Rattle.rules.specs.Record.{isSet}
 use Rattle.rules.specs.History.{Event, History, earlierIn}
 use Rattle.rules.specs.History as history
 use Rattle.rules.specs.Rules.{findings01}
+use Rattle.rules.specs.Counts.{isFull}
 use Rattle.watch_rules.specs.declared.Table.{Table}
 use Rattle.watch_rules.specs.declared.Answer.{Answer}
 use Rattle.watch_rules.specs.declared.Answer.the-variants.{Findings, Refused}
 use Rattle.watch_rules.specs.declared.Setting.{Setting}
 use Rattle.watch_rules.specs.declared.Setting.the-variants as setting
-use Rattle.watch_rules.specs.Table.{postCount, isChannel, holds, noPost, postIn, Arriving, framing, ticking, emptyTable, isPost, lookUpOf}
+use Rattle.watch_rules.specs.Table.{postCount, isChannel, holds, noPost, postIn, Arriving, framing, ticking, oneRefused, emptyTable, isPost, lookUpOf}
 use Rattle.watch_rules.specs.Steps as step
 use Rattle.watch_rules.specs.Steps.{event, Step, Steps, Standing, free, held, standing, holdsIn, holder, otherHolds, answerIn, feed01, setUp01, release01, lookUp01, ifFound, feedSteps, ifDone, setUpSteps, releaseSteps, Apart, InRange, Kept}
-use Rattle.watch_rules.specs.Run.{Request, setUp, release, frame, tick, set, fed, reply, next, run, reply01, steps01, accepted, isRefusal, concerns, Unheld, arrivesOn, runFrom, repliesFrom, acceptedFrom, replies01From}
+use Rattle.watch_rules.specs.Run.{Request, setUp, release, frame, tick, set, fed, reply, next, run, reply01, steps01, accepted, afterRefusal, isRefusal, concerns, Unheld, arrivesOn, runFrom, repliesFrom, acceptedFrom, replies01From}
 use Rattle.watch_rules.proofs.Standings.{standing-none, standing-setUp, standing-setUp-other, standing-release, standing-release-other, standing-event, standing-event-other, over-setUp, over-release, over-event, held-on, holder-holds, holder-is, others-alike}
 use Rattle.watch_rules.proofs.Tables.{holds-look, post-at}
 use Rattle.watch_rules.proofs.Right.{feed-right, setUp-right, release-right, lookUp-right, empty-kept}
@@ -71,12 +72,12 @@ module _ (rs : List Request) (i c : ℕ) (lim : PlainLimits) (h : History) (low 
       rw (holder-is (accepted rs) (run-kept rs .apart) i c low has, lt-ltb i postCount low, own, range .0)
 
   -- The same for the post that holds the channel, over its limits and its own history:
-  -- 2 where the time is earlier than its latest, else the findings of 01's rules.
-  pub own-tick : (t : ℕ) → reply (run rs) (tick c t) ≡ fed (cond (earlierIn h t) (Refused Earlier) (Findings (findings01 lim h (history.tick t))))
+  -- 2 where the time is earlier than its latest, else the findings of 01's rules, and 25 where the history has no room for one event more.
+  pub own-tick : (t : ℕ) → reply (run rs) (tick c t) ≡ fed (cond (earlierIn h t) (Refused Earlier) (cond (isFull h) (Refused CountFull) (Findings (findings01 lim h (history.tick t)))))
   own-tick t = every-answer rs (tick c t) ∙ ap fed (feed-own t ticking)
 
   pub own-frame : (t m : ℕ) (x : Bool) (bs : List ℕ) (k n : ℕ) → judgeOf m x bs ≡ judged.Frame k n
-      → reply (run rs) (frame c t m x bs) ≡ fed (cond (earlierIn h t) (Refused Earlier) (Findings (findings01 lim h (history.frame t k n))))
+      → reply (run rs) (frame c t m x bs) ≡ fed (cond (earlierIn h t) (Refused Earlier) (cond (isFull h) (Refused CountFull) (Findings (findings01 lim h (history.frame t k n)))))
   own-frame t m x bs k n e = every-answer rs (frame c t m x bs) ∙ ap fed (feed-own t (framing m x bs) ∙ rw e)
 
   -- and for a frame that its reader refuses
@@ -84,10 +85,19 @@ module _ (rs : List Request) (i c : ℕ) (lim : PlainLimits) (h : History) (low 
       → reply (run rs) (frame c t m x bs) ≡ fed (cond (earlierIn h t) (Refused Earlier) (Refused w))
   own-unread t m x bs w e = every-answer rs (frame c t m x bs) ∙ ap fed (feed-own t (framing m x bs) ∙ rw e)
 
+  -- 02, Req 08: in time and readable, it gets 25 where its post's count is the largest, and the history does not grow (`refused-nothing`)
+  pub full-tick : (t : ℕ) → earlierIn h t ≡ false → isFull h ≡ true → reply (run rs) (tick c t) ≡ fed (Refused CountFull)
+  full-tick t late full = own-tick t ∙ rw (late, full)
+
+  pub full-frame : (t m : ℕ) (x : Bool) (bs : List ℕ) (k n : ℕ) → judgeOf m x bs ≡ judged.Frame k n → earlierIn h t ≡ false → isFull h ≡ true
+      → reply (run rs) (frame c t m x bs) ≡ fed (Refused CountFull)
+  full-frame t m x bs k n e late full = own-frame t m x bs k n e ∙ rw (late, full)
+
 -- ---- a refused request
 
 -- 01: "A refusal carries its number only; table, record .. stay as they were. A refused frame is part of no history"
-pub refused-nothing : (rs : List Request) (a : Request) → isRefusal (reply (run rs) a) ≡ true → (run (a ∷ rs) ≡ run rs) × (accepted (a ∷ rs) ≡ accepted rs)
+-- 02, Req 08: the table counts a refused frame or tick
+pub refused-nothing : (rs : List Request) (a : Request) → isRefusal (reply (run rs) a) ≡ true → (run (a ∷ rs) ≡ afterRefusal (run rs) a) × (accepted (a ∷ rs) ≡ accepted rs)
 unfolding run accepted
 refused-nothing rs a q = (refused-table (run rs) a q, refused-steps (accepted rs) a (sym (ap isRefusal (every-answer rs a)) ∙ q))
 
@@ -227,11 +237,19 @@ free-answer s c unheld t a = go (isChannel c) (ltb (holder s c) postCount) refl
         let h : holder s c < postCount = ltb-true (holder s c) postCount e in
         absurd (true≢false (sym (holder-holds s c h) ∙ unheld (holder s c) h))
 
--- A frame or tick on a channel that nobody holds is refused with 1 and changes nothing. 01: "channel above 31, or held by no post"
+-- A frame or tick on a channel that nobody holds is refused with 1 and changes nothing but the count of those refused. 01: "channel above 31, or held by no post"
 pub nobody-holds : (rs : List Request) (c : ℕ) → Unheld (accepted rs) c → (a : Request) → arrivesOn c a ≡ true
-    → (reply (run rs) a ≡ fed (Refused ChannelFree)) × (run (a ∷ rs) ≡ run rs)
-nobody-holds rs c unheld a q = let z : reply (run rs) a ≡ fed (Refused ChannelFree) = every-answer rs a ∙ free a q in (z, refused-nothing rs a (ap isRefusal z) .0)
+    → (reply (run rs) a ≡ fed (Refused ChannelFree)) × (run (a ∷ rs) ≡ oneRefused (run rs))
+nobody-holds rs c unheld a q =
+    let z : reply (run rs) a ≡ fed (Refused ChannelFree) = every-answer rs a ∙ free a q in
+    (z, refused-nothing rs a (ap isRefusal z) .0 ∙ counts a q)
   where
+    counts : (x : Request) → arrivesOn c x ≡ true → afterRefusal (run rs) x ≡ oneRefused (run rs)
+    counts (setUp i d lim) e = absurd (true≢false (sym e))
+    counts (release i) e = absurd (true≢false (sym e))
+    counts (frame d time m x bs) e = refl
+    counts (tick d time) e = refl
+
     free : (x : Request) → arrivesOn c x ≡ true → reply01 (accepted rs) x ≡ fed (Refused ChannelFree)
     free (setUp i d lim) e = absurd (true≢false (sym e))
     free (release i) e = absurd (true≢false (sym e))

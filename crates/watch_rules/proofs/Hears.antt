@@ -3,13 +3,14 @@ use Prim.Native.Nat.{ℕ}
 use mathlib.Core.Path.{_≡_, refl, ap, sym, subst, _∙_}
 use mathlib.Core.Bool.{Bool, true, false, cond, _&&_}
 use lib.Dec.{eqb}
-use Rattle.refusals.specs.declared.Refusal.the-variants.{ChannelFree, Earlier}
+use Rattle.refusals.specs.declared.Refusal.the-variants.{ChannelFree, Earlier, CountFull}
 use Rattle.rule_limits.specs.declared.PlainLimits.{PlainLimits}
 use Rattle.rules.specs.declared.Head.{Head}
 use Rattle.rules.specs.History.{History, stampOf, earlierIn}
+use Rattle.rules.specs.Counts.{isFull}
 use Rattle.rules.specs.Record.{headOf}
 use Rattle.rules.specs.After.{isEarly}
-use Rattle.rules.proofs.Look.{used-look, channel-look, early-look, tick-look, frame-look, stored-tick, stored-frame, stored-still}
+use Rattle.rules.proofs.Look.{used-look, channel-look, early-look, full-look, tick-look, frame-look, stored-tick, stored-frame, stored-still}
 use Rattle.watch_rules.specs.declared.Heard.{Heard}
 use Rattle.watch_rules.specs.declared.Arrival.{Arrival}
 use Rattle.watch_rules.specs.declared.Arrival.the-variants.{Tick, Frame, Unread}
@@ -27,9 +28,21 @@ module _ (d : ℕ) (lim : PlainLimits) (h : History) (c t : ℕ) where
       in-time : (b : Bool) → earlierIn h t ≡ b → isChannel c && eqb d c ≡ true → (x : Arrival)
           → Hears01 d lim h c t x (cond (isEarly (headOf d lim h) t) (turnedAway (headOf d lim h) Earlier) (judgedOf (headOf d lim h) t x))
       in-time true e on x = rw (early-look d lim h t, e) (record { answer = rw (on, e); post = stored-still d lim h })
-      in-time false e on Tick = rw (early-look d lim h t, e, tick-look d lim h t) (record { answer = rw (on, e); post = stored-tick d lim h (stampOf h t) })
-      in-time false e on (Frame k n) =
-          rw (early-look d lim h t, e, frame-look d lim h t k n) (record { answer = rw (on, e); post = stored-frame d lim h (stampOf h t) k n })
+      in-time false e on Tick = in-room (isFull h) refl
+        where
+          in-room : (f : Bool) → isFull h ≡ f
+              → Hears01 d lim h c t Tick (cond (isEarly (headOf d lim h) t) (turnedAway (headOf d lim h) Earlier) (judgedOf (headOf d lim h) t Tick))
+          in-room true f = rw (early-look d lim h t, e, full-look d lim h, f) (record { answer = rw (on, e, f); post = stored-still d lim h })
+          in-room false f =
+              rw (early-look d lim h t, e, full-look d lim h, f, tick-look d lim h t f) (record { answer = rw (on, e, f); post = stored-tick d lim h (stampOf h t) })
+      in-time false e on (Frame k n) = in-room (isFull h) refl
+        where
+          in-room : (f : Bool) → isFull h ≡ f
+              → Hears01 d lim h c t (Frame k n) (cond (isEarly (headOf d lim h) t) (turnedAway (headOf d lim h) Earlier) (judgedOf (headOf d lim h) t (Frame k n)))
+          in-room true f = rw (early-look d lim h t, e, full-look d lim h, f) (record { answer = rw (on, e, f); post = stored-still d lim h })
+          in-room false f =
+              rw (early-look d lim h t, e, full-look d lim h, f, frame-look d lim h t k n f)
+              (record { answer = rw (on, e, f); post = stored-frame d lim h (stampOf h t) k n })
       in-time false e on (Unread w) = rw (early-look d lim h t, e) (record { answer = rw (on, e); post = stored-still d lim h })
 
       go : (b : Bool) → isChannel c && eqb d c ≡ b

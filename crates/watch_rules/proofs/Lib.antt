@@ -8,4 +8,6 @@ pub mod Same
 pub mod Demand
 pub mod Own
 pub mod Promises
+pub mod Handed
+pub mod Full
 pub mod Night

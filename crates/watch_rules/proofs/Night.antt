@@ -26,7 +26,7 @@ use Rattle.rules.specs.Record.{isSet, recordOf}
 use Rattle.rules.proofs.Look.{used-look}
 use Rattle.watch_rules.specs.declared.Answer.the-variants.{Findings, Refused}
 use Rattle.watch_rules.specs.declared.Setting.the-variants as setting
-use Rattle.watch_rules.specs.Table.{postCount, noPost, postIn, lookUpOf}
+use Rattle.watch_rules.specs.Table.{postCount, noPost, postIn, oneRefused, lookUpOf}
 use Rattle.rule_limits.specs.Limits.{limitsFit}
 use Rattle.watch_rules.specs.Steps.{free, held, standing, ownOf, keptPost, holdsIn, findFrom, holder, otherHolds, feed01, setUp01, release01, lookUp01, feedSteps, setUpSteps, releaseSteps}
 use Rattle.watch_rules.specs.Run.{Request, setUp, release, frame, tick, set, fed, reply, run, accepted, isRefusal, Unheld}
@@ -107,7 +107,7 @@ pub neighbour : lookUpOf (run (tick 4 501 ∷ night)) 1 ≡ lookUpOf (run night)
 neighbour = others-record night (tick 4 501) 1 (computed .2)
 
 -- nobody holds channel 5
-pub nobody : (reply (run night) (tick 5 0) ≡ fed (Refused ChannelFree)) × (run (tick 5 0 ∷ night) ≡ run night)
+pub nobody : (reply (run night) (tick 5 0) ≡ fed (Refused ChannelFree)) × (run (tick 5 0 ∷ night) ≡ oneRefused (run night))
 nobody = nobody-holds night 5 unheld (tick 5 0) refl
 
 -- the third post is refused again, and nothing changes

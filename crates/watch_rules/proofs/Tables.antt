@@ -27,7 +27,7 @@ use Rattle.watch_rules.specs.declared.Heard.{Heard}
 use Rattle.watch_rules.specs.declared.Setting.{Setting}
 use Rattle.watch_rules.specs.declared.Setting.the-variants as setting
 use Rattle.watch_rules.specs.declared.Settled.{Settled}
-use Rattle.watch_rules.specs.Table.{postCount, isChannel, holds, placeOf, putIn, noPost, postIn, Arriving, feedAt, feedOf, emptyTable, isOther, isPost, setUpOf, releaseOf, notFound, lookUpOf}
+use Rattle.watch_rules.specs.Table.{postCount, isChannel, holds, placeOf, noPost, postIn, Arriving, withPost, feedAt, feedOf, emptyTable, isOther, isPost, setUpOf, releaseOf, notFound, lookUpOf}
 use Rattle.watch_rules.specs.Steps.{setUp, release, event, Steps, Standing, free, held, standing, holdsIn, findFrom, holder, otherHolds, answerIn, feed01, setUp01, isHeld, release01, shownIn, lookUp01, eventIn, eventOn, grown, Hears01, ifFound, feedSteps, setUpSteps, releaseSteps, keptPost, postsOf, Apart}
 use Rattle.watch_rules.proofs.Hears.{hear-look}
 use Rattle.watch_rules.proofs.Standings.{standing-setUp, standing-setUp-other, standing-release, standing-release-other, standing-event, standing-event-other, held-on, holder-holds, alone, other-look}
@@ -119,7 +119,7 @@ module _ (t : Table) (s : Steps) (apart : Apart s) (same : t .posts ≡ postsOf 
     heard-look time a channel = rw (there, ap a (limits-look c lim h)) (stands (hear-look c lim h c time (a lim)))
       where
         stands : {r : Heard} → Hears01 c lim h c time (a lim) r
-            → Heard01 time a (record { table = putIn t i (stored (postOf c lim h) (r .head) (r .at) (r .slot)); answer = r .answer })
+            → Heard01 time a (record { table = withPost t i (stored (postOf c lim h) (r .head) (r .at) (r .slot)) (r .answer); answer = r .answer })
         stands {r} heard =
             let answer : r .answer ≡ answerIn (held c lim h) time a = heard .answer ∙ rw (channel, eq-eqb c c refl) in
             (answer, ap (set (t .posts) i) (heard .post) ∙ posts-grown (eventIn h time (a lim)) (r .answer) ∙ ap (λ (w : Answer). postsOf (ifFound w (event c (eventIn h time (a lim))) s)) answer)

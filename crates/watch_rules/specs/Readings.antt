@@ -1,9 +1,9 @@
--- 01, "Readings from both sides of each edge": E1* to E13*, and 02, Req 02 to 04: one table under one statement, closed by computing the definitions.
+-- 01, "Readings from both sides of each edge": E1* to E13*, and 02, Req 02 to 04 and 08: one table under one statement, closed by computing the definitions.
 -- What the watch answers is read by looking back.
 use Prim.Native.Nat.{ℕ}
 use mathlib.Core.Path.{_≡_, refl}
 use mathlib.Core.Bool.{true, false}
-use mathlib.Core.List.{List, [], _∷_}
+use mathlib.Core.List.{List, [], _∷_, reverse}
 use lib.IntN.{pos, negsuc}
 use lib.ListN.{getD}
 use Rattle.refusals.specs.declared.Refusal.the-variants.{ChannelFree, Earlier, UnknownIdentifier, TooShort, TooLong, NoLabel, UncoveredBit, ChannelTaken, LimitOutside, NoSuchPost, NotSetUp}
@@ -32,6 +32,7 @@ use Rattle.rules.specs.declared.Record.{Record}
 use Rattle.rules.specs.History.{sinceFinished, opening, inSession, earlierIn}
 use Rattle.rule_asks.specs.Judgements.{lowersBadly, outside, leaking, badInsulation, differs}
 use Rattle.rules.specs.Rules.{sessionStatus, sessionControl, limitOf, f1, f2, f3, f4, f5, f6, f7, f8, f9, f10, f11, findings01}
+use Rattle.rules.specs.Counts.{talliesOf}
 use Rattle.rules.specs.Record.{recordAsOf}
 use Rattle.watch_rules.specs.declared.Answer.the-variants.{Findings, Refused}
 use Rattle.watch_rules.specs.declared.Setting.the-variants as setting
@@ -39,16 +40,18 @@ use Rattle.watch_rules.specs.declared.LookedUp.{LookedUp}
 use Rattle.rule_limits.specs.Limits.{limitsFit}
 use Rattle.watch_rules.specs.Table.{notFound}
 use Rattle.watch_rules.specs.Steps.{standing, findFrom, holder, otherHolds, feed01, setUp01, release01, lookUp01, feedSteps, setUpSteps, releaseSteps}
-use Rattle.watch_rules.specs.Run.{Request, setUp, release, frame, tick, Reply, set, fed, acceptedFrom, replies01From}
+use Rattle.watch_rules.specs.Run.{Request, setUp, release, frame, tick, Reply, set, fed, accepted, refusedEver, acceptedFrom, replies01From}
 
 -- a reading of frames and messages (E1 to E7); requests to the empty table in order of arrival, with their replies;
--- such requests, and a post's record after them, or the sensor kind in it, or its latest message of a kind
+-- such requests, and a post's record after them, or the sensor kind in it, or its latest message of a kind, or its counts; and how many of them were refused
 pub data Case : Type 0 where
   codec : messages.Case → Case
   answers : List Request → List Reply → Case
   shows : List Request → ℕ → LookedUp → Case
   senses : List Request → ℕ → Sensor → Case
   keeps : List Request → ℕ → ℕ → Dated → Case
+  counts : List Request → ℕ → ℕ → List ℕ → Case
+  turns-away : List Request → ℕ → Case
 
 abbrev pub Holds : Case → Type 0
 Holds (codec c) = messages.Holds c
@@ -56,6 +59,9 @@ Holds (answers asked replies) = replies01From [] asked ≡ replies
 Holds (shows asked post shown) = lookUp01 (acceptedFrom [] asked) post ≡ shown
 Holds (senses asked post sensor) = lookUp01 (acceptedFrom [] asked) post .shown .limits .sensor ≡ sensor
 Holds (keeps asked post kind latest) = getD (lookUp01 (acceptedFrom [] asked) post .shown .latest) kind (record { message = dated.Nothing }) .message ≡ latest
+Holds (counts asked post accepted tallies) =
+    (lookUp01 (acceptedFrom [] asked) post .shown .accepted ≡ accepted) × (lookUp01 (acceptedFrom [] asked) post .shown .tallies ≡ tallies)
+Holds (turns-away asked n) = refusedEver (reverse asked) ≡ n
 
 abbrev pub All : List Case → Type 0
 All [] = Unit {0}
@@ -80,6 +86,8 @@ emptyRecord =
       last = last.Never;
       latest = none ∷ none ∷ none ∷ none ∷ none ∷ none ∷ none ∷ none ∷ none ∷ none ∷ none ∷ none ∷ [];
       session = part.Closed;
+      accepted = 0;
+      tallies = 0 ∷ 0 ∷ 0 ∷ 0 ∷ 0 ∷ 0 ∷ 0 ∷ 0 ∷ 0 ∷ 0 ∷ 0 ∷ [];
     }
 
 abbrev done : Reply
@@ -219,6 +227,14 @@ e8to13 =
       stopped4 = false;
       failed4 = false;
     })))
+    -- 02, Req 08: what was refused counts for no post; F2 once, and F3 and F4 of one frame
+    ∷ counts (set-up ∷ controller 1000 ∷ tick 4 1200 ∷ tick 4 1201 ∷ tick 4 1199 ∷ frame 4 1201 0x63003 true (0 ∷ []) ∷ []) 0 3 (0 ∷ 1 ∷ 0 ∷ 0 ∷ 0 ∷ 0 ∷ 0 ∷ 0 ∷ 0 ∷ 0 ∷ 0 ∷ [])
+    ∷ counts (set-up ∷ control 0 0x88 0x13 0x48 ∷ tick 4 1 ∷ []) 0 2 (0 ∷ 0 ∷ 1 ∷ 1 ∷ 0 ∷ 0 ∷ 0 ∷ 0 ∷ 0 ∷ 0 ∷ 0 ∷ [])
+    -- each post has counts of its own, and a second set-up makes them 0
+    ∷ counts (set-up ∷ setUp 1 9 limits ∷ control 0 0x88 0x13 0x48 ∷ tick 9 1 ∷ []) 1 1 (0 ∷ 0 ∷ 0 ∷ 0 ∷ 0 ∷ 0 ∷ 0 ∷ 0 ∷ 0 ∷ 0 ∷ 0 ∷ [])
+    ∷ counts (set-up ∷ control 0 0x88 0x13 0x48 ∷ set-up ∷ []) 0 0 (0 ∷ 0 ∷ 0 ∷ 0 ∷ 0 ∷ 0 ∷ 0 ∷ 0 ∷ 0 ∷ 0 ∷ 0 ∷ [])
+    -- "of frames and ticks refused since it was made": 1, 2 and 3 count, a refused set-up and release do not
+    ∷ turns-away (tick 4 0 ∷ set-up ∷ setUp 1 4 limits ∷ release 1 ∷ tick 4 100 ∷ tick 4 99 ∷ frame 4 100 0x63003 true (0 ∷ []) ∷ release 0 ∷ tick 4 101 ∷ []) 4
     ∷ []
 
 abbrev pub table : List Case
@@ -230,5 +246,5 @@ joined [] rest a b = b
 joined (c ∷ cs) rest a b = (a .0, joined cs rest (a .1) b)
 
 pub readings : All table
-unfolding standing findFrom holder otherHolds feed01 setUp01 release01 lookUp01 feedSteps setUpSteps releaseSteps limitsFit sinceFinished opening inSession earlierIn lowersBadly outside leaking badInsulation differs sessionStatus sessionControl limitOf f1 f2 f3 f4 f5 f6 f7 f8 f9 f10 f11 findings01 recordAsOf messageOf builtOf statusIn parametersIn sessionIn controlIn rows ofKind firstAt covered unlabelled offender strayBelow judgedNumber judgeOf wholesOf pad rawsOf getBits leNumber beNumber toSigned
-readings = joined messages.table e8to13 messages.readings (refl, (refl, (refl, (refl, (refl, (refl, (refl, (refl, (refl, (refl, (refl, (refl, (refl, (refl, (refl, (refl, (refl, (refl, (refl, (refl, (refl, (refl, (refl, (refl, (refl, (refl, (refl, (refl, tt))))))))))))))))))))))))))))
+unfolding standing findFrom holder otherHolds feed01 setUp01 release01 lookUp01 feedSteps setUpSteps releaseSteps limitsFit sinceFinished opening inSession earlierIn lowersBadly outside leaking badInsulation differs sessionStatus sessionControl limitOf f1 f2 f3 f4 f5 f6 f7 f8 f9 f10 f11 findings01 recordAsOf messageOf builtOf statusIn parametersIn sessionIn controlIn rows ofKind firstAt covered unlabelled offender strayBelow judgedNumber judgeOf wholesOf pad rawsOf getBits leNumber beNumber toSigned accepted talliesOf
+readings = joined messages.table e8to13 messages.readings (refl, (refl, (refl, (refl, (refl, (refl, (refl, (refl, (refl, (refl, (refl, (refl, (refl, (refl, (refl, (refl, (refl, (refl, (refl, (refl, (refl, (refl, (refl, (refl, (refl, (refl, (refl, (refl, ((refl, refl), ((refl, refl), ((refl, refl), ((refl, refl), (refl, tt)))))))))))))))))))))))))))))))))

@@ -1,7 +1,7 @@
 -- Any sequence of requests from the empty table, newest first: what the operations answer, and which requests were accepted.
-use Prim.Native.Nat.{ℕ, _<_}
+use Prim.Native.Nat.{ℕ, _+_, _<_}
 use mathlib.Core.List.{List, [], _∷_}
-use mathlib.Core.Bool.{Bool, true, false}
+use mathlib.Core.Bool.{Bool, true, false, not, _&&_}
 use mathlib.Core.Path.{_≡_}
 use lib.Dec.{eqb}
 use Rattle.rule_limits.specs.declared.PlainLimits.{PlainLimits}
@@ -10,7 +10,8 @@ use Rattle.watch_rules.specs.declared.Answer.{Answer}
 use Rattle.watch_rules.specs.declared.Answer.the-variants.{Findings, Refused}
 use Rattle.watch_rules.specs.declared.Setting.{Setting}
 use Rattle.watch_rules.specs.declared.Setting.the-variants as setting
-use Rattle.watch_rules.specs.Table.{postCount, emptyTable, framing, ticking, feedOf, setUpOf, releaseOf}
+use Rattle.rule_asks.specs.Judgements.{bit}
+use Rattle.watch_rules.specs.Table.{postCount, oneRefused, emptyTable, framing, ticking, feedOf, setUpOf, releaseOf}
 use Rattle.watch_rules.specs.Steps.{Steps, standing, holdsIn, feed01, setUp01, release01, feedSteps, setUpSteps, releaseSteps}
 
 -- post, channel, limits; post; channel, time, identifier, extended or not, payload; channel, time
@@ -62,6 +63,13 @@ accepted (a ∷ earlier) = steps01 (accepted earlier) a
 
 -- ---- what the theorems ask of a request, a reply and a table
 
+-- what a refused request leaves of a table: a frame or a tick is counted
+abbrev pub afterRefusal : Table → Request → Table
+afterRefusal t (setUp i c lim) = t
+afterRefusal t (release i) = t
+afterRefusal t (frame c time m x bs) = oneRefused t
+afterRefusal t (tick c time) = oneRefused t
+
 abbrev pub isRefusal : Reply → Bool
 isRefusal (set setting.Done) = false
 isRefusal (set (setting.Refused w)) = true
@@ -85,6 +93,26 @@ arrivesOn c (setUp i d lim) = false
 arrivesOn c (release i) = false
 arrivesOn c (frame d time m x bs) = eqb d c
 arrivesOn c (tick d time) = eqb d c
+
+-- ---- 02, Req 08: what was handed in, accepted and refused, counted over the requests themselves, also past releases
+
+abbrev pub isArrival : Request → Bool
+isArrival (setUp i c lim) = false
+isArrival (release i) = false
+isArrival (frame c time m x bs) = true
+isArrival (tick c time) = true
+
+abbrev pub handedIn : List Request → ℕ
+handedIn [] = 0
+handedIn (a ∷ earlier) = bit (isArrival a) 1 + handedIn earlier
+
+abbrev pub refusedEver : List Request → ℕ
+refusedEver [] = 0
+refusedEver (a ∷ earlier) = bit (isArrival a && isRefusal (reply01 (accepted earlier) a)) 1 + refusedEver earlier
+
+abbrev pub acceptedEver : List Request → ℕ
+acceptedEver [] = 0
+acceptedEver (a ∷ earlier) = bit (isArrival a && not (isRefusal (reply01 (accepted earlier) a))) 1 + acceptedEver earlier
 
 -- ---- requests in the order in which they arrive
 

@@ -5,12 +5,13 @@ use mathlib.Core.List.{List, [], _∷_, map}
 use mathlib.Core.Bool.{Bool, true, false, cond, not, _&&_}
 use mathlib.Core.Option.{Option, none, some}
 use lib.Dec.{ltb, eqb}
-use Rattle.refusals.specs.declared.Refusal.the-variants.{ChannelFree, Earlier, NoSuchPost, NoSuchChannel, ChannelTaken, LimitOutside, NotSetUp}
+use Rattle.refusals.specs.declared.Refusal.the-variants.{ChannelFree, Earlier, NoSuchPost, NoSuchChannel, ChannelTaken, LimitOutside, NotSetUp, CountFull}
 use Rattle.rule_limits.specs.declared.PlainLimits.{PlainLimits}
 use Rattle.rules.specs.declared.Head.{Head}
 use Rattle.rules.specs.declared.Post.{Post}
 use Rattle.rules.specs.History.{Event, frame, tick, History, newest, sinceNewest, stampOf, earlierIn, countFrom}
 use Rattle.rules.specs.Rules.{findings01}
+use Rattle.rules.specs.Counts.{isFull}
 use Rattle.rules.specs.Record.{recordOf, headOf, postOf}
 use Rattle.rules.specs.After.{stored, freePost}
 use Rattle.watch_rules.specs.declared.Table.{Table}
@@ -93,17 +94,21 @@ otherHolds s i c k (suc n) = cond (not (eqb k i) && holdsIn (standing k s) c) tr
 
 -- ---- 01's answers
 
+-- the findings of an event, where the history has room for it
+abbrev pub counted01 : PlainLimits → History → Event → Answer
+counted01 lim h e = cond (isFull h) (Refused CountFull) (Findings (findings01 lim h e))
+
 -- the findings, or the reader's refusal
 abbrev pub found01 : PlainLimits → History → ℕ → Arrival → Answer
-found01 lim h t Tick = Findings (findings01 lim h (tick (stampOf h t)))
-found01 lim h t (Frame k n) = Findings (findings01 lim h (frame (stampOf h t) k n))
+found01 lim h t Tick = counted01 lim h (tick (stampOf h t))
+found01 lim h t (Frame k n) = counted01 lim h (frame (stampOf h t) k n)
 found01 lim h t (Unread w) = Refused w
 
 abbrev pub answerIn : Standing → ℕ → Arriving → Answer
 answerIn free t a = Refused ChannelFree
 answerIn (held c lim h) t a = cond (earlierIn h t) (Refused Earlier) (found01 lim h t (a lim))
 
--- 01: "1: channel above 31, or held by no post", then 2, then the reader's 3 to 6
+-- 01: "1: channel above 31, or held by no post", then 2, then the reader's 3 to 6; 02, Req 08: then 25
 unfoldable pub feed01 : Steps → ℕ → ℕ → Arriving → Answer
 feed01 s c t a = cond (isChannel c && ltb (holder s c) postCount) (answerIn (standing (holder s c) s) t a) (Refused ChannelFree)
 

@@ -1,11 +1,11 @@
 -- Each operation's answer and table, for every table. What they are for a table that accepted steps left stands in Steps.
-use Prim.Native.Nat.{ℕ, suc}
+use Prim.Native.Nat.{ℕ, suc, _+_}
 use mathlib.Core.List.{List, [], _∷_}
 use mathlib.Core.Bool.{Bool, cond, not, _&&_}
 use lib.Dec.{ltb, leb, eqb}
 use lib.ListN.{getD, set, replicate}
 use Rattle.refusals.specs.declared.Refusal.{Refusal}
-use Rattle.refusals.specs.declared.Refusal.the-variants.{ChannelFree, Earlier, NoSuchPost, NoSuchChannel, ChannelTaken, LimitOutside, NotSetUp}
+use Rattle.refusals.specs.declared.Refusal.the-variants.{ChannelFree, Earlier, NoSuchPost, NoSuchChannel, ChannelTaken, LimitOutside, NotSetUp, CountFull}
 use Rattle.page_read.specs.declared.Judged.{Judged}
 use Rattle.page_read.specs.declared.Judged.the-variants as judged
 use Rattle.page_read.specs.Judge.{judgeOf}
@@ -17,8 +17,10 @@ use Rattle.rules.specs.declared.Post.{Post}
 use Rattle.rules.specs.declared.AfterEvent.{AfterEvent}
 use Rattle.rules.specs.declared.Record.{Record}
 use Rattle.rules.specs.Record.{kindCount, isSet, unknown}
-use Rattle.rules.specs.After.{isEarly, afterTick, afterFrame, stored, noLimits, freePost, freshPost, postRecord}
+use Rattle.rules.specs.Counts.{largest}
+use Rattle.rules.specs.After.{isEarly, isFullIn, afterTick, afterFrame, stored, noLimits, freePost, freshPost, postRecord}
 use Rattle.watch_rules.specs.declared.Table.{Table}
+use Rattle.watch_rules.specs.declared.Answer.{Answer}
 use Rattle.watch_rules.specs.declared.Answer.the-variants.{Findings, Refused}
 use Rattle.watch_rules.specs.declared.Fed.{Fed}
 use Rattle.watch_rules.specs.declared.Heard.{Heard}
@@ -46,14 +48,14 @@ placeOf [] c = 0
 placeOf (p ∷ ps) c = cond (holds (p .head) c) 0 (suc (placeOf ps c))
 
 abbrev pub putIn : Table → ℕ → Post → Table
-putIn t i p = record { posts = set (t .posts) i p }
+putIn t i p = record { posts = set (t .posts) i p; refused = t .refused }
 
 -- what `getD` answers past the posts: no numbers, no elements
 abbrev pub noSession : Session
 noSession = record { opened = 0; since = 0; first = 0; kept = [] }
 
 abbrev pub noHead : Head
-noHead = record { used = 0; channel = 0; limits = noLimits; heard = 0; time = 0; controller = unknown; parameters = unknown; session = noSession }
+noHead = record { used = 0; channel = 0; limits = noLimits; heard = 0; time = 0; controller = unknown; parameters = unknown; session = noSession; counts = [] }
 
 abbrev pub noPost : Post
 noPost = record { head = noHead; latest = [] }
@@ -87,24 +89,43 @@ turnedAway p w = record { head = p; slot = unknown; at = kindCount; answer = Ref
 abbrev pub heardBy : AfterEvent → Heard
 heardBy r = record { head = r .head; slot = r .slot; at = r .at; answer = Findings (r .findings) }
 
+-- 02, Req 08: "A frame or tick that would take its post's count past the largest is refused with a new number, judged after all others"
+abbrev pub unlessFull : Head → Heard → Heard
+unlessFull p r = cond (isFullIn p) (turnedAway p CountFull) r
+
 abbrev pub judgedOf : Head → ℕ → Arrival → Heard
-judgedOf p t Tick = heardBy (afterTick p t)
-judgedOf p t (Frame k n) = heardBy (afterFrame p t k n)
+judgedOf p t Tick = unlessFull p (heardBy (afterTick p t))
+judgedOf p t (Frame k n) = unlessFull p (heardBy (afterFrame p t k n))
 judgedOf p t (Unread w) = turnedAway p w
 
--- 1 where the post does not hold the channel, then 2, then the reader's 3 to 6
+-- 1 where the post does not hold the channel, then 2, then the reader's 3 to 6, then 25
 unfoldable pub heardOf : Head → ℕ → ℕ → Arrival → Heard
 heardOf p c t a =
     cond (isChannel c && holds p c)
     (cond (isEarly p t) (turnedAway p Earlier) (judgedOf p t a))
     (turnedAway p ChannelFree)
 
+-- 02, Req 08: "The refused count stays at 4,294,967,295 once there"
+unfoldable pub oneMore : ℕ → ℕ
+oneMore n = cond (ltb n largest) (n + 1) n
+
+abbrev pub refusedAfter : ℕ → Answer → ℕ
+refusedAfter n (Findings f) = n
+refusedAfter n (Refused w) = oneMore n
+
+-- what a refused frame or tick leaves: "that count is now the only thing a refused one changes"
+abbrev pub oneRefused : Table → Table
+oneRefused t = record { posts = t .posts; refused = oneMore (t .refused) }
+
 abbrev pub refused : Table → Refusal → Fed
-refused t w = record { table = t; answer = Refused w }
+refused t w = record { table = oneRefused t; answer = Refused w }
+
+abbrev pub withPost : Table → ℕ → Post → Answer → Table
+withPost t i p w = record { posts = set (t .posts) i p; refused = refusedAfter (t .refused) w }
 
 -- the table with what the post at i heard
 abbrev pub fedBy : Table → ℕ → Heard → Fed
-fedBy t i r = record { table = putIn t i (stored (postIn t i) (r .head) (r .at) (r .slot)); answer = r .answer }
+fedBy t i r = record { table = withPost t i (stored (postIn t i) (r .head) (r .at) (r .slot)) (r .answer); answer = r .answer }
 
 -- what comes to the post at i
 unfoldable pub feedAt : Table → ℕ → ℕ → ℕ → Arriving → Fed
@@ -122,7 +143,7 @@ somePlace ps c = cond (ltb (placeOf ps c) postCount) (placeOf ps c) 0
 -- ---- set-up, release, look-up
 
 abbrev pub emptyTable : Table
-emptyTable = record { posts = replicate postCount freePost }
+emptyTable = record { posts = replicate postCount freePost; refused = 0 }
 
 -- a place of the table, and another than i
 unfoldable pub isOther : ℕ → ℕ → Bool

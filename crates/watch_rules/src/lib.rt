@@ -12,9 +12,11 @@ use rules::Slot;
 
 pub const POSTS: usize = 8;
 
+// `refused` counts the frames and ticks that were refused since the table was made, and stays at 4,294,967,295 (02, Req 08).
 #[repr(C)]
 pub struct Table {
     pub posts: [Post; POSTS],
+    pub refused: u64,
 }
 
 // The findings of an accepted frame or tick, finding k in bit k - 1, or the refusal.

@@ -24,7 +24,10 @@ pub fn empty() -> Table
     ensures by_history { λ r. ⌜ Kept r [] ⌝ }
 {
     let p = post::free_post();
-    Table { posts: [p; POSTS] }
+    Table {
+        posts: [p; POSTS],
+        refused: 0,
+    }
 }
 
 // Whether a place is a post's, and another's than the post i.

@@ -26,16 +26,21 @@ slot-at-requires c κs = search needs
 with-frame-requires : tie.Need-with-frame-requires
 with-frame-requires c κs = search needs
 
+with-counts-requires : tie.Need-with-counts-requires
+with-counts-requires c κs = search needs
+
 returns : tie.Need-returns
 unfolding afterFrame agedTo
 returns c =
-    let slot = c .before in
+    let framed = c .before in
+    let slot = framed .before in
     let found = slot .before in
     let stamped = found .before .before .before in
     let a = stamped .before .args in
     frame-both (a .h) (a .time) (a .kind) (a .raw)
     (rw (
-      c .with-frame .ensures,
+      c .with-counts .ensures,
+      framed .with-frame .ensures,
       slot .slot-at .ensures,
       found .before .any-findings .ensures .0,
       found .message-findings .ensures .0,
@@ -54,4 +59,5 @@ frame-spec =
     add-findings
     slot-at-requires
     with-frame-requires
+    with-counts-requires
     returns)

@@ -17,14 +17,20 @@ no-slot-requires c κs = search needs
 any-findings-requires : tie.Need-any-findings-requires
 any-findings-requires c κs = search needs
 
+with-counts-requires : tie.Need-with-counts-requires
+with-counts-requires c κs = search needs
+
 returns : tie.Need-returns
 unfolding afterTick
 returns c =
-    let a = c .before .before .before .before .args in
+    let slot = c .before in
+    let found = slot .before in
+    let stamped = found .before .before in
+    let a = stamped .before .args in
     tick-both (a .h) (a .time)
-    (rw (c .any-findings .ensures .0, c .before .no-slot .ensures, c .before .before .aged .ensures, c .before .before .before .stamp .ensures))
+    (rw (c .with-counts .ensures, slot .no-slot .ensures, found .any-findings .ensures .0, found .before .aged .ensures, stamped .stamp .ensures))
 
 pub tick-spec : {M : Type 1} → statement M
 tick-spec =
     tie.close
-    (tie.spec stamp-requires aged-requires no-slot-requires any-findings-requires returns)
+    (tie.spec stamp-requires aged-requires any-findings-requires no-slot-requires with-counts-requires returns)

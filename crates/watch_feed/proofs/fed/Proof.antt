@@ -15,8 +15,11 @@ store-requires c κs = search needs
 put-requires : tie.Need-put-requires
 put-requires c κs = search needs
 
+refused-after-requires : tie.Need-refused-after-requires
+refused-after-requires c κs = search needs
+
 returns : tie.Need-returns
-returns c = rw (c .put .ensures, c .before .store .ensures)
+returns c = rw (c .refused-after .ensures, c .before .put .ensures, c .before .before .store .ensures)
 
 pub fed-spec : {M : Type 1} → statement M
-fed-spec = tie.close (tie.spec mul-p element-copy-out-p store-requires put-requires returns)
+fed-spec = tie.close (tie.spec mul-p element-copy-out-p store-requires put-requires refused-after-requires returns)

@@ -49,14 +49,14 @@ returns-3 c =
 enum-told : tie.Need-enum-told
 enum-told c = search needs
 
-tick-requires : tie.Need-tick-requires
-tick-requires c κs = search needs
+ticked-requires : tie.Need-ticked-requires
+ticked-requires c κs = search needs
 
 enum-known-a : tie.Need-enum-known-a
 enum-known-a c = search needs
 
-frame-requires : tie.Need-frame-requires
-frame-requires c κs = search needs
+framed-requires : tie.Need-framed-requires
+framed-requires c κs = search needs
 
 enum-known-a-2 : tie.Need-enum-known-a-2
 enum-known-a-2 c = search needs
@@ -67,7 +67,7 @@ turned-away-requires-4 c κs = search needs
 returns-4 : tie.Need-returns-4
 unfolding heardOf
 returns-4 c =
-    let told = c .before .before .before in
+    let told = c .before in
     let late = told .before .before in
     let holding = late .before .before .before in
     heard-both _ _ _ _
@@ -76,13 +76,13 @@ returns-4 c =
       sym (holding .holds-channel .ensures) ∙ not-false _ (late .before .before .if2 .left),
       sym (late .before .is-early .ensures) ∙ late .if3 .left,
       told .enum-told .given .1,
-      c .before .before .tick .ensures .0,
+      c .ticked .ensures,
     ))
 
 returns-5 : tie.Need-returns-5
 unfolding heardOf
 returns-5 c =
-    let told = c .before .before .before .before in
+    let told = c .before .before in
     let late = told .before .before in
     let holding = late .before .before .before in
     heard-both _ _ _ _
@@ -91,7 +91,7 @@ returns-5 c =
       sym (holding .holds-channel .ensures) ∙ not-false _ (late .before .before .if2 .left),
       sym (late .before .is-early .ensures) ∙ late .if3 .left,
       told .a .given .1,
-      c .before .before .frame .ensures .0,
+      c .framed .ensures,
     ))
 
 returns-6 : tie.Need-returns-6
@@ -122,9 +122,9 @@ hear-spec =
     turned-away-requires-3
     returns-3
     enum-told
-    tick-requires
+    ticked-requires
     enum-known-a
-    frame-requires
+    framed-requires
     enum-known-a-2
     turned-away-requires-4
     returns-4
