@@ -1,0 +1,3 @@
+pub mod ByCase
+pub mod CountLaws
+pub mod Entries
