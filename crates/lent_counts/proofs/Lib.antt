@@ -1,3 +1,4 @@
 pub mod ByCase
 pub mod CountLaws
 pub mod Entries
+pub mod Night
