@@ -51,9 +51,5 @@ pub fn refused(t: Table) -> u32
     ensures by_history { λ r. ⌜ ((rs : List Request) → t ≡ run rs → r ≡ min (refusedEver rs) largest) ⌝ }
 {
     let n = t.refused;
-    if n < 4294967295 {
-        n as u32
-    } else {
-        4294967295
-    }
+    if n < 4294967295 { n as u32 } else { 4294967295 }
 }
