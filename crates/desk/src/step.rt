@@ -45,6 +45,7 @@ fn shown(
     match word::showing_word(word) {
         Showing::No => told(word::telling_word(word), s, at, room, out, pen),
         Showing::Record => desk_record::show(table, s, at, out, pen),
+        Showing::Refused => desk_record::refused(table, s, at, out, pen),
         Showing::Read => desk_codec::read(s, at, room, out, pen),
         Showing::Change => desk_codec::change(s, at, room, out, pen),
         Showing::Write => desk_codec::write(s, at, room, out, pen),

@@ -33,6 +33,7 @@ pub fn changing_word(word: &[u8]) -> Changing {
 pub enum Showing {
     No,
     Record,
+    Refused,
     Read,
     Change,
     Write,
@@ -41,6 +42,9 @@ pub enum Showing {
 pub fn showing_word(word: &[u8]) -> Showing {
     if check::same(word, b"record") {
         return Showing::Record;
+    }
+    if check::same(word, b"refused") {
+        return Showing::Refused;
     }
     if check::same(word, b"read") {
         return Showing::Read;

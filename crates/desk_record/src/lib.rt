@@ -1,4 +1,4 @@
-// A post's record as one line: the step `record`, for the desk alone.
+// A post's record as one line, and the table's count of what was refused: the steps `record` and `refused`, for the desk alone.
 use desk_values::message;
 use message_types::Plug;
 use message_types::Protocol;
@@ -11,6 +11,7 @@ use notation_read::fields::Last;
 use rule_limits::Limits;
 use rule_limits::kept::sensor_number;
 use rules::Dated;
+use rules::FINDINGS;
 use rules::KINDS;
 use rules::LastTime;
 use rules::OpenSession;
@@ -151,11 +152,29 @@ fn put_setting(out: &mut [u8], pen: Pen, r: Record) -> Pen {
     put_limits(out, p, limits)
 }
 
+// The tallies, finding 1 first.
+fn put_tallies(out: &mut [u8], pen: Pen, tallies: [u32; FINDINGS]) -> Pen {
+    let mut p = named(out, pen, b" tally=", tallies[0]);
+    let mut k = 1;
+    while k < FINDINGS {
+        p = named(out, p, b",", tallies[k]);
+        k += 1;
+    }
+    p
+}
+
+fn put_counts(out: &mut [u8], pen: Pen, r: Record) -> Pen {
+    let tallies = r.tallies;
+    let p = named(out, pen, b" n=", r.accepted);
+    put_tallies(out, p, tallies)
+}
+
 fn put_session_part(out: &mut [u8], pen: Pen, r: Record) -> Pen {
     let last = r.last;
     let session = r.session;
     let p = put_last(out, pen, last);
-    put_session(out, p, session)
+    let q = put_session(out, p, session);
+    put_counts(out, q, r)
 }
 
 fn put_messages(out: &mut [u8], pen: Pen, r: Record) -> Pen {
@@ -185,4 +204,18 @@ fn put_looked_up(out: &mut [u8], pen: Pen, r: LookedUp) -> Pen {
         Setting::Done => put(out, pen, shown),
         Setting::Refused(w) => answer::refusal(out, pen, w),
     }
+}
+
+// In a table that operations left there is no larger count.
+fn within(n: u64) -> u32 {
+    if n < 4294967295 { n as u32 } else { 4294967295 }
+}
+
+// `refused`, and nothing behind it
+pub fn refused(table: Table, s: &[u8], at: usize, out: &mut [u8], pen: Pen) -> Pen {
+    if at <= s.len() {
+        return answer::unknown(out, pen);
+    }
+    let p = named(out, pen, b"N ", within(table.refused));
+    text_pen::put(out, p, b"\n")
 }

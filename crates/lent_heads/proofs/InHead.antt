@@ -193,7 +193,7 @@ module _ {M : Type 1} (𝓤 : URA M) (H : Heap 𝓤) (A : Atoms 𝓤) (W : Given
       slot-part : (k : ℕ) → k < kindCount
           → Part K W (cell m (us-of (headed h i x))) fullShare τL b (Index.place (size τL) (Index.place (size τP) (o + 0) i + size τH) k) (getD (ss-of (post-at h i .latest)) k (slot-val unknown))
           (λ u. cell m (set (us-of (headed h i x)) i (post-of (head-val x) (set (ss-of (post-at h i .latest)) k u))))
-      slot-part k lt = elem t (ss-of (post-at h i .latest)) k (slot-val unknown) (ss-within h was i l k lt) (ss-long h was i l) (sub t 1 refl headed-part)
+      slot-part k low = elem t (ss-of (post-at h i .latest)) k (slot-val unknown) (ss-within h was i l k low) (ss-long h was i l) (sub t 1 refl headed-part)
 
   pub walk : (Was → ent 𝓤 (mean 𝓤 H A (‵ ftrue)) (C at (table-val h ∷ vint w32 c ∷ []) (λ v. mean 𝓤 H A (Finds v))))
       → (Was → (i : ℕ) → Here i → Is D.the-row (head-at h i) (head-val (head-at h i) ∷ []) → ent 𝓤 (mean 𝓤 H A Lent) (C f (head-val (head-at h i) ∷ vint w64 (h .refused) ∷ vint w32 c ∷ vs) (λ v. mean 𝓤 H A (Gives i v))))

@@ -16,6 +16,7 @@ use Rattle.page_read.specs.Judge.{unlabelled, offends, offender, strayBelow, ju
 use Rattle.rule_limits.specs.declared.PlainLimits.{PlainLimits}
 use Rattle.rules.specs.History.{Event, History, frame, tick, stampOf, earlierIn}
 use Rattle.rule_asks.specs.Judgements.{bit}
+use Rattle.rules.specs.Counts.{isFull}
 use Rattle.rules.specs.Rules.{f1, f2, f3, f4, f5, f6, f7, f8, f9, f10, f11, findings01}
 use Rattle.log_records.specs.declared.Found.{Found as Seen}
 use Rattle.log_records.specs.declared.Found.the-variants as found
@@ -116,8 +117,8 @@ arrival-small (rec.frame time c extended id payload) lim = go (judgeOf id extend
     go (judged.Refused w) h = h
 
 found-small : (lim : PlainLimits) (hist : History) (t : ℕ) (a : Arrival) → Arrival-small a → InWords (found01 lim hist t a)
-found-small lim hist t Tick h = findings-small lim hist (tick (stampOf hist t))
-found-small lim hist t (Frame k n) h = findings-small lim hist (frame (stampOf hist t) k n)
+found-small lim hist t Tick h = by-cond InWords (isFull hist) _ _ (omega arith, omega arith) (findings-small lim hist (tick (stampOf hist t)))
+found-small lim hist t (Frame k n) h = by-cond InWords (isFull hist) _ _ (omega arith, omega arith) (findings-small lim hist (frame (stampOf hist t) k n))
 found-small lim hist t (Unread w) h = h
 
 module _ (t : ℕ) (a : Arriving) (small : (lim : PlainLimits) → Arrival-small (a lim)) where

@@ -5,7 +5,7 @@ use mathlib.Core.Option.{some}
 use mathlib.Core.List.{List, [], _∷_}
 use Prim.Native.Nat.{ℕ}
 use lib.ListN.{take, replicate}
-use Rattle.rules.specs.After.{agedTo, silentIn, lateAfter, anyFindings, afterTick}
+use Rattle.rules.specs.After.{agedTo, silentIn, lateAfter, anyFindings, withCounts, afterTick}
 use Rattle.log_numbers.specs.Number.{readGroups}
 use Rattle.log_records.specs.Reading.{lengthPart, identifierPart, channelPart, timePart, recordAt}
 use Rattle.text_numbers.specs.Numbers.{glyphOf, digitsIn, numeral}
@@ -37,12 +37,12 @@ after-one = nextLine (setUpsFrom fresh posts) ticks 0 lineRoom .replay
 
 -- the first seven bytes show a cut, which is theirs alone
 pub cut-by-piece : nextLine after-one (pieceOf ticks 0 7) 5 lineRoom .answer ≡ Cut 5
-unfolding setUpsFrom setUpIn callOf lineCall setUpOf isOther limitsFit placeOf feedOf feedAt heardOf afterTick recordAt timePart channelPart identifierPart lengthPart readGroups
+unfolding setUpsFrom setUpIn callOf lineCall setUpOf isOther limitsFit placeOf feedOf feedAt heardOf withCounts afterTick recordAt timePart channelPart identifierPart lengthPart readGroups
 cut-by-piece = refl
 
 -- "2 - R1", and the next byte is the log's
 pub second-line : (nextLine after-one ticks 5 lineRoom .answer ≡ Line 7 10) × (take 7 (bufferAfter after-one ticks 5 buffer) ≡ 50 ∷ 32 ∷ 45 ∷ 32 ∷ 82 ∷ 49 ∷ 10 ∷ [])
-unfolding setUpsFrom setUpIn callOf lineCall lineOf refusedWords textOf numeral digitsIn glyphOf setUpOf isOther limitsFit placeOf feedOf feedAt heardOf afterTick anyFindings silentIn lateAfter agedTo recordAt timePart channelPart identifierPart lengthPart readGroups
+unfolding setUpsFrom setUpIn callOf lineCall lineOf refusedWords textOf numeral digitsIn glyphOf setUpOf isOther limitsFit placeOf feedOf feedAt heardOf withCounts afterTick anyFindings silentIn lateAfter agedTo recordAt timePart channelPart identifierPart lengthPart readGroups
 second-line =
     let x = line-in-piece after-one ticks 5 5 0 buffer (inl refl) in
     (ap (λ (n : Next). n .answer) (x .0), ap (take 7) (x .1))
@@ -54,7 +54,7 @@ abbrev two : List Piece
 two = (0, 7) ∷ (5, 7) ∷ (0, 5) ∷ (0, 7) ∷ []
 
 pub two-told : inPieces two (setUpsFrom fresh posts) ticks 0 buffer ≡ some (record { lines = told; ending = End })
-unfolding inPieces setUpsFrom setUpIn callOf lineCall lineOf refusedWords textOf numeral digitsIn glyphOf setUpOf isOther limitsFit placeOf feedOf feedAt heardOf afterTick anyFindings silentIn lateAfter agedTo recordAt timePart channelPart identifierPart lengthPart readGroups
+unfolding inPieces setUpsFrom setUpIn callOf lineCall lineOf refusedWords textOf numeral digitsIn glyphOf setUpOf isOther limitsFit placeOf feedOf feedAt heardOf withCounts afterTick anyFindings silentIn lateAfter agedTo recordAt timePart channelPart identifierPart lengthPart readGroups
 two-told = refl
 
 pub night-told : runOf posts ticks buffer ≡ record { lines = told; ending = End }
