@@ -38,7 +38,6 @@ extern "C" {
 
 #define ROKEMAIPU_POSTS 8
 #define ROKEMAIPU_KINDS 12
-#define ROKEMAIPU_COUNTS 12 /* of a post: what was accepted, and each of the 11 findings */
 #define ROKEMAIPU_SIGNALS 16 /* places of raw numbers; no message has more signals */
 #define ROKEMAIPU_RECORD_BYTES 20 /* no record of the night log is longer */
 #define ROKEMAIPU_BATCH_BYTES 4096 /* a batch has no more */
@@ -165,6 +164,12 @@ enum rokemaipu_number {
     ROKEMAIPU_NUMBERS = 12   /* how many they are */
 };
 
+/* A post's counts since set-up, in the order in which they are looked up. Place k, 1 to 11, has the accepted frames and ticks that had finding k. */
+enum rokemaipu_count {
+    ROKEMAIPU_ACCEPTED = 0, /* the accepted frames and ticks */
+    ROKEMAIPU_COUNTS = 12   /* how many they are */
+};
+
 /* What stands at a byte of a log. */
 enum rokemaipu_found {
     ROKEMAIPU_FOUND_RECORD = 0,
@@ -227,7 +232,7 @@ typedef struct rokemaipu_head { /* 208 bytes: what the findings are read from, a
     rokemaipu_slot controller; /* the latest Advantics_Controller_Status, as in latest */
     rokemaipu_slot parameters; /* the latest DC_Power_Parameters, as in latest */
     rokemaipu_session session;
-    uint32_t counts[ROKEMAIPU_COUNTS]; /* since set-up: 0 is the accepted frames and ticks, k those that had finding k */
+    uint32_t counts[ROKEMAIPU_COUNTS];
 } rokemaipu_head;
 
 typedef struct rokemaipu_post { /* 496 bytes */
@@ -273,8 +278,8 @@ uint32_t rokemaipu_holder(const rokemaipu_table *t, uint32_t channel);
  * Refuses with 9, 14, then with 8 where numbers has fewer places. */
 uint32_t rokemaipu_look_up(const rokemaipu_table *t, uint32_t post, uint32_t *numbers, size_t places);
 
-/* Looks up a post's counts since set-up: puts the number of accepted frames and ticks into counts[0] and of those that had finding k into counts[k],
- * ROKEMAIPU_COUNTS in all, and leaves the places behind them. Answers 0. Refuses with 9, 14, then with 8 where counts has fewer places. */
+/* Looks up a post's counts: puts them into the first ROKEMAIPU_COUNTS places of counts, and leaves those behind them. Answers 0. Refuses with 9, 14,
+ * then with 8 where counts has fewer places. */
 uint32_t rokemaipu_counts(const rokemaipu_table *t, uint32_t post, uint32_t *counts, size_t places);
 
 /* Answers how many frames and ticks were refused since the table was made, whatever was set up or released meanwhile. No other refusal counts, and of a
