@@ -4,7 +4,7 @@ use super::Generator;
 use crate::desk::LONGEST;
 use crate::rng::Rng;
 
-const ODD_LINES: [&[u8]; 66] = [
+const ODD_LINES: [&[u8]; 70] = [
     b" ",
     b"  ",
     b"\t",
@@ -23,6 +23,10 @@ const ODD_LINES: [&[u8]; 66] = [
     b"record 00",
     b"record 4294967296",
     b"release -1",
+    b"refused ",
+    b"refused 0",
+    b"refused -",
+    b"refuse",
     b"setup 0 0 1 1 0 100 ",
     b"setup 0 0 1 1 0 100 -1",
     b"setup 0 0 1 1 0 100 4294967296",
@@ -83,7 +87,7 @@ impl Generator {
             0 => self.long(),
             1..=5 => self.rng.pick(&ODD_LINES).to_vec(),
             _ => {
-                let line = match self.rng.below(10) {
+                let line = match self.rng.below(11) {
                     0 => self.rng.pick(&["setup 9 40 5000 1000 500 500", "setup 9 40 5000 1000 500 500 1"]).to_string(),
                     1 => self.record(),
                     2 => self.read(),
@@ -93,6 +97,7 @@ impl Generator {
                     6 => self.log_write(),
                     7 => self.service(),
                     8 => self.replay(),
+                    9 => "refused".to_string(),
                     _ => self.refused(),
                 };
                 spoilt(&mut self.rng, line.into_bytes())

@@ -24,8 +24,9 @@ pub struct Extras {
 /// A script of that many steps; comments and blank lines come on top.
 pub fn script(seed: u64, steps: usize, extras: Extras) -> Vec<Vec<u8>> {
     let mut generator = Generator::new(seed, extras);
-    let mut lines = Vec::new();
-    let mut written = 0;
+    // The one place where surely nothing was refused.
+    let mut lines = vec![b"refused".to_vec()];
+    let mut written = 1;
     while written < steps {
         let line = generator.line();
         written += usize::from(is_step(&line));
@@ -60,6 +61,7 @@ enum Sort {
     SetUp,
     RefusedSetUp,
     Release,
+    RefusedRelease,
     Read,
     Change,
     Write,
@@ -68,6 +70,7 @@ enum Sort {
     LogWrite,
     Replay,
     Batch,
+    RefusedCount,
     Malformed,
     Remark,
     Explain,
@@ -88,6 +91,7 @@ impl Generator {
             Sort::SetUp => self.set_up().into_bytes(),
             Sort::RefusedSetUp => self.refused_set_up().into_bytes(),
             Sort::Release => self.release().into_bytes(),
+            Sort::RefusedRelease => self.refused_release().into_bytes(),
             Sort::Read => self.read().into_bytes(),
             Sort::Change => self.change().into_bytes(),
             Sort::Write => self.write().into_bytes(),
@@ -96,6 +100,7 @@ impl Generator {
             Sort::LogWrite => self.log_write().into_bytes(),
             Sort::Replay => self.replay().into_bytes(),
             Sort::Batch => self.batch().into_bytes(),
+            Sort::RefusedCount => b"refused".to_vec(),
             Sort::Malformed => self.malformed(),
             Sort::Remark => self.remark(),
             Sort::Explain => self.explain().into_bytes(),
@@ -115,7 +120,8 @@ impl Generator {
             (60, Sort::Record),
             (restless, Sort::SetUp),
             (35, Sort::RefusedSetUp),
-            (restless / 4, Sort::Release),
+            (restless / 4 + 2, Sort::Release),
+            (10, Sort::RefusedRelease),
             (70, Sort::Read),
             (65, Sort::Change),
             (75, Sort::Write),
@@ -124,6 +130,7 @@ impl Generator {
             (35, Sort::LogWrite),
             (60, Sort::Replay),
             (45, Sort::Batch),
+            (40, Sort::RefusedCount),
             (35, Sort::Malformed),
             (12, Sort::Remark),
             (explain, Sort::Explain),
@@ -146,7 +153,7 @@ impl Generator {
             0 => self.rng.below(2048),
             1 => 1 << self.rng.below(13),
             2 => self.rng.pick(&[0, 2047, 2048, 4_294_967_295, 4_294_967_296]),
-            _ if self.rng.chance(60) => return format!("explain R{}", self.rng.below(24)),
+            _ if self.rng.chance(60) => return format!("explain R{}", self.rng.below(27)),
             _ => return self.explain_start(),
         };
         format!("explain {number}")
