@@ -42,7 +42,7 @@ const REFUSALS: [&str; 25] = [
     "a batch of more than 4,096 bytes",
     "a malformed or cut record in a batch",
     "fewer places for answers than a batch has records",
-    "the post's count of accepted frames and ticks would go past 4,294,967,295",
+    "the post's count of accepted frames and ticks is at its largest",
 ];
 
 /// The words of each finding in the number; none where it has a bit that is no finding.

@@ -398,7 +398,7 @@ fn explaining() {
          explain R22 => E R22 a batch of more than 4,096 bytes
          explain R23 => E R23 a malformed or cut record in a batch
          explain R24 => E R24 fewer places for answers than a batch has records
-         explain R25 => E R25 the post's count of accepted frames and ticks would go past 4,294,967,295
+         explain R25 => E R25 the post's count of accepted frames and ticks is at its largest
          explain R26 => ?
          explain R01 => ?
          explain r1 => ?

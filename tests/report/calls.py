@@ -111,7 +111,7 @@ class Calls(unittest.TestCase):
     def test_a_full_count(self):
         """02, Req 08: refused with 25, and in no tally."""
         text = self.page(lines=LINES.replace('R5 0', 'R25'))
-        self.assertIn('R25 the post\'s count of accepted frames and ticks would go past 4,294,967,295: 1', text)
+        self.assertIn('R25 the post\'s count of accepted frames and ticks is at its largest: 1', text)
         rows = [tabled.cells(row) for row in tabled.table(dom.read(Path('out.html').read_text()), 'The tallies of each post')]
         self.assertEqual(rows, [['0', '1', *['0'] * 11], ['1', '1', *['0'] * 11]])
 

@@ -34,7 +34,7 @@ a tick's length, 9, with an identifier part other than 0\n\
 a batch of more than 4,096 bytes\n\
 a malformed or cut record in a batch\n\
 fewer places for answers than a batch has records\n\
-the post's count of accepted frames and ticks would go past 4,294,967,295\n",
+the post's count of accepted frames and ticks is at its largest\n",
         n,
     )
 }
