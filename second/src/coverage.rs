@@ -36,10 +36,10 @@ pub struct Coverage {
     logs: BTreeMap<String, u64>,
     sensors: BTreeMap<&'static str, u64>,
     safety: BTreeMap<String, u64>,
-    replays: BTreeMap<String, u64>,
-    batches: BTreeMap<String, u64>,
     counts: BTreeMap<String, u64>,
     since: Since,
+    replays: BTreeMap<String, u64>,
+    batches: BTreeMap<String, u64>,
     findings: [u64; 11],
     clean: u64,
     accepted: u64,
@@ -65,14 +65,14 @@ impl Coverage {
         for shown in safety_coverage::shown(step, answer) {
             *self.safety.entry(shown).or_default() += 1;
         }
+        for shown in self.since.shown(table, step, answer) {
+            *self.counts.entry(shown).or_default() += 1;
+        }
         for shown in replay_coverage::shown(step, answer) {
             *self.replays.entry(shown).or_default() += 1;
         }
         for shown in batch_coverage::shown(step, answer) {
             *self.batches.entry(shown).or_default() += 1;
-        }
-        for shown in self.since.shown(table, step, answer) {
-            *self.counts.entry(shown).or_default() += 1;
         }
         match answer.split_first() {
             Some((b'?', _)) => self.no_step += 1,
@@ -114,9 +114,9 @@ impl Coverage {
         let sensors = sensor_coverage::WANTED.iter().filter(|shown| !self.sensors.contains_key(*shown));
         missing.extend(sensors.map(|shown| shown.to_string()));
         missing.extend(safety_coverage::wanted().into_iter().filter(|shown| !self.safety.contains_key(shown)));
+        missing.extend(tally_coverage::wanted().filter(|shown| !self.counts.contains_key(shown)));
         missing.extend(replay_coverage::wanted().filter(|shown| !self.replays.contains_key(shown)));
         missing.extend(batch_coverage::wanted().filter(|shown| !self.batches.contains_key(shown)));
-        missing.extend(tally_coverage::wanted().filter(|shown| !self.counts.contains_key(shown)));
         missing.extend((self.no_step == 0).then(|| "?".to_string()));
         missing.extend((self.no_message == 0).then(|| "X".to_string()));
         missing
@@ -153,6 +153,11 @@ impl fmt::Display for Coverage {
         for shown in safety_coverage::wanted() {
             write!(out, " {shown} {},", self.safety.get(&shown).unwrap_or(&0))?;
         }
+        write!(out, "\ncounts:  ")?;
+        for shown in tally_coverage::wanted() {
+            write!(out, " {shown} {},", self.counts.get(&shown).unwrap_or(&0))?;
+        }
+        write!(out, " {}", tally_coverage::beyond())?;
         write!(out, "\nreplays: ")?;
         for shown in replay_coverage::wanted() {
             write!(out, " {} {},", shown.trim_start_matches("replay "), self.replays.get(&shown).unwrap_or(&0))?;
@@ -161,11 +166,6 @@ impl fmt::Display for Coverage {
         for shown in batch_coverage::wanted() {
             write!(out, " {} {},", shown.trim_start_matches("batch "), self.batches.get(&shown).unwrap_or(&0))?;
         }
-        write!(out, "\ncounts:  ")?;
-        for shown in tally_coverage::wanted() {
-            write!(out, " {shown} {},", self.counts.get(&shown).unwrap_or(&0))?;
-        }
-        write!(out, " {}", tally_coverage::beyond())?;
         write!(out, "\nother:    accepted {} ? {} X {}", self.accepted, self.no_step, self.no_message)
     }
 }

@@ -399,7 +399,10 @@ fn explaining() {
          explain R23 => E R23 a malformed or cut record in a batch
          explain R24 => E R24 fewer places for answers than a batch has records
          explain R25 => E R25 the post's count of accepted frames and ticks is at its largest
-         explain R26 => ?
+         explain R26 => E R26 a malformed or cut log in a comparison
+         explain R27 => E R27 more than 512 records in a log of a comparison
+         explain R28 => E R28 fewer than 512 places for the record numbers of a comparison
+         explain R29 => ?
          explain R01 => ?
          explain r1 => ?
          explain R => ?

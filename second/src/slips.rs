@@ -40,8 +40,8 @@ const SHARED_CLOCK: &str = "clock";
 pub fn names() -> Vec<&'static str> {
     let rules = WRONG_RULES.iter().map(|(name, ..)| *name);
     let early = log_slips::names().chain(label_slips::names()).chain(sensor_slips::names());
-    let later =
-        safety_slips::names().chain(replay_slips::names()).chain(batch_slips::names()).chain(tally_slips::names());
+    let early = early.chain(tally_slips::names());
+    let later = safety_slips::names().chain(replay_slips::names()).chain(batch_slips::names());
     rules.chain([SHARED_CLOCK]).chain(early).chain(later).collect()
 }
 
@@ -57,10 +57,10 @@ pub fn desk(name: &str) -> Option<Desk> {
             log_slips::put_into,
             label_slips::put_into,
             sensor_slips::put_into,
+            tally_slips::put_into,
             safety_slips::put_into,
             replay_slips::put_into,
             batch_slips::put_into,
-            tally_slips::put_into,
         ];
         put.iter().find_map(|put_into| put_into(&mut desk, name))?;
     }

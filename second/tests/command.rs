@@ -81,6 +81,10 @@ fn too_few_steps_to_reach_everything_fail() {
         "R6",
         "frame 6s A",
         "probe N",
+        "record with n=0",
+        "record with F11",
+        "refused behind R15",
+        "refused behind a refused batch",
         "replay END",
         "replay CUT",
         "replay BAD R16",
@@ -89,10 +93,6 @@ fn too_few_steps_to_reach_everything_fail() {
         "replay with R5 and its start",
         "replay with a finding",
         "replay of an empty log",
-        "record with n=0",
-        "record with F11",
-        "refused behind R15",
-        "refused behind a refused batch",
     ] {
         assert!(missing.split(", ").any(|known| known == outcome), "{outcome}: {missing}");
     }

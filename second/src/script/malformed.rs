@@ -87,8 +87,9 @@ impl Generator {
             0 => self.long(),
             1..=5 => self.rng.pick(&ODD_LINES).to_vec(),
             _ => {
-                let line = match self.rng.below(11) {
+                let line = match self.rng.below(10) {
                     0 => self.rng.pick(&["setup 9 40 5000 1000 500 500", "setup 9 40 5000 1000 500 500 1"]).to_string(),
+                    1 if self.rng.chance(50) => "refused".to_string(),
                     1 => self.record(),
                     2 => self.read(),
                     3 => self.change(),
@@ -97,7 +98,6 @@ impl Generator {
                     6 => self.log_write(),
                     7 => self.service(),
                     8 => self.replay(),
-                    9 => "refused".to_string(),
                     _ => self.refused(),
                 };
                 spoilt(&mut self.rng, line.into_bytes())
