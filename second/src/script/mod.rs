@@ -50,6 +50,8 @@ struct Generator {
     busy: usize,
     /// How many of a thousand steps set up or release: scripts with long histories and with short ones.
     restless: u64,
+    /// The next line, where one has to follow at once.
+    following: Option<String>,
     extras: Extras,
 }
 
@@ -80,16 +82,24 @@ impl Generator {
     fn new(seed: u64, extras: Extras) -> Generator {
         let mut rng = Rng::new(seed);
         let restless = rng.pick(&[6, 15, 40]);
-        Generator { rng, posts: Default::default(), busy: 0, restless, extras }
+        Generator { rng, posts: Default::default(), busy: 0, restless, following: None, extras }
     }
 
     fn line(&mut self) -> Vec<u8> {
+        if let Some(line) = self.following.take() {
+            return line.into_bytes();
+        }
         match self.sort() {
             Sort::Traffic => self.traffic().into_bytes(),
             Sort::Refused => self.refused().into_bytes(),
             Sort::Record => self.record().into_bytes(),
             Sort::RefusedCount => b"refused".to_vec(),
-            Sort::SetUp => self.set_up().into_bytes(),
+            Sort::SetUp => {
+                let line = self.set_up();
+                // Now and then the record at once, before anything comes to the post.
+                self.following = self.rng.chance(20).then(|| format!("record {}", self.busy));
+                line.into_bytes()
+            }
             Sort::RefusedSetUp => self.refused_set_up().into_bytes(),
             Sort::Release => self.release().into_bytes(),
             Sort::RefusedRelease => self.refused_release().into_bytes(),
