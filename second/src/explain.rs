@@ -17,7 +17,7 @@ const FINDINGS: [&str; 11] = [
 /// An answer as one word has eight bits for a start.
 const LAST_START: u32 = 255;
 
-const REFUSALS: [&str; 24] = [
+const REFUSALS: [&str; 28] = [
     "channel above 31, or held by no post",
     "time earlier than the post's latest accepted frame or tick",
     "identifier not in the table, standard and extended ones told apart",
@@ -42,6 +42,10 @@ const REFUSALS: [&str; 24] = [
     "a batch of more than 4,096 bytes",
     "a malformed or cut record in a batch",
     "fewer places for answers than a batch has records",
+    "the post's count of accepted frames and ticks is at its largest",
+    "a malformed or cut log in a comparison",
+    "more than 512 records in a log of a comparison",
+    "fewer than 512 places for the record numbers of a comparison",
 ];
 
 /// The words of each finding in the number; none where it has a bit that is no finding.

@@ -28,9 +28,9 @@ fn sizes() {
         fields!(Slot as "slot": known time raw),
         fields!(Limits as "limits": voltage charge discharge silence sensor),
         fields!(Session as "session": opened since first kept),
-        fields!(Head as "head": used channel limits heard time controller parameters session),
+        fields!(Head as "head": used channel limits heard time controller parameters session counts),
         fields!(Post as "post": head latest),
-        fields!(Table as "table": posts),
+        fields!(Table as "table": posts refused),
         fields!(Replay as "replay": table count course),
     ]
     .concat();
@@ -48,6 +48,7 @@ fn numbers() {
         ("#define ROKEMAIPU_BATCH_BYTES ", BATCH_BYTES),
         ("#define ROKEMAIPU_LINE_BYTES ", LINE_BYTES),
         ("    ROKEMAIPU_NUMBERS = ", NUMBERS),
+        ("    ROKEMAIPU_COUNTS = ", COUNTS),
         ("    ROKEMAIPU_ENTRY_NUMBERS = ", ENTRY_NUMBERS),
         ("#define ROKEMAIPU_REFUSED ", REFUSED as usize),
     ] {

@@ -33,7 +33,11 @@ a length above 9 in a log record, or more than 8 payload bytes to be logged\n\
 a tick's length, 9, with an identifier part other than 0\n\
 a batch of more than 4,096 bytes\n\
 a malformed or cut record in a batch\n\
-fewer places for answers than a batch has records\n",
+fewer places for answers than a batch has records\n\
+the post's count of accepted frames and ticks is at its largest\n\
+a malformed or cut log in a comparison\n\
+more than 512 records in a log of a comparison\n\
+fewer than 512 places for the record numbers of a comparison\n",
         n,
     )
 }
