@@ -132,7 +132,7 @@ enum { PAGE = 4096, PLACES = 16, STEP = PAGE / PLACES + 8 };
 
 typedef struct { _Alignas(PAGE) uint8_t room[SIDES][2 * PAGE]; size_t at; uint32_t posts, turn[SIDES]; } depot;
 
-_Static_assert(PLACES * STEP + sizeof(rokemaipu_table) <= 2 * PAGE, "the tables have room");
+_Static_assert((PLACES - 1) * STEP + sizeof(rokemaipu_table) <= 2 * PAGE, "the tables have room");
 
 static rokemaipu_table *table_of(depot *d, const side *s) { return (rokemaipu_table *)(d->room[s - sides] + d->at); }
 

@@ -8,7 +8,7 @@
 #include <string.h>
 
 typedef struct { rokemaipu_head head; rokemaipu_slot latest[25]; } larger_post;
-typedef struct { larger_post posts[16]; } larger_table;
+typedef struct { larger_post posts[16]; uint64_t refused; } larger_table;
 uint32_t larger_rokemaipu_frame(larger_table *t, uint32_t channel, uint32_t time, uint32_t id, bool extended, const uint8_t *payload, size_t length);
 uint32_t larger_rokemaipu_tick(larger_table *t, uint32_t channel, uint32_t time);
 

@@ -48,13 +48,27 @@ static uint32_t NAMED(found)(const POST *p, uint32_t kind, uint64_t r) {
     return f;
 }
 
+static uint32_t NAMED(refuse)(TABLE *t, uint32_t word) {
+    if (t->refused < UINT32_MAX) t->refused++;
+    return word;
+}
+
+/* The event, and each of its findings. */
+static uint32_t NAMED(count)(POST *p, uint32_t f) {
+    HEAD(p).counts[0]++;
+    for (uint32_t left = f, k = 1; left; left >>= 1, k++) HEAD(p).counts[k] += left & 1;
+    return f;
+}
+
 uint32_t NAMED(frame)(rokemaipu_table *memory, uint32_t channel, uint32_t time, uint32_t id, bool extended, const uint8_t *bytes, size_t n) {
-    POST *p = NAMED(holder)((TABLE *)memory, channel);
-    if (!p) return R(1);
-    if (SET(HEAD(p).heard) && time < HEAD(p).time) return R(2);
+    TABLE *t = (TABLE *)memory;
+    POST *p = NAMED(holder)(t, channel);
+    if (!p) return NAMED(refuse)(t, R(1));
+    if (SET(HEAD(p).heard) && time < HEAD(p).time) return NAMED(refuse)(t, R(2));
     uint64_t r;
     uint32_t kind = judge(id, extended, bytes, n, &r);
-    if (kind >= ROKEMAIPU_REFUSED) return kind;
+    if (kind >= ROKEMAIPU_REFUSED) return NAMED(refuse)(t, kind);
+    if (HEAD(p).counts[0] == UINT32_MAX) return NAMED(refuse)(t, R(25));
     uint32_t f = NAMED(always)(p, time) | NAMED(found)(p, kind, r);
     SLOT slot = {true, time, r};
     SESSION *s = &HEAD(p).session;
@@ -64,13 +78,15 @@ uint32_t NAMED(frame)(rokemaipu_table *memory, uint32_t channel, uint32_t time, 
     if (kind == 5 && SET(s->opened)) CONTROL(s) = slot;
     if (kind == 3 && !SET(s->opened)) *s = (SESSION){.opened = true, .since = time, .first = r};
     if (kind == 6) *s = (SESSION){0};
-    return f;
+    return NAMED(count)(p, f);
 }
 
 uint32_t NAMED(tick)(rokemaipu_table *memory, uint32_t channel, uint32_t time) {
-    POST *p = NAMED(holder)((TABLE *)memory, channel);
-    if (!p) return R(1);
-    if (SET(HEAD(p).heard) && time < HEAD(p).time) return R(2);
+    TABLE *t = (TABLE *)memory;
+    POST *p = NAMED(holder)(t, channel);
+    if (!p) return NAMED(refuse)(t, R(1));
+    if (SET(HEAD(p).heard) && time < HEAD(p).time) return NAMED(refuse)(t, R(2));
+    if (HEAD(p).counts[0] == UINT32_MAX) return NAMED(refuse)(t, R(25));
     HEAD(p).heard = true, HEAD(p).time = time;
-    return NAMED(always)(p, time);
+    return NAMED(count)(p, NAMED(always)(p, time));
 }

@@ -4,7 +4,7 @@
  *     if (rokemaipu_layout() != ROKEMAIPU_LAYOUT) return 1;                  this header and the library that was linked are not of one version
  *     rokemaipu_set_up(&t, 0, 4, 5000, 1000, 500, 500, ROKEMAIPU_MEASURING); post 0 on channel 4: 500.0 V, 100.0 A, 50.0 A, W 500 ms
  *     uint32_t answer = rokemaipu_frame(&t, 4, time, id, extended, payload, length);
- *     if (rokemaipu_refusal(answer)) ..                                      refused, and nothing was changed
+ *     if (rokemaipu_refusal(answer)) ..                                      refused, and nothing was changed but the count of what was refused
  *     else if (answer & ROKEMAIPU_F9_LOW_INSULATION) ..                      accepted, and found
  *
  * Link librokemaipu.a (make lib). The functions are proved: each takes any input and answers; nothing outside the memory that you
@@ -34,7 +34,7 @@
 extern "C" {
 #endif
 
-#define ROKEMAIPU_VERSION 100 /* 1.00: whatever compiles with one 1.xx compiles with each later one */
+#define ROKEMAIPU_VERSION 101 /* 1.01: whatever compiles with one 1.xx compiles with each later one */
 
 #define ROKEMAIPU_POSTS 8
 #define ROKEMAIPU_KINDS 12
@@ -48,8 +48,9 @@ extern "C" {
 /* ---- answers
  *
  * An answer is one word. Below 65,536 a call was accepted; from there on it is 65,536 plus the number of the refusal, and of refusal 5
- * plus 256 times the start bit of the signal, and nothing was changed: neither the table nor a lent buffer (but for the two numbers of
- * rokemaipu_compare, which tell side and byte of what is refused). */
+ * plus 256 times the start bit of the signal, and nothing was changed: neither a post nor a lent buffer (but for the two numbers of
+ * rokemaipu_compare, which tell side and byte of what is refused). Only the table's count of refused frames and ticks goes up by one where a
+ * frame or a tick is refused, and stays at 4,294,967,295 once there (rokemaipu_refused). */
 #define ROKEMAIPU_REFUSED 65536u
 
 /* The refusal's number of an answer, 0 where it was accepted. */
@@ -87,6 +88,8 @@ enum rokemaipu_refused {
     ROKEMAIPU_R22_BATCH_BYTES = 22,      /* more than 4,096 bytes */
     ROKEMAIPU_R23_BATCH_RECORD = 23,     /* a malformed or cut record */
     ROKEMAIPU_R24_BATCH_ANSWERS = 24,    /* fewer places for answers than records */
+    /* of the counts */
+    ROKEMAIPU_R25_COUNT_FULL = 25,       /* that post has accepted 4,294,967,295 frames and ticks since set-up; judged after all others */
     /* of a comparison */
     ROKEMAIPU_R26_COMPARE_LOG = 26,      /* a log with a malformed or cut record */
     ROKEMAIPU_R27_COMPARE_RECORDS = 27,  /* a log of more than 512 records */
@@ -164,6 +167,12 @@ enum rokemaipu_number {
     ROKEMAIPU_NUMBERS = 12   /* how many they are */
 };
 
+/* A post's counts since set-up, in the order in which they are looked up. Place k, 1 to 11, has the accepted frames and ticks that had finding k. */
+enum rokemaipu_count {
+    ROKEMAIPU_ACCEPTED = 0, /* the accepted frames and ticks */
+    ROKEMAIPU_COUNTS = 12   /* how many they are */
+};
+
 /* What stands at a byte of a log. */
 enum rokemaipu_found {
     ROKEMAIPU_FOUND_RECORD = 0,
@@ -217,7 +226,7 @@ typedef struct rokemaipu_session { /* 72 bytes, all 0 where no session is open *
     rokemaipu_slot kept[ROKEMAIPU_KEPT];
 } rokemaipu_session;
 
-typedef struct rokemaipu_head { /* 160 bytes: what the findings are read from */
+typedef struct rokemaipu_head { /* 208 bytes: what the findings are read from, and the counts */
     uint32_t used; /* set up */
     uint32_t channel;
     rokemaipu_limits limits;
@@ -226,20 +235,22 @@ typedef struct rokemaipu_head { /* 160 bytes: what the findings are read from */
     rokemaipu_slot controller; /* the latest Advantics_Controller_Status, as in latest */
     rokemaipu_slot parameters; /* the latest DC_Power_Parameters, as in latest */
     rokemaipu_session session;
+    uint32_t counts[ROKEMAIPU_COUNTS];
 } rokemaipu_head;
 
-typedef struct rokemaipu_post { /* 448 bytes */
+typedef struct rokemaipu_post { /* 496 bytes */
     rokemaipu_head head;
     rokemaipu_slot latest[ROKEMAIPU_KINDS];
 } rokemaipu_post;
 
-typedef struct rokemaipu_table { /* 3,584 bytes; zeroed memory is the empty table */
+typedef struct rokemaipu_table { /* 3,976 bytes; zeroed memory is the empty table */
     rokemaipu_post posts[ROKEMAIPU_POSTS];
+    uint64_t refused; /* frames and ticks refused since the table was made; it stays at 4,294,967,295 */
 } rokemaipu_table;
 
 /* The table's layout as one word: its bytes in the low 32 bits, then its posts and its kinds of messages with 8 bits each, then the number of the
  * layout, which is another one wherever a place in the table means something else. */
-#define ROKEMAIPU_LAYOUT ((uint64_t)sizeof(rokemaipu_table) + ((uint64_t)ROKEMAIPU_POSTS << 32) + ((uint64_t)ROKEMAIPU_KINDS << 40) + ((uint64_t)1 << 48))
+#define ROKEMAIPU_LAYOUT ((uint64_t)sizeof(rokemaipu_table) + ((uint64_t)ROKEMAIPU_POSTS << 32) + ((uint64_t)ROKEMAIPU_KINDS << 40) + ((uint64_t)2 << 48))
 
 /* Answers the layout that the library has. Compare it with ROKEMAIPU_LAYOUT before the first call: with another one, no table of this
  * header may be lent. */
@@ -247,7 +258,7 @@ uint64_t rokemaipu_layout(void);
 
 /* ---- posts ---- */
 
-/* Makes the table empty. Answers 0. */
+/* Makes the table empty, and its counts 0. Answers 0. */
 uint32_t rokemaipu_start(rokemaipu_table *t);
 
 /* Sets a post up on a channel, with an empty history; set up again, it leaves its old channel. Answers 0, or refuses with 9, 10, 11, 12; 12 also
@@ -257,10 +268,10 @@ uint32_t rokemaipu_set_up(rokemaipu_table *t, uint32_t post, uint32_t channel, u
 /* Frees the post's channel and drops its record. Answers 0, or refuses with 9, 14. */
 uint32_t rokemaipu_release(rokemaipu_table *t, uint32_t post);
 
-/* Watches a frame on the post that holds the channel. Answers the findings, or refuses with 1 to 6, with 15 in 4's place. */
+/* Watches a frame on the post that holds the channel. Answers the findings, or refuses with 1 to 6, with 15 in 4's place, then with 25. */
 uint32_t rokemaipu_frame(rokemaipu_table *t, uint32_t channel, uint32_t time, uint32_t id, bool extended, const uint8_t *payload, size_t length);
 
-/* Lets time pass on a channel. Answers the findings, or refuses with 1, 2. */
+/* Lets time pass on a channel. Answers the findings, or refuses with 1, 2, then with 25. */
 uint32_t rokemaipu_tick(rokemaipu_table *t, uint32_t channel, uint32_t time);
 
 /* Answers the post that holds a channel, which is the one that frames and ticks on it go to. Refuses with 1. */
@@ -269,6 +280,14 @@ uint32_t rokemaipu_holder(const rokemaipu_table *t, uint32_t channel);
 /* Looks a post up: puts its numbers into the first ROKEMAIPU_NUMBERS places of numbers, and leaves those behind them. Answers 0.
  * Refuses with 9, 14, then with 8 where numbers has fewer places. */
 uint32_t rokemaipu_look_up(const rokemaipu_table *t, uint32_t post, uint32_t *numbers, size_t places);
+
+/* Looks up a post's counts: puts them into the first ROKEMAIPU_COUNTS places of counts, and leaves those behind them. Answers 0. Refuses with 9, 14,
+ * then with 8 where counts has fewer places. */
+uint32_t rokemaipu_counts(const rokemaipu_table *t, uint32_t post, uint32_t *counts, size_t places);
+
+/* Answers how many frames and ticks were refused since the table was made, whatever was set up or released meanwhile. No other refusal counts, and of a
+ * batch only its records. The answer is a count, never a refusal; it stays at 4,294,967,295 once there. */
+uint32_t rokemaipu_refused(const rokemaipu_table *t);
 
 /* Looks up the latest frame of a kind that the post accepted since set-up: puts its time into time[0] and its bytes, as they came, into
  * buffer from index 0 on. Answers its number of bytes; 0 where there is none, and then nothing is written, whatever is lent. Refuses
@@ -396,7 +415,7 @@ uint32_t rokemaipu_compare(const uint8_t *a, size_t size_a, const uint8_t *b, si
  * A line is the record's count from 1, the post that holds its channel (a dash for refusal 1), then A with the decimal finding number or R with the
  * refusal, one space between; refusal 5 adds a space and the start bit; and a line feed: "1 0 A0", "2 - R1", "3 0 R5 48". */
 
-typedef struct rokemaipu_replay { /* 3,600 bytes; zeroed memory is a replay that was just started */
+typedef struct rokemaipu_replay { /* 3,992 bytes; zeroed memory is a replay that was just started */
     rokemaipu_table table; /* look posts up in it as you like */
     uint64_t count;        /* of the records fed so far */
     uint64_t course;       /* 0: set-ups may come; 1: records were fed; else a set-up was refused, with this word */
@@ -442,7 +461,7 @@ ROKEMAIPU_IS(offsetof(rokemaipu_session, opened), 0);
 ROKEMAIPU_IS(offsetof(rokemaipu_session, since), 8);
 ROKEMAIPU_IS(offsetof(rokemaipu_session, first), 16);
 ROKEMAIPU_IS(offsetof(rokemaipu_session, kept), 24);
-ROKEMAIPU_IS(sizeof(rokemaipu_head), 160);
+ROKEMAIPU_IS(sizeof(rokemaipu_head), 208);
 ROKEMAIPU_IS(offsetof(rokemaipu_head, used), 0);
 ROKEMAIPU_IS(offsetof(rokemaipu_head, channel), 4);
 ROKEMAIPU_IS(offsetof(rokemaipu_head, limits), 8);
@@ -451,15 +470,17 @@ ROKEMAIPU_IS(offsetof(rokemaipu_head, time), 32);
 ROKEMAIPU_IS(offsetof(rokemaipu_head, controller), 40);
 ROKEMAIPU_IS(offsetof(rokemaipu_head, parameters), 64);
 ROKEMAIPU_IS(offsetof(rokemaipu_head, session), 88);
-ROKEMAIPU_IS(sizeof(rokemaipu_post), 448);
+ROKEMAIPU_IS(offsetof(rokemaipu_head, counts), 160);
+ROKEMAIPU_IS(sizeof(rokemaipu_post), 496);
 ROKEMAIPU_IS(offsetof(rokemaipu_post, head), 0);
-ROKEMAIPU_IS(offsetof(rokemaipu_post, latest), 160);
-ROKEMAIPU_IS(sizeof(rokemaipu_table), 3584);
+ROKEMAIPU_IS(offsetof(rokemaipu_post, latest), 208);
+ROKEMAIPU_IS(sizeof(rokemaipu_table), 3976);
 ROKEMAIPU_IS(offsetof(rokemaipu_table, posts), 0);
-ROKEMAIPU_IS(sizeof(rokemaipu_replay), 3600);
+ROKEMAIPU_IS(offsetof(rokemaipu_table, refused), 3968);
+ROKEMAIPU_IS(sizeof(rokemaipu_replay), 3992);
 ROKEMAIPU_IS(offsetof(rokemaipu_replay, table), 0);
-ROKEMAIPU_IS(offsetof(rokemaipu_replay, count), 3584);
-ROKEMAIPU_IS(offsetof(rokemaipu_replay, course), 3592);
+ROKEMAIPU_IS(offsetof(rokemaipu_replay, count), 3976);
+ROKEMAIPU_IS(offsetof(rokemaipu_replay, course), 3984);
 
 #ifdef __cplusplus
 }

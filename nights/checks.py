@@ -83,10 +83,37 @@ def check_the_check(name, text, answers):
     return faults
 
 
+def check_counts(name, text, answers):
+    """02: "Every operation keeps them equal to the count over that post's history": what a record and `refused` say is
+    what the answers before them come to."""
+    faults, counts, holders, refused = [], {}, {}, 0
+    for step, answer in zip(filter(is_step, text.splitlines()), answers.splitlines()):
+        word, *fields = step.split()
+        if word in ("setup", "release") and answer == "A":
+            holders = {channel: post for channel, post in holders.items() if post != fields[0]}
+        if word == "setup" and answer == "A":
+            holders[fields[1]], counts[fields[0]] = fields[0], [0] * 12
+        elif channel_of(step) and answer.startswith("R"):
+            refused += 1
+        elif channel_of(step):
+            found = int(answer[1:])
+            of = counts[holders[channel_of(step)]]
+            of[:] = [of[0] + 1, *(tally + (found >> k & 1) for k, tally in enumerate(of[1:]))]
+        elif word == "record" and answer.startswith("K"):
+            n, *tallies = counts[fields[0]]
+            if f" n={n} tally={','.join(map(str, tallies))} " not in answer:
+                faults.append(f"{name}: {step}: {answer}, but n={n} and {tallies}")
+        elif word == "refused" and answer != f"N {refused}":
+            faults.append(f"{name}: {step}: {answer}, but {refused} were refused")
+    return faults
+
+
 def check_refused_leave_no_trace(second, name, text, answers):
-    """01: "A refused frame is part of no history and moves no clock"."""
+    """01: "A refused frame is part of no history and moves no clock"; 02, of the refused count: "that count is now the
+    only thing a refused one changes"."""
     steps = list(filter(is_step, text.splitlines()))
-    accepted = [(step, answer) for step, answer in zip(steps, answers.splitlines()) if not answer.startswith("R")]
+    told = [(step, "N 0" if step == "refused" else answer) for step, answer in zip(steps, answers.splitlines())]
+    accepted = [(step, answer) for step, answer in told if not answer.startswith("R")]
     without = answers_of(second, "".join(step + "\n" for step, _ in accepted))
     same = without.splitlines() == [answer for _, answer in accepted]
     return [] if same else [f"{name}: the answers change when the refused steps are left out"]
@@ -108,5 +135,6 @@ def check_channels_apart(second, name, text, answers):
 def all_of(second, name, text, answers):
     return (check_announcements(name, text, answers)
             + check_the_check(name, text, answers)
+            + check_counts(name, text, answers)
             + check_refused_leave_no_trace(second, name, text, answers)
             + check_channels_apart(second, name, text, answers))

@@ -60,6 +60,7 @@ def march():
     right.time += 100
     right.set_up(comments=("# the sheet is put right: post 1 on channel 5",))
     night.at(right.time - 49, "record 1")
+    night.at(right.time - 48, "refused", "# the three frames; neither the refused set-up nor the refused look-up counts")
     left.idle(4)
     left.plug_in(vehicle="00a1b2c3d4e5")
     right.idle(2)
@@ -348,6 +349,7 @@ def damaged():
         beside.cycle(WAITING, tick=n % 5 == 0)
     beside.record()
     night.at(post.time + 10, "record 8", told("R9", "A post number misread from the sheet."))
+    night.at(post.time + 11, "refused", "# the night's damaged frames and ticks; the look-up of a post 8 does not count")
     return night
 
 

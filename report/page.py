@@ -29,7 +29,7 @@ def page(night, sources):
 
 def replayed(night):
     groups = Groups(night, Scale(night.begin, night.end)) if night.begin is not None else None
-    return [summary(night), *warning(*empty(night), *ending(night.ending)), tables.posts(night), *glance(night, groups),
+    return [summary(night), *warning(*empty(night), *ending(night.ending)), tables.posts(night), tables.tallies(night), *glance(night, groups),
             *(of_post(night, post, groups) for post in night.posts), refused(night, groups), *rules(night)]
 
 

@@ -8,7 +8,7 @@ from pathlib import Path
 from .faults import Fault
 
 # the whole page of a short night
-WIDTH, HEIGHT = 1120, 2220
+WIDTH, HEIGHT = 1120, 2330
 PATIENCE = 60
 
 

@@ -6,6 +6,8 @@ from .messages import tenths
 from .nightlog import Raw
 from .words import FINDINGS, REFUSALS, YES_NO
 
+TALLIES = 'The tallies of each post\'s record at the end of the night: frames and ticks accepted since set-up, and how many of them have each finding'
+
 
 def table(caption, heads, rows, id=None):
     """Heads and the caption are words, rows are markup."""
@@ -26,6 +28,16 @@ def posts(night):
         return row(tag('a', text(post.number), href=f'#post-{post.number}'), *map(text, cells))
 
     return table('The posts of the night', ('Post', 'Channel', 'Limits', 'W', 'Sessions', 'Accepted', 'Refused', 'Findings'), map(of, night.posts))
+
+
+def tallies(night):
+    """02, Req 08: "eleven counts, one per finding, and the count of accepted frames and ticks since set-up": what the lines of the replay come to, which is
+    what the post's record holds at the end."""
+    def of(post):
+        found = (post.findings[number].total if number in post.findings else 0 for number in FINDINGS)
+        return row(tag('a', text(post.number), href=f'#post-{post.number}'), *(text(f'{count:,}') for count in (post.accepted, *found)))
+
+    return table(TALLIES, ('Post', 'Accepted', *(f'F{number}' for number in FINDINGS)), map(of, night.posts))
 
 
 def limits(set_up):

@@ -44,6 +44,7 @@ REFUSALS = {
     5: 'a label signal holds a number without a label',
     6: 'a bit that no signal covers is 1',
     15: 'longer than the table\'s length',
+    25: 'the post\'s count of accepted frames and ticks is at its largest',
 }
 
 # of a set-up, which ends the replay

@@ -53,6 +53,7 @@ pub fn compare(plan: &Plan, subject: &mut Subject, out: &mut dyn Write) -> Resul
             return Ok(Verdict::Differs(shortest(plan, seed, script, first, subject)?));
         }
         let mut desk = Desk::new();
+        coverage.begin();
         for (step, answer) in script.iter().filter(|line| is_step(line)).zip(&own) {
             coverage.count(&desk.table, step, answer);
             desk::answer(&mut desk, step);

@@ -9,10 +9,11 @@ use crate::recordings_coverage;
 use crate::replay_coverage;
 use crate::safety_coverage;
 use crate::sensor_coverage;
+use crate::tally_coverage::{self, Since};
 
-const WORDS: [&[u8]; 16] = [
-    b"setup", b"release", b"frame", b"tick", b"record", b"read", b"change", b"write", b"explain", b"logr", b"logw",
-    b"replay", b"batch", b"compare", b"probe", b"duty",
+const WORDS: [&[u8]; 17] = [
+    b"setup", b"release", b"frame", b"tick", b"record", b"refused", b"read", b"change", b"write", b"explain", b"logr",
+    b"logw", b"replay", b"batch", b"compare", b"probe", b"duty",
 ];
 
 const REFUSALS: std::ops::RangeInclusive<u32> = 1..=15;
@@ -36,6 +37,8 @@ pub struct Coverage {
     logs: BTreeMap<String, u64>,
     sensors: BTreeMap<&'static str, u64>,
     safety: BTreeMap<String, u64>,
+    counts: BTreeMap<String, u64>,
+    since: Since,
     replays: BTreeMap<String, u64>,
     batches: BTreeMap<String, u64>,
     recordings: BTreeMap<String, u64>,
@@ -47,9 +50,15 @@ pub struct Coverage {
 }
 
 impl Coverage {
+    /// A script begins, on a table of its own.
+    pub fn begin(&mut self) {
+        self.since = Since::default();
+    }
+
     /// `table` is as it was before the step.
     pub fn count(&mut self, table: &Table, step: &[u8], answer: &[u8]) {
-        let word = WORDS.iter().find(|word| step.strip_prefix(**word).is_some_and(|rest| rest.starts_with(b" ")));
+        let ended = |rest: &[u8]| rest.first().is_none_or(|byte| *byte == b' ');
+        let word = WORDS.iter().find(|word| step.strip_prefix(**word).is_some_and(ended));
         let word = word.map_or("(other)", |word| std::str::from_utf8(word).expect("an ASCII word"));
         *self.steps.entry(word).or_default() += 1;
         if let Some(shown) = sensor_coverage::shown(table, step, answer) {
@@ -57,6 +66,9 @@ impl Coverage {
         }
         for shown in safety_coverage::shown(step, answer) {
             *self.safety.entry(shown).or_default() += 1;
+        }
+        for shown in self.since.shown(table, step, answer) {
+            *self.counts.entry(shown).or_default() += 1;
         }
         for shown in replay_coverage::shown(step, answer) {
             *self.replays.entry(shown).or_default() += 1;
@@ -107,6 +119,7 @@ impl Coverage {
         let sensors = sensor_coverage::WANTED.iter().filter(|shown| !self.sensors.contains_key(*shown));
         missing.extend(sensors.map(|shown| shown.to_string()));
         missing.extend(safety_coverage::wanted().into_iter().filter(|shown| !self.safety.contains_key(shown)));
+        missing.extend(tally_coverage::wanted().filter(|shown| !self.counts.contains_key(shown)));
         missing.extend(replay_coverage::wanted().filter(|shown| !self.replays.contains_key(shown)));
         missing.extend(batch_coverage::wanted().filter(|shown| !self.batches.contains_key(shown)));
         missing.extend(recordings_coverage::wanted().filter(|shown| !self.recordings.contains_key(shown)));
@@ -146,6 +159,11 @@ impl fmt::Display for Coverage {
         for shown in safety_coverage::wanted() {
             write!(out, " {shown} {},", self.safety.get(&shown).unwrap_or(&0))?;
         }
+        write!(out, "\ncounts:  ")?;
+        for shown in tally_coverage::wanted() {
+            write!(out, " {shown} {},", self.counts.get(&shown).unwrap_or(&0))?;
+        }
+        write!(out, " {}", tally_coverage::beyond())?;
         write!(out, "\nreplays: ")?;
         for shown in replay_coverage::wanted() {
             write!(out, " {} {},", shown.trim_start_matches("replay "), self.replays.get(&shown).unwrap_or(&0))?;

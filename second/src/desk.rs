@@ -18,6 +18,7 @@ use crate::replay_setups;
 use crate::rules::{Limits, MEASURING};
 use crate::safety_pages::{CHARGE_CONTROL_1, PT1000_STATE};
 use crate::service::{self, Limiter, Probe, Prober};
+use crate::tallies::{self, Counter, Counts, RefusedCounter};
 
 /// A longer line is no step.
 pub const LONGEST: usize = 65_535;
@@ -31,13 +32,15 @@ pub struct Desk {
     pub table: Table,
     pub reader: Reader,
     pub changer: Changer,
+    pub counter: Counter,
+    pub refused_counter: RefusedCounter,
     pub log_writer: log::Writer,
     pub log_reader: log::Reader,
     pub replayer: Replayer,
     pub replay_line: Line,
     pub batcher: Batcher,
     pub comparer: Comparer,
-    pub recorder: fn(&Post) -> String,
+    pub recorder: fn(&Post, &Counts) -> String,
     pub prober: Prober,
     pub limiter: Limiter,
 }
@@ -48,6 +51,8 @@ impl Desk {
             table: Table::new(),
             reader: codec::read,
             changer: codec::change,
+            counter: tallies::counts,
+            refused_counter: tallies::refused,
             log_writer: log::write,
             log_reader: log::read,
             replayer: replay::replay,
@@ -101,6 +106,7 @@ fn step(desk: &mut Desk, line: &[u8]) -> Option<String> {
         b"read" | b"change" | b"write" | b"explain" => message_step(desk, &fields),
         b"probe" | b"duty" => service_step(desk, &fields),
         b"record" => record(desk, &fields[1..]),
+        b"refused" => refused(desk, &fields[1..]),
         _ => table_step(&mut desk.table, &fields),
     }
 }
@@ -136,9 +142,17 @@ pub fn arrival<'a>(fields: &[&[u8]], payload: &'a mut Vec<u8>) -> Option<Arrival
 
 fn record(desk: &Desk, fields: &[&[u8]]) -> Option<String> {
     match *fields {
-        [post] => Some(said(desk.table.post(natural(post)?), desk.recorder)),
+        [number] => {
+            let number = natural(number)?;
+            let counts = |post| (desk.counter)(&desk.table, number as usize, post);
+            Some(said(desk.table.post(number), |post| (desk.recorder)(post, &counts(post))))
+        }
         _ => None,
     }
+}
+
+fn refused(desk: &Desk, fields: &[&[u8]]) -> Option<String> {
+    fields.is_empty().then(|| format!("N {}", (desk.refused_counter)(&desk.table)))
 }
 
 /// Raw numbers that their signals hold; others are too large for their place.

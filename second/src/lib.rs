@@ -58,6 +58,11 @@ mod service;
 mod show;
 mod shrink;
 mod slips;
+mod tallies;
+mod tally_coverage;
+#[cfg(test)]
+mod tally_readings;
+mod tally_slips;
 
 use std::ffi::OsString;
 use std::io::{self, BufWriter, Write};

@@ -3,6 +3,7 @@
 use crate::codec::{self, Reader, Refusal};
 use crate::history::{latest_time, Event};
 use crate::rules::{findings, Limits, Rule, MEASURING, RULES, YES_NO};
+use crate::tallies::{FULL, LARGEST};
 
 pub const POSTS: usize = 8;
 pub const CHANNELS: u32 = 32;
@@ -28,6 +29,25 @@ pub struct Frame<'a> {
     pub bytes: &'a [u8],
 }
 
+/// What was asked of a table, and what came of it.
+#[derive(Clone, Copy, Debug)]
+pub enum Request {
+    SetUp {
+        post: u32,
+        outcome: Result<(), Refusal>,
+    },
+    Release {
+        post: u32,
+        outcome: Result<(), Refusal>,
+    },
+    /// A frame or tick, with the place of the post that holds its channel.
+    Arrival {
+        place: Option<usize>,
+        time: u32,
+        outcome: Result<u32, Refusal>,
+    },
+}
+
 /// The latest time that an arrival for the post at that place may not be earlier than.
 pub type Clock = fn(&[Option<Post>], usize) -> Option<u32>;
 
@@ -37,6 +57,10 @@ pub type Admission = fn(Option<&Post>, Limits) -> Option<Limits>;
 
 pub struct Table {
     posts: [Option<Post>; POSTS],
+    /// All that was asked of it since it was made.
+    pub requests: Vec<Request>,
+    /// The largest count, of a post's accepted frames and ticks and of the refused ones.
+    pub largest: u32,
     pub rules: [Rule; RULES.len()],
     pub clock: Clock,
     pub reader: Reader,
@@ -47,6 +71,8 @@ impl Table {
     pub fn new() -> Table {
         Table {
             posts: std::array::from_fn(|_| None),
+            requests: Vec::new(),
+            largest: LARGEST,
             rules: RULES,
             clock: own_clock,
             reader: codec::read,
@@ -56,6 +82,12 @@ impl Table {
 
     /// Gives 9 to 12, the lowest that applies.
     pub fn set_up(&mut self, post: u32, channel: u32, limits: Limits) -> Result<(), Refusal> {
+        let outcome = self.begin(post, channel, limits);
+        self.requests.push(Request::SetUp { post, outcome });
+        outcome
+    }
+
+    fn begin(&mut self, post: u32, channel: u32, limits: Limits) -> Result<(), Refusal> {
         let place = place(post)?;
         if channel >= CHANNELS {
             return Err(Refusal::Number(10));
@@ -69,15 +101,25 @@ impl Table {
     }
 
     pub fn release(&mut self, post: u32) -> Result<(), Refusal> {
-        self.posts[place(post)?].take().map(drop).ok_or(Refusal::Number(14))
+        let outcome = place(post).and_then(|place| self.posts[place].take().map(drop).ok_or(Refusal::Number(14)));
+        self.requests.push(Request::Release { post, outcome });
+        outcome
     }
 
     pub fn post(&self, post: u32) -> Result<&Post, Refusal> {
         self.posts[place(post)?].as_ref().ok_or(Refusal::Number(14))
     }
 
-    /// Gives 1 to 6, the lowest that applies, with 15 in 4's place; a refused arrival is part of no history.
+    /// Gives 1 to 6, the lowest that applies, with 15 in 4's place, and after all of them 25; a refused arrival is part of
+    /// no history.
     pub fn feed(&mut self, arrival: &Arrival) -> Result<u32, Refusal> {
+        let outcome = self.hear(arrival);
+        let place = self.holder(arrival.channel);
+        self.requests.push(Request::Arrival { place, time: arrival.time, outcome });
+        outcome
+    }
+
+    fn hear(&mut self, arrival: &Arrival) -> Result<u32, Refusal> {
         let place = self.holder(arrival.channel).ok_or(Refusal::Number(1))?;
         let earliest = (self.clock)(&self.posts, place);
         let post = self.posts[place].as_mut().ok_or(Refusal::Number(1))?;
@@ -88,6 +130,9 @@ impl Table {
             Some(frame) => Some((self.reader)(frame.id, frame.extended, frame.bytes)?),
             None => None,
         };
+        if post.history.len() >= self.largest as usize {
+            return Err(FULL);
+        }
         let event = Event { time: arrival.time, message };
         let found = findings(&self.rules, &post.limits, &post.history, &event);
         post.history.push(event);

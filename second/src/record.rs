@@ -5,14 +5,15 @@ use crate::fields::form;
 use crate::history::{latest, latest_time, session, Event};
 use crate::pages::{Kind, Page, PAGES};
 use crate::posts::Post;
+use crate::tallies::Counts;
 
 /// The latest messages with standard identifiers first, then extended ones, each ascending.
-pub fn line(post: &Post) -> String {
-    line_by(post, |page| (page.extended, page.id))
+pub fn line(post: &Post, counts: &Counts) -> String {
+    line_by(post, counts, |page| (page.extended, page.id))
 }
 
 /// With the latest messages in that order.
-pub fn line_by(post: &Post, order: fn(&Page) -> (bool, u32)) -> String {
+pub fn line_by(post: &Post, counts: &Counts, order: fn(&Page) -> (bool, u32)) -> String {
     let past = &post.history;
     let session = session(past);
     let in_session = |kind| session.and_then(|session| latest(session, kind)).and_then(stamped);
@@ -30,6 +31,8 @@ pub fn line_by(post: &Post, order: fn(&Page) -> (bool, u32)) -> String {
         format!("first={}", or_none(session.and_then(|session| session[0].message).map(|first| values(&first)))),
         format!("spms={}", or_none(in_session(Kind::PowerModulesStatus))),
         format!("sdpc={}", or_none(in_session(Kind::DcPowerControl))),
+        format!("n={}", counts.accepted),
+        format!("tally={}", counts.tallies.map(|tally| tally.to_string()).join(",")),
         format!("latest={}", or_none(each_latest(past, order))),
     ];
     parts.join(" ")

@@ -33,7 +33,7 @@ pub fn put_into(desk: &mut Desk, name: &str) -> Option<()> {
         CONTACTORS => desk.table.rules[2] = f3_by_the_safety_controller,
         PROBE => desk.prober = |raw| if raw == -1 { Probe::NotUsed } else { service::probe(raw) },
         LIMIT => desk.limiter = |raw| raw,
-        LATEST => desk.recorder = |post| record::line_by(post, |page| (!page.extended, page.id)),
+        LATEST => desk.recorder = |post, counts| record::line_by(post, counts, |page| (!page.extended, page.id)),
         _ => {
             desk.reader = WRONG_READERS.iter().find(|(known, _)| *known == name)?.1;
             desk.table.reader = desk.reader;

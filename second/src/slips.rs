@@ -13,6 +13,7 @@ use crate::replay_slips;
 use crate::rules::{self, limit, live, poor_insulation, powers, under_power, Limits, Rule};
 use crate::safety_slips;
 use crate::sensor_slips;
+use crate::tally_slips;
 
 /// Name, and the rule that stands in for the right one of that number.
 const WRONG_RULES: [(&str, usize, Rule); 17] = [
@@ -40,6 +41,7 @@ const SHARED_CLOCK: &str = "clock";
 pub fn names() -> Vec<&'static str> {
     let rules = WRONG_RULES.iter().map(|(name, ..)| *name);
     let early = log_slips::names().chain(label_slips::names()).chain(sensor_slips::names());
+    let early = early.chain(tally_slips::names());
     let later = safety_slips::names().chain(replay_slips::names()).chain(batch_slips::names());
     let later = later.chain(recordings_slips::names());
     rules.chain([SHARED_CLOCK]).chain(early).chain(later).collect()
@@ -57,6 +59,7 @@ pub fn desk(name: &str) -> Option<Desk> {
             log_slips::put_into,
             label_slips::put_into,
             sensor_slips::put_into,
+            tally_slips::put_into,
             safety_slips::put_into,
             replay_slips::put_into,
             batch_slips::put_into,

@@ -135,6 +135,13 @@ static void put_slot(const char *name, uint32_t kind, size_t n, const rokemaipu_
     put_dated(kind, payload, n, (uint32_t)s->time);
 }
 
+static void put_counts(uint32_t post) {
+    uint32_t counts[ROKEMAIPU_COUNTS];
+    if (rokemaipu_counts(&table, post, counts, ROKEMAIPU_COUNTS)) exit(fprintf(stderr, "desk.c: a post that is looked up has no counts\n"));
+    printf(" n=%" PRIu32 " tally=", counts[0]);
+    for (size_t k = 1; k < ROKEMAIPU_COUNTS; k++) printf("%s%" PRIu32, k > 1 ? "," : "", counts[k]);
+}
+
 static void record(uint32_t post) {
     uint32_t n[ROKEMAIPU_NUMBERS], time[1];
     uint8_t payload[8];
@@ -154,6 +161,7 @@ static void record(uint32_t post) {
         put_slot("sdpc", ROKEMAIPU_DC_POWER_CONTROL, 7, &table.posts[post].head.session.kept[ROKEMAIPU_KEPT_CONTROL]);
     } else
         printf(" open=0 since=- first=- spms=- sdpc=-");
+    put_counts(post);
     printf(" latest=");
     for (uint32_t i = 0; i < ROKEMAIPU_KINDS; i++) { /* the standard ones stand behind the others, and come first */
         uint32_t kind = (i + ROKEMAIPU_CHARGE_CONTROL_1) % ROKEMAIPU_KINDS;
@@ -373,6 +381,7 @@ static bool step(void) {
             && (answer(rokemaipu_set_up(&table, a, b, c, d, e, f, sensor), false), true);
     if (is("release", 1)) return u32(1, &a) && (answer(rokemaipu_release(&table, a), false), true);
     if (is("record", 1)) return u32(1, &a) && (record(a), true);
+    if (is("refused", 0)) return printf("N %" PRIu32 "\n", rokemaipu_refused(&table)), true;
     if (is("read", 3)) return read_step();
     if (is("change", 5)) return change_step();
     if (is("write", 4)) return write_step();

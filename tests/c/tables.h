@@ -11,6 +11,9 @@ static uint32_t some_flag(void) { return below(8) ? below(2) : (uint32_t)next();
 
 static uint64_t some_time(void) { return below(8) ? (uint32_t)next() : next(); }
 
+/* often the largest, and just below it */
+static uint32_t some_count(void) { return below(3) ? below(1000) : UINT32_MAX - below(2); }
+
 static void random_slot(rokemaipu_slot *s) { s->known = some_flag(), s->time = some_time(), s->raw = next(); }
 
 static void random_head(rokemaipu_head *h) {
@@ -21,6 +24,7 @@ static void random_head(rokemaipu_head *h) {
     random_slot(&h->parameters);
     h->session.opened = some_flag(), h->session.since = some_time(), h->session.first = next();
     for (int k = 0; k < ROKEMAIPU_KEPT; k++) random_slot(&h->session.kept[k]);
+    for (int k = 0; k < ROKEMAIPU_COUNTS; k++) h->counts[k] = some_count();
 }
 
 static void random_table(rokemaipu_table *t) {
@@ -28,6 +32,7 @@ static void random_table(rokemaipu_table *t) {
         random_head(&t->posts[i].head);
         for (int k = 0; k < ROKEMAIPU_KINDS; k++) random_slot(&t->posts[i].latest[k]);
     }
+    t->refused = some_count();
 }
 
 #endif

@@ -14,7 +14,7 @@ static bool same_table(const rokemaipu_table *a, const rokemaipu_table *b) { ret
 
 static void layout(void) {
     IS(rokemaipu_layout(), ROKEMAIPU_LAYOUT);
-    IS(rokemaipu_layout(), 3584 + 8 * (1ull << 32) + 12 * (1ull << 40) + 1 * (1ull << 48));
+    IS(rokemaipu_layout(), 3976 + 8 * (1ull << 32) + 12 * (1ull << 40) + 1 * (1ull << 48));
     rokemaipu_table t, zero;
     memset(&t, 0, sizeof t);
     memset(&zero, 0, sizeof zero);
@@ -46,6 +46,10 @@ static void layout(void) {
     IS(memcmp(&t.posts[7].head.parameters, &t.posts[7].latest[ROKEMAIPU_DC_POWER_PARAMETERS], sizeof(rokemaipu_slot)), 0);
     IS(rokemaipu_frame(&t, 31, 11, 8, false, (const uint8_t[]){1, 2, 3, 4, 5, 6, 7, 8}, 8), 0);
     IS(t.posts[7].latest[ROKEMAIPU_PT1000_STATE].raw, 0x0102030405060708u); /* byte 0 highest */
+    IS(t.posts[7].head.counts[0], 5);
+    IS(t.posts[7].head.counts[8], 1);
+    IS(rokemaipu_tick(&t, 30, 12), R(1));
+    IS(t.refused, 1);
     IS(rokemaipu_start(&t), 0);
     IS(same_table(&t, &zero), 1);
     puts("layout: as the header says; zeroed memory is the started table");
@@ -358,6 +362,86 @@ static void looks(void) {
     puts("look-ups: E8's and E12's posts, their numbers and their latest frames");
 }
 
+/* ---- 02: "eleven counts, one per finding, and the count of accepted frames and ticks since set-up"; "of frames and ticks refused" */
+
+static void counts_are(int line, const rokemaipu_table *t, uint32_t post, const uint32_t want[ROKEMAIPU_COUNTS]) {
+    uint32_t got[ROKEMAIPU_COUNTS + 1];
+    memset(got, 0x55, sizeof got);
+    is(line, "the answer to a look-up of counts", rokemaipu_counts(t, post, got, ROKEMAIPU_COUNTS + 1), 0);
+    for (int k = 0; k < ROKEMAIPU_COUNTS; k++) is(line, "a count", got[k], want[k]);
+    is(line, "the place behind the counts", got[ROKEMAIPU_COUNTS], 0x55555555);
+}
+#define COUNTS(t, post, ...) counts_are(__LINE__, t, post, (const uint32_t[ROKEMAIPU_COUNTS]){__VA_ARGS__})
+
+static void counts(void) {
+    rokemaipu_table t;
+    uint32_t n[ROKEMAIPU_COUNTS];
+    const uint8_t d[7] = {0x88, 0x13, 0, 0, 0, 0, 0x48};
+    memset(&t, 0, sizeof t);
+    IS(rokemaipu_refused(&t), 0);
+    IS(rokemaipu_counts(&t, 0, n, ROKEMAIPU_COUNTS), R(14));
+    IS(rokemaipu_counts(&t, 8, NULL, 0), R(9)); /* 9 and 14 before 8 */
+    IS(rokemaipu_set_up(&t, 0, 4, 5000, 1000, 500, 500, 0), 0);
+    IS(rokemaipu_set_up(&t, 1, 5, 5000, 1000, 500, 500, 0), 0);
+    IS(rokemaipu_counts(&t, 0, n, ROKEMAIPU_COUNTS - 1), R(8));
+    COUNTS(&t, 0, 0);
+    IS(rokemaipu_frame(&t, 4, 0, 0x6b003, true, d, 7), ROKEMAIPU_F(3) | ROKEMAIPU_F(4)); /* E11 */
+    IS(rokemaipu_frame(&t, 4, 10, 0x6b000, true, (const uint8_t[]){7}, 1), 0);
+    IS(rokemaipu_tick(&t, 4, 211), ROKEMAIPU_F(2));
+    IS(rokemaipu_frame(&t, 4, 211, 0x6b004, true, (const uint8_t[]){0}, 1), ROKEMAIPU_F(2) | ROKEMAIPU_F(11));
+    COUNTS(&t, 0, 4, 0, 2, 1, 1, 0, 0, 0, 0, 0, 0, 1);
+    COUNTS(&t, 1, 0);
+    IS(rokemaipu_tick(&t, 4, 210), R(2));
+    IS(rokemaipu_frame(&t, 4, 999, 0x6b004, true, (const uint8_t[]){2}, 1), R(5));
+    IS(rokemaipu_tick(&t, 6, 0), R(1));
+    IS(rokemaipu_refused(&t), 3);
+    IS(rokemaipu_set_up(&t, 2, 4, 5000, 1000, 500, 500, 0), R(11)); /* no other refusal counts */
+    IS(rokemaipu_release(&t, 2), R(14));
+    IS(rokemaipu_look_up(&t, 2, n, ROKEMAIPU_COUNTS), R(14));
+    IS(rokemaipu_refused(&t), 3);
+    COUNTS(&t, 0, 4, 0, 2, 1, 1, 0, 0, 0, 0, 0, 0, 1);
+    IS(rokemaipu_set_up(&t, 0, 4, 5000, 1000, 500, 500, 0), 0); /* set-up makes them 0 */
+    COUNTS(&t, 0, 0);
+    IS(rokemaipu_release(&t, 0), 0);
+    IS(rokemaipu_refused(&t), 3);
+    puts("counts: each finding's, those accepted, and those refused");
+}
+
+/* 02: "would take its post's count past the largest", "judged after all others"; the refused count "stays at 4,294,967,295 once there" */
+static void full_counts(void) {
+    rokemaipu_table t, before;
+    const uint8_t d[7] = {0x88, 0x13, 0, 0, 0, 0, 0x48};
+    memset(&t, 0, sizeof t);
+    IS(rokemaipu_set_up(&t, 0, 4, 5000, 1000, 500, 500, 0), 0);
+    IS(rokemaipu_set_up(&t, 1, 5, 5000, 1000, 500, 500, 0), 0);
+    t.posts[0].head.counts[0] = UINT32_MAX - 1;
+    IS(rokemaipu_tick(&t, 4, 10), 0); /* the largest itself is reached */
+    COUNTS(&t, 0, UINT32_MAX);
+    before = t;
+    IS(rokemaipu_tick(&t, 4, 10), R(25));
+    IS(rokemaipu_frame(&t, 4, 11, 0x6b003, true, d, 7), R(25));
+    IS(rokemaipu_tick(&t, 4, 9), R(2));
+    IS(rokemaipu_frame(&t, 4, 11, 0x63003, true, d, 7), R(3));
+    IS(rokemaipu_frame(&t, 4, 11, 0x6b003, true, d, 6), R(4));
+    IS(rokemaipu_frame(&t, 4, 11, 0x6b004, true, (const uint8_t[]){2}, 1), R(5));
+    IS(rokemaipu_frame(&t, 4, 11, 6, false, BYTES(0, 0, 0, 1), 8), R(6));
+    IS(rokemaipu_frame(&t, 4, 11, 0x6b004, true, (const uint8_t[]){0, 0}, 2), R(15));
+    IS(rokemaipu_refused(&t), 8);
+    before.refused = 8;
+    IS(same_table(&t, &before), true);
+    IS(rokemaipu_tick(&t, 5, 10), 0); /* the other post has a count of its own */
+    COUNTS(&t, 1, 1);
+    IS(rokemaipu_set_up(&t, 0, 4, 5000, 1000, 500, 500, 0), 0);
+    IS(rokemaipu_tick(&t, 4, 0), 0);
+    COUNTS(&t, 0, 1);
+    t.refused = UINT32_MAX - 1;
+    for (int again = 0; again < 3; again++) {
+        IS(rokemaipu_tick(&t, 6, 0), R(1));
+        IS(rokemaipu_refused(&t), UINT32_MAX);
+    }
+    puts("full counts: 25 behind 4,294,967,295, after all other refusals; the refused count stays there");
+}
+
 /* ---- any input: tables of random numbers, slices of every length, lent at a fence; a refusal leaves all as it was */
 
 /* by kind, and behind the kinds such that are none */
@@ -367,21 +451,44 @@ enum { IDS = sizeof ids / sizeof *ids };
 static bool is_standard(uint32_t kind) { return kind >= ROKEMAIPU_CHARGE_CONTROL_1 && kind <= ROKEMAIPU_PT1000_STATE; }
 static bool some_form(uint32_t which) { return is_standard(which) ? !below(8) : below(8) != 0; }
 
+/* what an answered frame or tick leaves of the counts of a table */
+static void counted(rokemaipu_table *t, uint32_t channel, uint32_t answer) {
+    if (rokemaipu_refusal(answer)) {
+        t->refused += t->refused < UINT32_MAX;
+        return;
+    }
+    uint32_t *counts = t->posts[rokemaipu_holder(t, channel)].head.counts;
+    counts[0]++;
+    for (int k = 1; k < ROKEMAIPU_COUNTS; k++) counts[k] += (answer & ROKEMAIPU_F(k)) != 0;
+}
+
+static bool same_counts(const rokemaipu_table *a, const rokemaipu_table *b) {
+    for (int i = 0; i < ROKEMAIPU_POSTS; i++)
+        if (memcmp(a->posts[i].head.counts, b->posts[i].head.counts, sizeof a->posts[i].head.counts)) return false;
+    return a->refused == b->refused;
+}
+
 static void anything(void) {
     rokemaipu_table *t = (rokemaipu_table *)fenced(sizeof *t), before;
     uint8_t *end = fenced(12) + 12;
+    uint32_t full = 0;
     for (int turn = 0; turn < 200000; turn++) {
         if (turn % 50 == 0) random_table(t);
         before = *t;
         size_t length = below(12);
         uint8_t *payload = end - length; /* ends at the fence */
         for (size_t i = 0; i < length; i++) payload[i] = below(3) ? (uint8_t)below(6) : (uint8_t)next();
-        uint32_t channel = below(40), time = below(2) ? (uint32_t)next() : (uint32_t)t->posts[below(8)].head.time, which = below(IDS), r;
-        switch (below(4)) {
+        uint32_t channel = below(40), time = below(2) ? (uint32_t)next() : (uint32_t)t->posts[below(8)].head.time, which = below(IDS), what = below(4), r;
+        switch (what) {
         case 0: r = rokemaipu_frame(t, channel, time, ids[which], some_form(which), payload, length); break;
         case 1: r = rokemaipu_tick(t, channel, time); break;
         case 2: r = rokemaipu_release(t, below(12)); break;
         default: r = rokemaipu_set_up(t, below(12), channel, below(70000), below(40000), below(40000), below(70000), some_sensor()); break;
+        }
+        if (what < 2) {
+            counted(&before, channel, r);
+            IS(same_counts(t, &before), true);
+            full += rokemaipu_refusal(r) == 25;
         }
         if (rokemaipu_refusal(r) && !same_table(t, &before)) IS(r, 0);
         if (!rokemaipu_refusal(r) && r > 2047) IS(r, 2047);
@@ -391,7 +498,8 @@ static void anything(void) {
         }
         if (bad) return;
     }
-    puts("any table and any step: answered; one post changed at most, none by a refusal");
+    IS(full > 0, true);
+    puts("any table and any step: answered and counted; one post changed at most, none by a refusal, 25 among them");
 }
 
 /* any frame, read and watched as plain C does it */
@@ -476,6 +584,10 @@ static void any_look(void) {
                 lend(&numbers, places);
                 IS(rokemaipu_look_up(t, post, (uint32_t *)numbers.at, places), answer);
                 lent_is(__LINE__, &numbers, want, answer ? 0 : ROKEMAIPU_NUMBERS);
+                answer = refused ? refused : places < ROKEMAIPU_COUNTS ? R(8) : 0;
+                lend(&numbers, places);
+                IS(rokemaipu_counts(t, post, (uint32_t *)numbers.at, places), answer);
+                lent_is(__LINE__, &numbers, h->counts, answer ? 0 : ROKEMAIPU_COUNTS);
             }
             for (uint32_t kind = 0; kind < ROKEMAIPU_KINDS + 2; kind++)
                 for (size_t places = 0; places < 3; places++)
@@ -495,6 +607,8 @@ static void any_look(void) {
         }
         uint32_t far = below(2) ? 0xffffffff : 8 + below(1000); /* any number */
         IS(rokemaipu_look_up(t, far, NULL, 0), R(9));
+        IS(rokemaipu_counts(t, far, NULL, 0), R(9));
+        IS(rokemaipu_refused(t), t->refused);
         IS(rokemaipu_latest(t, far, far, NULL, 0, NULL, 0), R(9));
         if (t->posts[0].head.used == 1) IS(rokemaipu_latest(t, 0, 0x80000000u + below(9), NULL, 0, NULL, 0), R(3));
     }
@@ -511,6 +625,8 @@ int main(void) {
     posts();
     sensors();
     looks();
+    counts();
+    full_counts();
     anything();
     any_frame();
     lengths();

@@ -15,7 +15,7 @@ def faults(text, told, thinned=False):
     try:
         page = dom.read(text)
         rows, found = tabled.finding_rows(page, told, NAMES)
-        return [*sound.alone(text), *sound.led(page), *summary(page, told),
+        return [*sound.alone(text), *sound.led(page), *summary(page, told), *tabled.tally_rows(page, told),
                 *found, *listed_once(told, rows), *drawn.findings(page, told, NAMES, rows), *drawn.lanes(page, NAMES, WORDS), *rules(page, told),
                 *tabled.session_rows(page, told), *drawn.sessions(page, told),
                 *tabled.refusal_rows(page, told, WORDS), *drawn.refusals(page, told, WORDS),

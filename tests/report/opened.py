@@ -41,12 +41,12 @@ class Pages(unittest.TestCase):
         self.assertEqual(held.faults(dumped(page), told), [])
         self.assertIn('>insulation under 100 Ohm per volt, or Invalid by a yes/no sensor, in …<', page.read_text(), 'no room for all of the name in its lane')
         width, height, rows = pictured(picture)
-        self.assertEqual((width, height), (1120, 2220))
+        self.assertEqual((width, height), (1120, 2330))
         self.assertGreater(rows, 300, 'hardly anything on the picture')
         self.hold_stored_picture(page, picture)
 
     def test_other_nights(self):
-        """All findings, all refusals that a replay gives, and nothing of either."""
+        """All findings, all refusals that a replay gives but 25, which no night is long enough for, and nothing of either."""
         findings, refusals = set(), set()
         with tempfile.TemporaryDirectory() as folder:
             for name in ('faults', 'damaged', 'clean', 'safety'):
@@ -98,11 +98,15 @@ REFUSED_ROW = re.compile(r'<tr><th scope="row">\d+</th><td>(?:\d+|none)</td>.*?<
 BAR = re.compile(r'<rect class="session[^>]*></rect>')
 LANE = re.compile(r'(?<=<text class="name" )[^>]*>[^<]+')
 CURVE = re.compile(r'<path class="curve" d="[^"]*">')
+TALLIES = re.compile(r'<caption>The tallies.*?</table>', re.DOTALL)
+TALLY = re.compile(r'(?<=<td>)[\d,]+(?=</td>)')
+TALLY_ROW = re.compile(r'<tr><th scope="row"><a.*?</tr>')
 TIME = re.compile(r'\d+:\d\d:\d\d\.\d{3}')
 
 
 def wrongs(text):
-    """Each mark, row, bar and cross taken out; each time in them a millisecond later; each number and name another one; curves bent."""
+    """Each mark, row, bar and cross taken out; each time in them a millisecond later; each number and name another one; tallies one off; curves
+    bent."""
     for kind in (MARK, CROSS, ROW, REFUSED_ROW, BAR):
         for found in kind.finditer(text):
             yield f'without {found[0]}', text[:found.start()] + text[found.end():]
@@ -129,6 +133,11 @@ def wrongs(text):
         corners = found[0].count('L')
         if corners > 3:
             yield 'a curve without a corner', put(text, found, re.sub(r'L[\d. ]+', '', found[0], count=corners // 2))
+    tallies = TALLIES.search(text)
+    for kind, instead in ((TALLY, lambda tally: str(int(tally[0].replace(',', '')) + 1)), (TALLY_ROW, lambda _: '')):
+        for found in kind.finditer(tallies[0]):
+            yield f'another tally than {found[0]}', put(text, tallies, put(tallies[0], found, instead(found)))
+    yield 'no tallies', put(text, tallies, '<caption>The</caption></table>')
     yield 'something from outside', text.replace('<h1>', '<img src="x.png"><h1>')
     yield 'a heading less', text.replace('h1>', 'h2>')
     yield 'a table without its caption', re.sub('<caption>.*?</caption>', '<caption></caption>', text, count=1)

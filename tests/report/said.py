@@ -8,7 +8,7 @@ sys.path += [str(ROOT), str(ROOT / 'nights')]
 from report import words
 from says import SAYS
 
-FINDINGS, REFUSALS = range(1, 12), (1, 2, 3, 4, 5, 6, 15)
+FINDINGS, REFUSALS = range(1, 12), (1, 2, 3, 4, 5, 6, 15, 25)
 SENTENCES = {k: rule.sentence for k, rule in words.FINDINGS.items()}
 
 

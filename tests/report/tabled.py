@@ -1,5 +1,6 @@
 """What the tables of a page say, taken apart and held to what was told."""
 import re
+from collections import Counter
 
 from told import Finding, clock, ms
 
@@ -47,6 +48,14 @@ def listed(times, most=200):
     """All of them, or the first and how many more."""
     more = f', and {len(times) - most:,} more up to {times[-1]}' if len(times) > most else ''
     return ', '.join(times[:most]) + more
+
+
+def tally_rows(page, told):
+    """02, Req 08: of each post what it accepted, and of these how many have each finding."""
+    found = Counter((finding.post, finding.number) for finding in told.findings)
+    want = [[str(post), *(f'{count:,}' for count in (told.accepted[post], *(found[post, k] for k in range(1, 12))))] for post in sorted(told.channels)]
+    got = [cells(row) for row in table(page, 'The tallies of each post')]
+    return [] if got == want else [f'tallies: {got}']
 
 
 def session_rows(page, told):

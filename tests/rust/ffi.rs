@@ -13,6 +13,7 @@ pub const CHANNELS: usize = 32;
 pub const COMPARE_RECORDS: usize = 512;
 pub const COMPARED_NUMBERS: usize = 2;
 pub const NUMBERS: usize = 12;
+pub const COUNTS: usize = 12;
 pub const ENTRY_NUMBERS: usize = 8;
 pub const REFUSED: u32 = 65536;
 
@@ -54,6 +55,7 @@ pub struct Head {
     pub controller: Slot,
     pub parameters: Slot,
     pub session: Session,
+    pub counts: [u32; COUNTS],
 }
 
 #[repr(C)]
@@ -67,6 +69,7 @@ pub struct Post {
 #[derive(Clone, Copy, Debug, PartialEq)]
 pub struct Table {
     pub posts: [Post; POSTS],
+    pub refused: u64,
 }
 
 #[repr(C)]
@@ -103,6 +106,8 @@ extern "C" {
     pub fn rokemaipu_tick(t: *mut Table, channel: u32, time: u32) -> u32;
     pub fn rokemaipu_holder(t: *const Table, channel: u32) -> u32;
     pub fn rokemaipu_look_up(t: *const Table, post: u32, numbers: *mut u32, places: usize) -> u32;
+    pub fn rokemaipu_counts(t: *const Table, post: u32, counts: *mut u32, places: usize) -> u32;
+    pub fn rokemaipu_refused(t: *const Table) -> u32;
     pub fn rokemaipu_latest(t: *const Table, post: u32, kind: u32, time: *mut u32, places: usize, buffer: *mut u8, room: usize) -> u32;
     pub fn rokemaipu_in_session(t: *const Table, post: u32, part: u32, time: *mut u32, places: usize, buffer: *mut u8, room: usize) -> u32;
     pub fn rokemaipu_read(id: u32, extended: bool, payload: *const u8, length: usize, raws: *mut i64, places: usize) -> u32;

@@ -28,9 +28,9 @@ fn sizes() {
         fields!(Slot as "slot": known time raw),
         fields!(Limits as "limits": voltage charge discharge silence sensor),
         fields!(Session as "session": opened since first kept),
-        fields!(Head as "head": used channel limits heard time controller parameters session),
+        fields!(Head as "head": used channel limits heard time controller parameters session counts),
         fields!(Post as "post": head latest),
-        fields!(Table as "table": posts),
+        fields!(Table as "table": posts refused),
         fields!(Replay as "replay": table count course),
     ]
     .concat();
@@ -51,6 +51,7 @@ fn numbers() {
         ("#define ROKEMAIPU_COMPARE_RECORDS ", COMPARE_RECORDS),
         ("    ROKEMAIPU_COMPARED_NUMBERS = ", COMPARED_NUMBERS),
         ("    ROKEMAIPU_NUMBERS = ", NUMBERS),
+        ("    ROKEMAIPU_COUNTS = ", COUNTS),
         ("    ROKEMAIPU_ENTRY_NUMBERS = ", ENTRY_NUMBERS),
         ("#define ROKEMAIPU_REFUSED ", REFUSED as usize),
     ] {

@@ -35,11 +35,16 @@ fn posts() {
     let before = t;
     assert_eq!(frame(&mut t, 4, 50, 0x63000, &[0, 0, 0, 0, 65, 65, 2, 255]), REFUSED + 5 + 256 * 48); // the start bit of System_Enable
     assert_eq!(refusal(frame(&mut t, 4, 39, 0x6b000, &[7])), 2);
-    assert_eq!(t, before);
+    assert_eq!(t, Table { refused: 2, ..before });
 
     let mut numbers = [0; NUMBERS];
     assert_eq!(unsafe { rokemaipu_look_up(&t, 0, numbers.as_mut_ptr(), NUMBERS) }, 0);
     assert_eq!(numbers, [4, 5000, 1000, 500, 500, 0, 1, 40, 1, 0, 2, 1]);
+    let mut counts = [0; COUNTS];
+    assert_eq!(unsafe { rokemaipu_counts(&t, 0, counts.as_mut_ptr(), COUNTS) }, 0);
+    assert_eq!(counts, [6, 0, 0, 1, 1, 0, 0, 0, 0, 1, 0, 0]); // accepted; F3, F4 and F9
+    assert_eq!(unsafe { rokemaipu_refused(&t) }, 2);
+    assert_eq!(unsafe { rokemaipu_counts(&t, 0, counts.as_mut_ptr(), COUNTS - 1) }, REFUSED + 8);
     assert_eq!(looked(rokemaipu_latest, &t, 0, 0), (8, 40, status(24).to_vec()));
     assert_eq!(looked(rokemaipu_latest, &t, 0, 8), (0, 77, vec![]));
     assert_eq!(looked(rokemaipu_in_session, &t, 0, 0), (8, 40, status(24).to_vec()));

@@ -2,7 +2,7 @@
 -- That the bytes are those of the type that the entries are proved over is a law (proofs/Sizes.antt).
 use Prim.Native.Nat.{ℕ, _+_, _*_, _^_}
 use Rattle.rules.specs.Record.{kindCount}
-use Rattle.rules.specs.After.{keptCount}
+use Rattle.rules.specs.After.{keptCount, countCount}
 use Rattle.watch_rules.specs.Table.{postCount}
 
 -- a slot is three words; a session is three, and what it keeps
@@ -12,19 +12,23 @@ slotBytes = 24
 abbrev pub sessionBytes : ℕ
 sessionBytes = 24 + keptCount * slotBytes
 
--- set up or not, and the channel; five limits; heard or not; the time; the latest Advantics_Controller_Status and DC_Power_Parameters; the session
+abbrev pub countBytes : ℕ
+countBytes = 4
+
+-- set up or not, and the channel; five limits; heard or not; the time; the latest Advantics_Controller_Status and DC_Power_Parameters; the session; the counts
 abbrev pub headBytes : ℕ
-headBytes = 8 + 20 + 4 + 8 + 2 * slotBytes + sessionBytes
+headBytes = 8 + 20 + 4 + 8 + 2 * slotBytes + sessionBytes + countCount * countBytes
 
 abbrev pub postBytes : ℕ
 postBytes = headBytes + kindCount * slotBytes
 
+-- the posts, and the count of what was refused
 abbrev pub tableBytes : ℕ
-tableBytes = postCount * postBytes
+tableBytes = postCount * postBytes + 8
 
 -- another one wherever a place of the table means something else
 abbrev pub layoutNumber : ℕ
-layoutNumber = 1
+layoutNumber = 2
 
 abbrev pub layoutWord : ℕ
 layoutWord = tableBytes + postCount * 2 ^ 32 + kindCount * 2 ^ 40 + layoutNumber * 2 ^ 48

@@ -37,17 +37,27 @@ numbersOf r =
     r .channel ∷ r .limits .voltage ∷ r .limits .charge ∷ r .limits .discharge ∷ r .limits .silence ∷ sensorNumber (r .limits .sensor)
     ∷ (lastNumbers (r .last) ++ sessionNumbers (r .session))
 
--- 8 where the lent places are too few
-abbrev pub lookedOutcome : Setting → ℕ → Outcome
-lookedOutcome setting.Done places = cond (leb numberCount places) (answers 0) (refuses ShortBuffer)
-lookedOutcome (setting.Refused w) places = refuses w
+-- ---- n numbers handed out, into lent places: 8 where those are too few, and then nothing is stored. A post's counts are handed out likewise (`lent_counts`)
 
-abbrev pub numbersLeft : Setting → Record → List ℕ → List ℕ
-numbersLeft setting.Done r ns = cond (leb numberCount (length ns)) (numbersOf r ++ drop numberCount ns) ns
-numbersLeft (setting.Refused w) r ns = ns
+abbrev pub roomOutcome : ℕ → ℕ → Outcome
+roomOutcome n places = cond (leb n places) (answers 0) (refuses ShortBuffer)
+
+abbrev pub roomLeft : ℕ → List ℕ → List ℕ → List ℕ
+roomLeft n xs ns = cond (leb n (length ns)) (xs ++ drop n ns) ns
+
+-- by what the look-up answers
+abbrev pub handedOutcome : ℕ → Setting → ℕ → Outcome
+handedOutcome n setting.Done places = roomOutcome n places
+handedOutcome n (setting.Refused w) places = refuses w
+
+abbrev pub handedLeft : ℕ → Setting → List ℕ → List ℕ → List ℕ
+handedLeft n setting.Done xs ns = roomLeft n xs ns
+handedLeft n (setting.Refused w) xs ns = ns
+
+-- ---- the post's numbers
 
 unfoldable pub lookUpWord : Table → ℕ → List ℕ → ℕ
-lookUpWord t i ns = outcomeWord (lookedOutcome (lookUpOf t i .answer) (length ns))
+lookUpWord t i ns = outcomeWord (handedOutcome numberCount (lookUpOf t i .answer) (length ns))
 
 unfoldable pub numbersAfter : Table → ℕ → List ℕ → List ℕ
-numbersAfter t i ns = numbersLeft (lookUpOf t i .answer) (lookUpOf t i .shown) ns
+numbersAfter t i ns = handedLeft numberCount (lookUpOf t i .answer) (numbersOf (lookUpOf t i .shown)) ns

@@ -6,7 +6,8 @@ ghost use mathlib.Core.List.{_++_};
 ghost use Prim.Native.Nat.{_≤_};
 ghost use lib.ListN.{length, drop};
 ghost use Rattle.rules.specs.After.{postRecord};
-ghost use Rattle.lent_numbers.specs.LookUp.{numberCount, numbersOf, lookUpWord, numbersAfter};
+ghost use Rattle.plain_words.specs.Words.{outcomeWord};
+ghost use Rattle.lent_numbers.specs.LookUp.{numberCount, numbersOf, roomOutcome, roomLeft, lookUpWord, numbersAfter};
 use message_types::labels::plug_number;
 use message_types::labels::protocol_number;
 use plain_words::flag;
@@ -65,6 +66,18 @@ fn store_numbers(numbers: &mut [u32], ns: [u32; 12])
     }
 }
 
+// Twelve numbers into lent places: a post's own, and its counts (`lent_counts`).
+pub fn hand_out(ns: [u32; 12], numbers: &mut [u32]) -> u32
+    ensures { λ r. ⌜ (r ≡ outcomeWord (roomOutcome numberCount (length (now (numbers .entry))))) × (now (numbers .exit) ≡ roomLeft numberCount ns (now (numbers .entry)))
+        × (length ns ≡ numberCount) ⌝ }
+{
+    if numbers.len() < 12 {
+        return refusal_word(Refusal::ShortBuffer);
+    }
+    store_numbers(numbers, ns);
+    0
+}
+
 fn looked(t: Table, post: u32, numbers: &mut [u32]) -> u32
     ensures { λ r. ⌜ (r ≡ lookUpWord t post (now (numbers .entry))) × (now (numbers .exit) ≡ numbersAfter t post (now (numbers .entry))) ⌝ }
 {
@@ -77,11 +90,7 @@ fn looked(t: Table, post: u32, numbers: &mut [u32]) -> u32
     if !is_set(h.used as u64) {
         return refusal_word(Refusal::NotSetUp);
     }
-    if numbers.len() < 12 {
-        return refusal_word(Refusal::ShortBuffer);
-    }
-    store_numbers(numbers, numbers_of(p));
-    0
+    hand_out(numbers_of(p), numbers)
 }
 
 #[no_mangle]

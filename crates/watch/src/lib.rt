@@ -3,6 +3,7 @@
 pub use watch_feed::frame;
 pub use watch_feed::tick;
 pub use watch_look::look_up;
+pub use watch_look::refused;
 pub use watch_settings::empty;
 pub use watch_settings::release;
 pub use watch_settings::set_up;

@@ -1,5 +1,9 @@
-// Looking a post's record up, with the two promises of `watch_feed`. For users of the library, through `watch`.
+// Looking a post's record up, with the two promises of `watch_feed`, and how much was refused. For users of the library, through `watch`.
+ghost use mathlib.Core.List.{List};
 ghost use mathlib.Core.Path.{_≡_};
+ghost use Prim.Native.Nat.{min};
+ghost use Rattle.rules.specs.Counts.{largest};
+ghost use Rattle.watch_rules.specs.Run.{Request, run, refusedEver};
 ghost use Rattle.watch_rules.specs.Steps.{Steps, Kept, lookUp01};
 ghost use Rattle.watch_rules.specs.Table.{lookUpOf, noRecord};
 use refusals::Refusal;
@@ -39,4 +43,13 @@ pub fn look_up(t: Table, post: u32) -> LookedUp
         answer: Setting::Done,
         shown: post_record::of_post(p),
     }
+}
+
+// The frames and ticks refused since the table was made (02, Req 08). In a table of the caller's own making every larger number counts as the largest.
+pub fn refused(t: Table) -> u32
+    ensures by_record { λ r. ⌜ r ≡ min (t .refused) largest ⌝ }
+    ensures by_history { λ r. ⌜ ((rs : List Request) → t ≡ run rs → r ≡ min (refusedEver rs) largest) ⌝ }
+{
+    let n = t.refused;
+    if n < 4294967295 { n as u32 } else { 4294967295 }
 }

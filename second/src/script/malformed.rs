@@ -82,6 +82,10 @@ const ODD_LINES: [&[u8]; 75] = [
     b"replay - 0 0 1 1 0 100",
 ];
 
+/// The one step without a field has odd lines of its own.
+const NO_COUNTS: [&[u8]; 7] =
+    [b"refused ", b"refused 0", b"refused -", b"refused refused", b"refuse", b"refusedd", b"Refused"];
+
 /// Records of four bytes; no other of any length makes so much text of a byte.
 const LONG_ANSWER: &[u8] = b"7f1f7f00";
 const TICK: &[u8] = b"00000009";
@@ -91,6 +95,7 @@ impl Generator {
         match self.rng.below(19) {
             0 => self.long(),
             1..=5 => self.rng.pick(&ODD_LINES).to_vec(),
+            6 => self.rng.pick(&NO_COUNTS).to_vec(),
             _ => {
                 let line = match self.rng.below(11) {
                     0 => self.rng.pick(&["setup 9 40 5000 1000 500 500", "setup 9 40 5000 1000 500 500 1"]).to_string(),

@@ -25,8 +25,9 @@ pub struct Extras {
 /// A script of that many steps; comments and blank lines come on top.
 pub fn script(seed: u64, steps: usize, extras: Extras) -> Vec<Vec<u8>> {
     let mut generator = Generator::new(seed, extras);
-    let mut lines = Vec::new();
-    let mut written = 0;
+    // The one place where surely nothing was refused.
+    let mut lines = vec![b"refused".to_vec()];
+    let mut written = 1;
     while written < steps {
         let line = generator.line();
         written += usize::from(is_step(&line));
@@ -50,6 +51,8 @@ struct Generator {
     busy: usize,
     /// How many of a thousand steps set up or release: scripts with long histories and with short ones.
     restless: u64,
+    /// The next line, where one has to follow at once.
+    following: Option<String>,
     extras: Extras,
 }
 
@@ -58,9 +61,11 @@ enum Sort {
     Traffic,
     Refused,
     Record,
+    RefusedCount,
     SetUp,
     RefusedSetUp,
     Release,
+    RefusedRelease,
     Read,
     Change,
     Write,
@@ -79,17 +84,27 @@ impl Generator {
     fn new(seed: u64, extras: Extras) -> Generator {
         let mut rng = Rng::new(seed);
         let restless = rng.pick(&[6, 15, 40]);
-        Generator { rng, posts: Default::default(), busy: 0, restless, extras }
+        Generator { rng, posts: Default::default(), busy: 0, restless, following: None, extras }
     }
 
     fn line(&mut self) -> Vec<u8> {
+        if let Some(line) = self.following.take() {
+            return line.into_bytes();
+        }
         match self.sort() {
             Sort::Traffic => self.traffic().into_bytes(),
             Sort::Refused => self.refused().into_bytes(),
             Sort::Record => self.record().into_bytes(),
-            Sort::SetUp => self.set_up().into_bytes(),
+            Sort::RefusedCount => b"refused".to_vec(),
+            Sort::SetUp => {
+                let line = self.set_up();
+                // Now and then the record at once, before anything comes to the post.
+                self.following = self.rng.chance(20).then(|| format!("record {}", self.busy));
+                line.into_bytes()
+            }
             Sort::RefusedSetUp => self.refused_set_up().into_bytes(),
             Sort::Release => self.release().into_bytes(),
+            Sort::RefusedRelease => self.refused_release().into_bytes(),
             Sort::Read => self.read().into_bytes(),
             Sort::Change => self.change().into_bytes(),
             Sort::Write => self.write().into_bytes(),
@@ -116,9 +131,11 @@ impl Generator {
             (620, Sort::Traffic),
             (60, Sort::Refused),
             (60, Sort::Record),
+            (40, Sort::RefusedCount),
             (restless, Sort::SetUp),
             (35, Sort::RefusedSetUp),
-            (restless / 4, Sort::Release),
+            (restless / 4 + 2, Sort::Release),
+            (10, Sort::RefusedRelease),
             (70, Sort::Read),
             (65, Sort::Change),
             (75, Sort::Write),

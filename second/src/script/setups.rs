@@ -67,6 +67,13 @@ impl Generator {
         format!("release {post}")
     }
 
+    /// Of a post that is not set up, or of none.
+    pub fn refused_release(&mut self) -> String {
+        let mut posts = self.places(false);
+        posts.extend(POSTS_BEYOND);
+        format!("release {}", self.rng.pick(&posts))
+    }
+
     pub fn record(&mut self) -> String {
         format!("record {}", self.some_post())
     }

@@ -1,11 +1,10 @@
 -- `lent_numbers::looked` meets its contract: 9, 14, 8, or the post's numbers stored.
 use borrow.Author.Needs.{needs}
-use borrow.Author.Tests.{ltb-true, not-true, not-false, le-leb, lt-leb}
+use borrow.Author.Tests.{ltb-true, not-true, not-false}
 use mathlib.Core.Path.{ap, sym, _∙_}
-use mathlib.Core.List.{List, _++_}
+use mathlib.Core.List.{List}
 use Prim.Native.Nat.{ℕ}
-use lib.ListN.{drop}
-use Rattle.lent_numbers.specs.LookUp.{numberCount}
+use Rattle.lent_numbers.specs.LookUp.{numberCount, roomLeft}
 use Rattle.lent_look.proofs.Asked.{no-post, not-set-up, set-up}
 use Rattle.lent_numbers.proofs.ByCase.{looked-by}
 use Rattle.lent_numbers.proofs.looked.Statement.{statement}
@@ -32,26 +31,14 @@ returns-2 c =
 
 returns-3 : tie.Need-returns-3
 returns-3 c =
-    let used = c .before .before in
+    let out = c .before .before in
+    let n = out .before .before in
+    let used = n .before in
     let post = used .before .before .before .before .before in
     let a = post .before .before .before .args in
     let e = looked-by (a .t1) (a .post) (a .numbers .now)
     (set-up (a .t1) (a .post) (sym (post .before .is-post .ensures) ∙ not-false _ (post .if1 .left)) (sym (used .before .is-set .ensures) ∙ not-false _ (used .if2 .left))) in
-    let f = rw (lt-leb _ _ (c .before .if3 .taken)) at e in
-    (c .refusal-word3 .ensures ∙ f .0, f .1)
-
-returns-4 : tie.Need-returns-4
-returns-4 c =
-    let w = c .before .before in
-    let n = w .before in
-    let room = n .before .before in
-    let used = room .before in
-    let post = used .before .before .before .before .before in
-    let a = post .before .before .before .args in
-    let e = looked-by (a .t1) (a .post) (a .numbers .now)
-    (set-up (a .t1) (a .post) (sym (post .before .is-post .ensures) ∙ not-false _ (post .if1 .left)) (sym (used .before .is-set .ensures) ∙ not-false _ (used .if2 .left))) in
-    let f = rw (le-leb _ _ (room .if3 .left)) at e in
-    (f .0, w .store-numbers .ensures ∙ ap (λ (ns : List ℕ). ns ++ drop numberCount (a .numbers .now)) (n .numbers-of .ensures) ∙ f .1)
+    (out .hand-out .ensures .0 ∙ e .0, out .hand-out .ensures .1 ∙ ap (λ (xs : List ℕ). roomLeft numberCount xs (a .numbers .now)) (n .numbers-of .ensures) ∙ e .1)
 
 pub looked-spec : {M : Type 1} → statement M
 looked-spec =
@@ -67,8 +54,6 @@ looked-spec =
     (λ c κs. search needs)
     returns-2
     (λ c κs. search needs)
-    returns-3
-    (λ c κs. search needs)
     (λ c κs. search needs)
     (λ c. search needs)
-    returns-4)
+    returns-3)

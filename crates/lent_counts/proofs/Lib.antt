@@ -1,0 +1,4 @@
+pub mod ByCase
+pub mod CountLaws
+pub mod Entries
+pub mod Night
