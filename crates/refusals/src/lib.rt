@@ -4,7 +4,8 @@ ghost use mathlib.Core.Path.{_≡_};
 ghost use Rattle.refusals.specs.Refusals.{numberOf, startOf};
 
 // 01, "Numbers given back": a case for each number, in their order (`numberOf` in specs/). Those of 02 follow: a length above the table's
-// (Req 02), the night log's (Req 01), a batch's (Req 07), a full count's (Req 08) and a comparison's (Req 10). 5 carries the start bit of the signal (02, Req 02).
+// (Req 02), the night log's (Req 01), a batch's (Req 07), a full count's (Req 08) and a comparison's (Req 10).
+// 5 carries the start bit of the signal (02, Req 02).
 pub enum Refusal {
     ChannelFree,
     Earlier,
