@@ -1,5 +1,5 @@
-// One post hears what comes to it: 1 where it does not hold the channel, 2, then the reader's 3 to 6, then 25, then the findings. For every way to step a table of
-// posts.
+// One post hears what comes to it: 1 where it does not hold the channel, 2, then the reader's 3 to 6, then 25, then the findings.
+// For every way to step a table of posts.
 ghost use mathlib.Core.Path.{_≡_};
 ghost use Rattle.rules.specs.After.{isFullIn, afterTick, afterFrame};
 ghost use Rattle.watch_rules.specs.Steps.{HearRight};

@@ -237,7 +237,8 @@ free-answer s c unheld t a = go (isChannel c) (ltb (holder s c) postCount) refl
         let h : holder s c < postCount = ltb-true (holder s c) postCount e in
         absurd (true≢false (sym (holder-holds s c h) ∙ unheld (holder s c) h))
 
--- A frame or tick on a channel that nobody holds is refused with 1 and changes nothing but the count of those refused. 01: "channel above 31, or held by no post"
+-- A frame or tick on a channel that nobody holds is refused with 1 and changes nothing but the count of those refused.
+-- 01: "channel above 31, or held by no post"
 pub nobody-holds : (rs : List Request) (c : ℕ) → Unheld (accepted rs) c → (a : Request) → arrivesOn c a ≡ true
     → (reply (run rs) a ≡ fed (Refused ChannelFree)) × (run (a ∷ rs) ≡ oneRefused (run rs))
 nobody-holds rs c unheld a q =
