@@ -15,7 +15,8 @@ use Rattle.rules.specs.declared.Head.{Head}
 use Rattle.rules.specs.declared.AfterEvent.{AfterEvent}
 use Rattle.rules.specs.History.{Event, frame, tick, History, sinceFinished, opening, inSession}
 use Rattle.rules.specs.Rules.{sessionStatus, sessionControl, limitOf, f1, f2, f3, f4, f5, f6, f7, f8, f9, f10, f11, findings01}
-use Rattle.rules.specs.After.{sessionAfter, agedTo, withFrame, silentIn, lateAfter, anyFindings, unreadyIn, carryingIn, controlFindings, statusFindings, openingFindings, finishedFindings, messageFindings, withCounts, afterTick, afterFrame, newHead}
+use Rattle.rules.specs.Counts.{talliesOf, countsOf}
+use Rattle.rules.specs.After.{sessionAfter, agedTo, withFrame, silentIn, lateAfter, anyFindings, unreadyIn, carryingIn, controlFindings, statusFindings, openingFindings, finishedFindings, messageFindings, counted, withCounts, afterTick, afterFrame, newHead}
 
 -- ---- the findings of events in order of arrival
 
@@ -85,3 +86,26 @@ All (x ∷ xs) = ((lookedBack limits [] (x .0) ≡ x .1) × (inTurn (newHead 1 4
 pub both-sides : All table
 unfolding sinceFinished opening inSession lowersBadly outside leaking badInsulation differs sessionStatus sessionControl limitOf f1 f2 f3 f4 f5 f6 f7 f8 f9 f10 f11 findings01 sessionAfter agedTo withFrame silentIn lateAfter anyFindings unreadyIn carryingIn controlFindings statusFindings openingFindings finishedFindings messageFindings withCounts afterTick afterFrame statusIn parametersIn sessionIn controlIn rows ofKind firstAt wholesOf pad rawsOf getBits toSigned
 both-sides = ((refl, refl), ((refl, refl), ((refl, refl), ((refl, refl), ((refl, refl), ((refl, refl), ((refl, refl), tt)))))))
+
+-- ---- 02, Req 08: the counts of such events, the newest first, and of the head that they leave
+
+abbrev leaves : List Event → Head
+leaves [] = newHead 1 4 limits
+leaves (e ∷ h) = afterBy (leaves h) e .head
+
+-- F2 of a late tick and of the late controller status itself, which is judged before it counts; then F3 and F4 of one frame
+abbrev late : List Event
+late = tick 1202 ∷ controller 1201 ∷ tick 1201 ∷ tick 1200 ∷ controller 1000 ∷ []
+
+abbrev lateCounts : List ℕ
+lateCounts = 5 ∷ 0 ∷ 2 ∷ 0 ∷ 0 ∷ 0 ∷ 0 ∷ 0 ∷ 0 ∷ 0 ∷ 0 ∷ 0 ∷ []
+
+abbrev powered : List Event
+powered = tick 1 ∷ transfer 0 ∷ []
+
+abbrev poweredCounts : List ℕ
+poweredCounts = 2 ∷ 0 ∷ 0 ∷ 1 ∷ 1 ∷ 0 ∷ 0 ∷ 0 ∷ 0 ∷ 0 ∷ 0 ∷ 0 ∷ []
+
+pub counts-both-sides : ((countsOf limits late ≡ lateCounts) × (leaves late .counts ≡ lateCounts)) × ((countsOf limits powered ≡ poweredCounts) × (leaves powered .counts ≡ poweredCounts))
+unfolding sinceFinished opening inSession lowersBadly outside leaking badInsulation differs sessionStatus sessionControl limitOf f1 f2 f3 f4 f5 f6 f7 f8 f9 f10 f11 findings01 talliesOf sessionAfter agedTo withFrame silentIn lateAfter anyFindings unreadyIn carryingIn controlFindings statusFindings openingFindings finishedFindings messageFindings counted withCounts afterTick afterFrame statusIn parametersIn sessionIn controlIn rows ofKind firstAt wholesOf pad rawsOf getBits toSigned
+counts-both-sides = ((refl, refl), (refl, refl))
