@@ -1,5 +1,5 @@
 -- `compare_logs::against` meets its contract: a second log that is broken is refused, and one of all records is listed.
-use mathlib.Core.Path.{_≡_, refl, sym, ap, _∙_}
+use mathlib.Core.Path.{_≡_, sym, ap, _∙_}
 use lib.ListN.{length, length-replicate}
 use Prim.Native.Nat.{ℕ}
 use Rattle.compare_rules.specs.Compare.{recordsOf, judged, listedOf}

@@ -1,5 +1,5 @@
 -- `compare_logs::compare` meets its contract: a first log that is broken is refused, and one of all records goes on against the second.
-use mathlib.Core.Path.{_≡_, refl, sym, ap, _∙_}
+use mathlib.Core.Path.{_≡_, sym, ap, _∙_}
 use lib.ListN.{length, length-replicate}
 use Prim.Native.Nat.{ℕ}
 use Rattle.log_records.specs.Reading.{logOf}

@@ -6,7 +6,6 @@ use Rattle.refusals.specs.declared.Refusal.the-variants.{ShortBuffer, CompareRe
 use Rattle.compare_rules.specs.Compare.{recordsOf, listedOf}
 use Rattle.compare_logs.proofs.Ends.{refusing, many-first, many-second, short-first, short-second, few-places, taken, listed}
 use borrow.Author.Needs.{needs}
-use native.Mathlib.Omega.{arith}
 use Rattle.compare_logs.proofs.listing.Statement.{statement}
 use Rattle.compare_logs.proofs.listing.Tie as tie
 
