@@ -1,9 +1,10 @@
 // The times between which records are compared, both included; all of them where the call names none.
-use text_numbers::Number;
+use notation_read::fields;
+use notation_read::fields::Last;
 
 pub struct Window {
-    pub from: u64,
-    pub to: u64,
+    pub from: u32,
+    pub to: u32,
 }
 
 pub enum Asked {
@@ -11,25 +12,18 @@ pub enum Asked {
     Is(Window),
 }
 
-// A time has 32 bits.
-const LATEST: u64 = 4294967295;
-
-// A time as the desk tells it.
-fn time_in(s: &[u8]) -> Number {
-    text_numbers::decimal(s, LATEST)
-}
-
-fn time_at(i: usize) -> Number {
+// A time as the desk tells it, and nothing behind it.
+fn time_at(i: usize) -> Last {
     let mut word = [0u8; 16];
     let n = os::arg(i, &mut word);
     if os::errno() != 0 {
-        return Number::Bad;
+        return Last::Bad;
     }
-    time_in(&word[..n])
+    fields::take_last(&word[..n], 0)
 }
 
 // A window that ends before it begins holds nothing, so that all logs would be the same in it: it is a wrong call.
-fn ordered(from: u64, to: u64) -> Asked {
+fn ordered(from: u32, to: u32) -> Asked {
     if from > to {
         return Asked::Bad;
     }
@@ -37,10 +31,10 @@ fn ordered(from: u64, to: u64) -> Asked {
 }
 
 fn named() -> Asked {
-    let Number::Is(from) = time_at(3) else {
+    let Last::Is(from) = time_at(3) else {
         return Asked::Bad;
     };
-    let Number::Is(to) = time_at(4) else {
+    let Last::Is(to) = time_at(4) else {
         return Asked::Bad;
     };
     ordered(from, to)
@@ -52,7 +46,7 @@ pub fn told() -> Asked {
     if count == 3 {
         return Asked::Is(Window {
             from: 0,
-            to: LATEST,
+            to: u32::MAX,
         });
     }
     if count == 5 {
@@ -62,9 +56,8 @@ pub fn told() -> Asked {
 }
 
 pub fn holds(w: Window, time: u32) -> bool {
-    let t = time as u64;
-    if t < w.from {
+    if time < w.from {
         return false;
     }
-    t <= w.to
+    time <= w.to
 }

@@ -1,6 +1,6 @@
 -- Turns of `place_of` and `store_places`.
-use mathlib.Core.Path.{_≡_, refl, sym, ap, ap₂, _∙_, subst}
-use mathlib.Core.Bool.{Bool, true, false, cond}
+use mathlib.Core.Path.{_≡_, refl, sym, ap, ap₂, _∙_}
+use mathlib.Core.Bool.{Bool, true, false}
 use mathlib.Core.List.{List, [], _∷_}
 use Prim.Native.Nat.{ℕ, zero, suc, _+_, _-_, _/_, _≤_, _<_}
 use native.Mathlib.Omega.{arith}
@@ -10,7 +10,7 @@ use lib.Seq.{drop-cons, sets, getD-set-same, getD-set-other}
 use lib.Dec.{eqb}
 use borrow.Author.Tests.{eq-eqb, ne-eqb, eqb-true, eqb-false}
 use borrow.Author.Count.{below-more}
-use Rattle.log_records.specs.Record.{Rec, tick, frame}
+use Rattle.log_records.specs.Record.{Rec, tick}
 use Rattle.compare_rules.specs.Records.{same, channelOf, at}
 use Rattle.compare_rules.specs.Places.{onChannel, differ, channels, placeOn, placesFrom, placesOf}
 use Rattle.compare_logs.specs.Held.{Ready, NextOn, Marked}

@@ -1,8 +1,8 @@
 -- The ends of `listing`, `against` and `compare`.
-use mathlib.Core.Path.{_≡_, refl, sym, ap, ap₂, _∙_, subst}
+use mathlib.Core.Path.{_≡_, refl, sym, ap, ap₂, _∙_}
 use mathlib.Core.Bool.{Bool, true, false, cond}
 use mathlib.Core.Option.{Option, none, some}
-use mathlib.Core.List.{List, [], _∷_}
+use mathlib.Core.List.{List, _∷_}
 use Prim.Native.Nat.{ℕ, zero, suc, _+_, _≤_, _<_}
 use native.Mathlib.Omega.{arith}
 use lib.ListN.{length, getD}
@@ -12,10 +12,11 @@ use borrow.Author.Tests.{lt-ltb, le-ltb}
 use Rattle.log_records.specs.Record.{Rec}
 use Rattle.compare_rules.specs.declared.Compared.{Compared}
 use Rattle.compare_rules.specs.declared.Compared.the-variants.{Listed, Refused}
+use Rattle.refusals.specs.declared.Refusal.{Refusal}
 use Rattle.refusals.specs.declared.Refusal.the-variants.{ShortBuffer, CompareLog, CompareRecords, CompareRoom}
 use Rattle.compare_rules.specs.Surplus.{isSurplus, surplusFrom, surplusOf}
 use Rattle.compare_rules.specs.Places.{channels, placesOf}
-use Rattle.compare_rules.specs.Compare.{most, unbroken, judged, listedOf}
+use Rattle.compare_rules.specs.Compare.{most, unbroken, judged, listedOf, after}
 use Rattle.compare_logs.specs.Held.{freeFrom, Comes}
 
 -- a log that is all records, and one that is not
@@ -25,6 +26,16 @@ module _ (side : ℕ) where
 
   pub some-broken : (byte : ℕ) {o : Option ℕ} (go : Compared) → o ≡ some byte → unbroken side o go ≡ Refused CompareLog side byte
   some-broken byte go e = ap (λ (o : Option ℕ). unbroken side o go) e
+
+-- a refusal leaves what is lent
+pub refusing : (a b : List Rec) (first second places : List ℕ) {r x : Compared} (w : Refusal) (side byte : ℕ) → x ≡ Refused w side byte → r ≡ Refused w side byte
+    → Comes r a b first second places x first second places
+refusing a b first second places w side byte e f = (
+  e ∙ sym f,
+  sym (ap (λ (z : Compared). after z (surplusOf a b) first) e),
+  sym (ap (λ (z : Compared). after z (surplusOf b a) second) e),
+  sym (ap (λ (z : Compared). after z (placesOf a b) places) e),
+)
 
 module _ (n m x y z : ℕ) (go : Compared) where
   pub many-first : most < n → judged n m x y z go ≡ Refused CompareRecords 1 0

@@ -1,9 +1,8 @@
 -- Turns of `pair`: a record of the second log is used exactly when its rank there is at most the number of the same in the first log so far.
-use mathlib.Core.Path.{_≡_, refl, sym, ap, ap₂, _∙_, subst}
-use mathlib.Core.Logic.{_⊎_, inl, inr, ⊎-elim}
+use mathlib.Core.Path.{_≡_, refl, sym, ap, _∙_, subst}
 use mathlib.Core.Bool.{Bool, true, false, cond}
-use mathlib.Core.List.{List, [], _∷_}
-use Prim.Native.Nat.{ℕ, zero, suc, _+_, _-_, _≤_, _<_}
+use mathlib.Core.List.{List, _∷_}
+use Prim.Native.Nat.{ℕ, suc, _+_, _-_, _≤_, _<_}
 use native.Mathlib.Omega.{arith}
 use native.Mathlib.Numerals.{add-one}
 use native.Mathlib.Nat.{sub-zero}
@@ -11,7 +10,7 @@ use lib.ListN.{length, getD, take, set, replicate, length-set, length-replicate,
 use lib.Seq.{sets, getD-set-same, getD-set-other}
 use lib.Dec.{ltb, leb, eqb}
 use borrow.Author.Tests.{ltb-true, ltb-false, lt-ltb, le-ltb, leb-true, leb-false, le-leb, lt-leb, eqb-true, eqb-false}
-use Rattle.log_records.specs.Record.{Rec, tick, frame}
+use Rattle.log_records.specs.Record.{Rec}
 use Rattle.compare_rules.specs.Records.{same, at}
 use Rattle.compare_rules.specs.Surplus.{countOf, isSurplus, surplusFrom, surplusOf}
 use Rattle.compare_logs.specs.Held.{FirstFree, UsedBelow}

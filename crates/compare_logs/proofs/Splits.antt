@@ -1,11 +1,11 @@
 -- Turns of `split`.
-use mathlib.Core.Path.{_≡_, refl, sym, ap, ap₂, _∙_, subst}
+use mathlib.Core.Path.{_≡_, refl, sym, ap, _∙_, subst}
 use mathlib.Core.Bool.{Bool, true, false, cond}
-use mathlib.Core.Option.{Option, none, some}
-use mathlib.Core.List.{List, [], _∷_, _++_}
-use Prim.Native.Nat.{ℕ, zero, suc, _+_, _*_, _-_, _/_, _≤_, _<_}
+use mathlib.Core.Option.{none, some}
+use mathlib.Core.List.{List, _∷_, _++_}
+use Prim.Native.Nat.{ℕ, _+_, _*_, _-_, _/_, _≤_, _<_}
 use native.Mathlib.Omega.{arith}
-use lib.ListN.{length, getD, take, drop, set, length-set, length-drop}
+use lib.ListN.{length, getD, take, drop, set, length-set}
 use lib.Seq.{drop-drop, getD-drop, take-add, drop-append-seam, getD-set-same, getD-set-other}
 use borrow.Author.Count.{below-more}
 use Rattle.refusals.specs.declared.Refusal.{Refusal}
@@ -22,7 +22,7 @@ use Rattle.compare_logs.specs.declared.split.Ended.{Ended}
 use Rattle.compare_logs.specs.declared.split.Ended.the-variants as ended
 use Rattle.compare_rules.specs.Records.{channelOf, at}
 use Rattle.compare_rules.specs.Compare.{most, recordsOf, brokenAt}
-use Rattle.compare_logs.specs.Held.{timeOf, keyOf, splitOf, Holds, Held}
+use Rattle.compare_logs.specs.Held.{keyOf, splitOf, Holds, Held}
 
 -- ---- lists
 drop-head : (xs : List Rec) (n : ℕ) (y : Rec) (ys : List Rec) → drop n xs ≡ y ∷ ys → (at xs n ≡ y) × (drop (n + 1) xs ≡ ys)

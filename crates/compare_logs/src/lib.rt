@@ -4,6 +4,7 @@ ghost use mathlib.Core.Path.{_≡_};
 ghost use lib.ListN.{length};
 ghost use Rattle.log_records.specs.Reading.{logOf};
 ghost use Rattle.compare_rules.specs.Compare.{recordsOf, brokenAt, unbroken, judged, listedOf, comparedOf, firstAfter, secondAfter, placesAfter};
+ghost use Rattle.compare_rules.specs.declared.Compared.the-variants.{Refused};
 ghost use Rattle.compare_logs.specs.Held.{Counted, Comes};
 
 mod split; // split.rt: a log taken apart into its records
@@ -20,6 +21,12 @@ use refusals::Refusal;
 use split::Ended;
 use split::STARTS;
 use split::take_apart;
+
+fn refused(why: Refusal, side: u32, at: usize) -> Compared
+    ensures { λ r. ⌜ r ≡ Refused why side at ⌝ }
+{
+    Compared::Refused { why, side, at }
+}
 
 // Both logs are all records: n and m of them.
 fn listing(
@@ -42,39 +49,19 @@ fn listing(
         r (now (first .exit)) (now (second .exit)) (now (places .exit)) ⌝ }
 {
     if MOST < n {
-        return Compared::Refused {
-            why: Refusal::CompareRecords,
-            side: 1,
-            at: 0,
-        };
+        return refused(Refusal::CompareRecords, 1, 0);
     }
     if MOST < m {
-        return Compared::Refused {
-            why: Refusal::CompareRecords,
-            side: 2,
-            at: 0,
-        };
+        return refused(Refusal::CompareRecords, 2, 0);
     }
     if first.len() < MOST {
-        return Compared::Refused {
-            why: Refusal::CompareRoom,
-            side: 1,
-            at: 0,
-        };
+        return refused(Refusal::CompareRoom, 1, 0);
     }
     if second.len() < MOST {
-        return Compared::Refused {
-            why: Refusal::CompareRoom,
-            side: 2,
-            at: 0,
-        };
+        return refused(Refusal::CompareRoom, 2, 0);
     }
     if places.len() < CHANNELS {
-        return Compared::Refused {
-            why: Refusal::ShortBuffer,
-            side: 0,
-            at: 0,
-        };
+        return refused(Refusal::ShortBuffer, 0, 0);
     }
     let mut used = [0u8; MOST];
     let x = pair_off(a, sa, ka, n, b, sb, kb, m, &mut used, first);
@@ -108,11 +95,7 @@ fn against(
     let mut kb = [0u64; MOST];
     match take_apart(b, &mut sb, &mut kb) {
         Ended::Records(m) => listing(a, sa, ka, n, b, &sb, &kb, m, first, second, places),
-        Ended::Bad(at) => Compared::Refused {
-            why: Refusal::CompareLog,
-            side: 2,
-            at,
-        },
+        Ended::Bad(at) => refused(Refusal::CompareLog, 2, at),
     }
 }
 
@@ -135,10 +118,6 @@ pub fn compare(
     let mut ka = [0u64; MOST];
     match take_apart(a, &mut sa, &mut ka) {
         Ended::Records(n) => against(a, &sa, &ka, n, b, first, second, places),
-        Ended::Bad(at) => Compared::Refused {
-            why: Refusal::CompareLog,
-            side: 1,
-            at,
-        },
+        Ended::Bad(at) => refused(Refusal::CompareLog, 1, at),
     }
 }

@@ -1,13 +1,10 @@
 -- The same bytes are the same list.
-use mathlib.Core.Path.{_≡_, refl, sym, ap, ap₂, _∙_, subst}
+use mathlib.Core.Path.{_≡_, refl, ap₂}
 use mathlib.Core.Bool.{Bool, true, false, _&&_}
 use mathlib.Core.List.{List, [], _∷_}
-use Prim.Native.Nat.{ℕ, _-_, _≤_, _<_}
-use native.Mathlib.Omega.{arith}
-use lib.ListN.{length, getD}
-use lib.Seq.{ext-getD}
+use Prim.Native.Nat.{ℕ, _-_}
 use lib.Dec.{eqb}
-use borrow.Author.Tests.{eq-eqb, eqb-true, eqb-false}
+use borrow.Author.Tests.{eq-eqb, eqb-true}
 use Rattle.compare_rules.specs.Records.{sameBytes}
 
 pub same-refl : (a : List ℕ) → sameBytes a a ≡ true

@@ -1,10 +1,10 @@
 -- Each refusal of a comparison exactly in its case and in 02's order, and then nothing changes.
-use mathlib.Core.Path.{_≡_, refl, sym, ap, _∙_, subst}
-use mathlib.Core.Logic.{_⊎_, inl, inr}
+use mathlib.Core.Path.{_≡_, refl, ap, subst}
+use mathlib.Core.Logic.{inl, inr}
 use mathlib.Core.Bool.{Bool, true, false, cond}
 use mathlib.Core.Option.{Option, none, some}
 use mathlib.Core.List.{List}
-use Prim.Native.Nat.{ℕ, _≤_, _<_}
+use Prim.Native.Nat.{ℕ}
 use native.Mathlib.Omega.{arith}
 use lib.ListN.{length}
 use lib.Dec.{ltb}
@@ -16,7 +16,7 @@ use Rattle.compare_rules.specs.declared.Compared.{Compared}
 use Rattle.compare_rules.specs.declared.Compared.the-variants.{Listed, Refused}
 use Rattle.compare_rules.specs.Places.{channels}
 use Rattle.compare_rules.specs.Compare.{most, recordsOf, brokenAt, unbroken, judged, listedOf, comparedOf, firstAfter, secondAfter, placesAfter}
-use Rattle.compare_rules.specs.Cases.{Broken, Sound, Many, Few, Short, Roomy, NoPlaces, Taken}
+use Rattle.compare_rules.specs.Cases.{Broken, Sound, Many, Short, NoPlaces, Taken}
 
 abbrev pub Exactly : Type 0 → Type 0 → Type 0
 Exactly A B = (A → B) × (B → A)

@@ -1,15 +1,15 @@
 -- How often a record stands in a list, and among its first.
-use mathlib.Core.Path.{_≡_, refl, sym, ap, _∙_, subst}
+use mathlib.Core.Path.{_≡_, refl, ap, _∙_, subst}
 use mathlib.Core.Bool.{Bool, true, false, cond}
 use mathlib.Core.List.{List, [], _∷_, _++_}
 use Prim.Native.Nat.{ℕ, zero, suc, _+_, _-_, _≤_, _<_}
 use native.Mathlib.Omega.{arith}
 use lib.ListN.{length, take, drop}
 use lib.Seq.{take-suc, take-add, take-length}
-use Rattle.log_records.specs.Record.{Rec, tick, frame}
+use Rattle.log_records.specs.Record.{Rec, tick}
 use Rattle.compare_rules.specs.Records.{same, at}
 use Rattle.compare_rules.specs.Surplus.{countOf}
-use Rattle.compare_rules.proofs.Sames.{rec-refl, rec-same, same-not, same-either}
+use Rattle.compare_rules.proofs.Sames.{rec-refl, rec-same, same-not}
 
 pub count-append : (r : Rec) (xs ys : List Rec) → countOf r (xs ++ ys) ≡ countOf r xs + countOf r ys
 unfolding countOf

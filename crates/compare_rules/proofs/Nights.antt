@@ -1,5 +1,5 @@
 -- The laws of a comparison on two lists of records: a frame and three ticks against a tick and another frame, on channels 0 and 1.
-use Prim.Native.Nat.{ℕ, _≤_, min}
+use Prim.Native.Nat.{_≤_, min}
 use native.Mathlib.Omega.{arith}
 use mathlib.Core.Path.{_≡_, refl}
 use mathlib.Core.Bool.{true}

@@ -7,7 +7,7 @@ use Prim.Native.Nat.{ℕ, zero, suc, _+_, _≤_, _<_}
 use native.Mathlib.Omega.{arith}
 use lib.ListN.{length, take, replicate}
 use lib.Dec.{eqb}
-use borrow.Author.Tests.{le-ltb, eq-eqb, ne-eqb, eqb-true, eqb-false}
+use borrow.Author.Tests.{le-ltb, eq-eqb, eqb-true, eqb-false}
 use Rattle.log_records.specs.Record.{Rec, tick, frame, AllLoggable}
 use Rattle.compare_rules.specs.Records.{same, channelOf, at}
 use Rattle.compare_rules.specs.Surplus.{countOf, surplusFrom, surplusOf}

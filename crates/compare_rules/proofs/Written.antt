@@ -1,17 +1,15 @@
 -- Logs as they are written: one of whole records is all its records, and one that ends in a piece of a record is broken at that piece's first byte,
 -- however many records stand before it.
-use mathlib.Core.Path.{_≡_, refl, sym, ap, ap₂, _∙_}
-use mathlib.Core.Bool.{Bool}
-use mathlib.Core.Option.{Option, none, some}
+use mathlib.Core.Path.{_≡_, refl, sym, ap, _∙_}
+use mathlib.Core.Option.{none, some}
 use mathlib.Core.List.{List, [], _∷_, _++_, append-assoc, append-nil}
 use Prim.Native.Nat.{ℕ, zero, suc, _+_, _-_, _≤_, _<_}
 use native.Mathlib.Omega.{arith}
 use lib.ListN.{length, take, replicate, length-append}
-use lib.Seq.{take-append-le, take-append-add}
-use lib.Dec.{leb, eqb}
+use lib.Seq.{take-append-add}
 use borrow.Author.Tests.{le-leb, lt-leb, ne-eqb}
 use Rattle.log_records.specs.Record.{Rec, Loggable, AllLoggable, recordBytes, logBytes}
-use Rattle.log_records.specs.Reading.{Log, ends, then, clean, piece, logOf, whole, wholly, recordsIn}
+use Rattle.log_records.specs.Reading.{logOf, whole, wholly, recordsIn}
 use Rattle.log_records.proofs.Logs.{log-reads, log-cut, records-whole}
 use Rattle.compare_rules.specs.Compare.{recordsOf, brokenAt}
 

@@ -7,7 +7,6 @@ use mathlib.Core.List.{List}
 use lib.ListN.{length}
 use lib.Seq.{sets}
 use lib.Dec.{ltb}
-use Rattle.refusals.specs.declared.Refusal.{Refusal}
 use Rattle.refusals.specs.declared.Refusal.the-variants.{ShortBuffer, CompareLog, CompareRecords, CompareRoom}
 use Rattle.log_records.specs.Record.{Rec}
 use Rattle.log_records.specs.Reading.{Log, ends, then, clean, piece, refused, logOf, recordsIn}

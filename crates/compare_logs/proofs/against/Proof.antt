@@ -1,11 +1,12 @@
 -- `compare_logs::against` meets its contract: a second log that is broken is refused, and one of all records is listed.
-use mathlib.Core.Path.{_≡_, refl, sym, ap, _∙_}
+use mathlib.Core.Path.{_≡_, sym, ap, _∙_}
 use lib.ListN.{length, length-replicate}
 use Prim.Native.Nat.{ℕ}
 use Rattle.compare_rules.specs.Compare.{recordsOf, judged, listedOf}
+use Rattle.refusals.specs.declared.Refusal.the-variants.{CompareLog}
 use Rattle.compare_logs.specs.declared.split.Ended.the-variants.{Records, Bad}
 use Rattle.compare_logs.proofs.Splits.{split-is}
-use Rattle.compare_logs.proofs.Ends.{none-broken, some-broken}
+use Rattle.compare_logs.proofs.Ends.{refusing, none-broken, some-broken}
 use borrow.Author.Needs.{needs}
 use native.Mathlib.Omega.{arith}
 use Rattle.compare_logs.proofs.against.Statement.{statement}
@@ -22,6 +23,9 @@ listing-requires c κs = (c .before .before .before .before .before .before .bef
 
 enum-known-at : tie.Need-enum-known-at
 enum-known-at c = search needs
+
+refused-requires : tie.Need-refused-requires
+refused-requires c κs = search needs
 
 same-length : tie.Need-same-length
 same-length c = search needs
@@ -40,7 +44,7 @@ returns c =
     (w .0 ∙ ap (λ (k : ℕ). judged (c .before .before .before .before .before .before .before .before .before .before .before .before .before .before .before .before .before .before .before .before .before .before .before .args .n) k (length (c .before .before .before .before .before .before .before .before .before .before .before .before .before .before .before .before .before .before .before .before .before .before .before .args .first .now)) (length (c .before .before .before .before .before .before .before .before .before .before .before .before .before .before .before .before .before .before .before .before .before .before .before .args .second .now)) (length (c .before .before .before .before .before .before .before .before .before .before .before .before .before .before .before .before .before .before .before .before .before .before .before .args .places .now)) (listedOf (recordsOf (c .before .before .before .before .before .before .before .before .before .before .before .before .before .before .before .before .before .before .before .before .before .before .before .args .a .now)) (recordsOf (c .before .before .before .before .before .before .before .before .before .before .before .before .before .before .before .before .before .before .before .before .before .before .before .args .b .now)))) e ∙ sym (none-broken 2 _ (q .0)), w .1, w .2, w .3)
 
 returns-2 : tie.Need-returns-2
-returns-2 c = (sym (some-broken 2 (c .before .at .given .0 .0) _ (split-is (c .before .before .before .before .before .before .before .before .before .before .before .args .b .now) (Bad (c .before .at .given .0 .0)) (c .before .before .before .take-apart .ensures .0) (c .before .at .given .1))), refl, refl, refl)
+returns-2 c = refusing (recordsOf (c .before .before .before .before .before .before .before .before .before .before .before .before .args .a .now)) (recordsOf (c .before .before .before .before .before .before .before .before .before .before .before .before .args .b .now)) (c .before .before .before .before .before .before .before .before .before .before .before .before .args .first .now) (c .before .before .before .before .before .before .before .before .before .before .before .before .args .second .now) (c .before .before .before .before .before .before .before .before .before .before .before .before .args .places .now) CompareLog 2 (c .before .before .at .given .0 .0) (c .refused .ensures) (some-broken 2 (c .before .before .at .given .0 .0) _ (split-is (c .before .before .before .before .before .before .before .before .before .before .before .before .args .b .now) (Bad (c .before .before .at .given .0 .0)) (c .before .before .before .before .take-apart .ensures .0) (c .before .before .at .given .1)))
 
 pub against-spec : {M : Type 1} → statement M
-against-spec = tie.close (tie.spec take-apart-requires enum-known-m listing-requires enum-known-at same-length same-length-2 same-length-3 returns returns-2)
+against-spec = tie.close (tie.spec take-apart-requires enum-known-m listing-requires enum-known-at refused-requires same-length same-length-2 same-length-3 returns returns-2)

@@ -1,12 +1,13 @@
 -- `compare_logs::compare` meets its contract: a first log that is broken is refused, and one of all records goes on against the second.
-use mathlib.Core.Path.{_≡_, refl, sym, ap, _∙_}
+use mathlib.Core.Path.{_≡_, sym, ap, _∙_}
 use lib.ListN.{length, length-replicate}
 use Prim.Native.Nat.{ℕ}
 use Rattle.log_records.specs.Reading.{logOf}
 use Rattle.compare_rules.specs.Compare.{recordsOf, brokenAt, unbroken, judged, listedOf, comparedOf}
+use Rattle.refusals.specs.declared.Refusal.the-variants.{CompareLog}
 use Rattle.compare_logs.specs.declared.split.Ended.the-variants.{Records, Bad}
 use Rattle.compare_logs.proofs.Splits.{split-is}
-use Rattle.compare_logs.proofs.Ends.{none-broken, some-broken}
+use Rattle.compare_logs.proofs.Ends.{refusing, none-broken, some-broken}
 use borrow.Author.Needs.{needs}
 use native.Mathlib.Omega.{arith}
 use Rattle.compare_logs.proofs.compare.Statement.{statement}
@@ -23,6 +24,9 @@ against-requires c κs = (omega (arith, split-is (c .before .before .before .bef
 
 enum-known-at : tie.Need-enum-known-at
 enum-known-at c = search needs
+
+refused-requires : tie.Need-refused-requires
+refused-requires c κs = search needs
 
 same-length : tie.Need-same-length
 same-length c = search needs
@@ -42,7 +46,7 @@ returns c = let q = split-is (c .before .before .before .before .before .before 
 
 returns-2 : tie.Need-returns-2
 unfolding comparedOf
-returns-2 c = (sym (some-broken 1 (c .before .at .given .0 .0) _ (split-is (c .before .before .before .before .before .before .before .before .before .before .before .args .a .now) (Bad (c .before .at .given .0 .0)) (c .before .before .before .take-apart .ensures .0) (c .before .at .given .1))), refl, refl, refl)
+returns-2 c = refusing (recordsOf (c .before .before .before .before .before .before .before .before .before .before .before .before .args .a .now)) (recordsOf (c .before .before .before .before .before .before .before .before .before .before .before .before .args .b .now)) (c .before .before .before .before .before .before .before .before .before .before .before .before .args .first .now) (c .before .before .before .before .before .before .before .before .before .before .before .before .args .second .now) (c .before .before .before .before .before .before .before .before .before .before .before .before .args .places .now) CompareLog 1 (c .before .before .at .given .0 .0) (c .refused .ensures) (some-broken 1 (c .before .before .at .given .0 .0) _ (split-is (c .before .before .before .before .before .before .before .before .before .before .before .before .args .a .now) (Bad (c .before .before .at .given .0 .0)) (c .before .before .before .before .take-apart .ensures .0) (c .before .before .at .given .1)))
 
 pub compare-spec : {M : Type 1} → statement M
-compare-spec = tie.close (tie.spec take-apart-requires enum-known-n against-requires enum-known-at same-length same-length-2 same-length-3 returns returns-2)
+compare-spec = tie.close (tie.spec take-apart-requires enum-known-n against-requires enum-known-at refused-requires same-length same-length-2 same-length-3 returns returns-2)

@@ -1,11 +1,8 @@
 -- `lent_compare::answer_word` meets its contract: the counts, or side and byte, in two places.
 use mathlib.Core.Path.{refl}
-use native.Mathlib.Omega.{arith}
 use borrow.Author.Needs.{needs}
 use Rattle.lent_compare.proofs.answer_word.Statement.{statement}
 use Rattle.lent_compare.proofs.answer_word.Tie as tie
-use Rattle.lent_compare.proofs.answer_word.Reads as reads
-use Rattle.lent_compare.proofs.answer_word.Lts as lts
 
 enum-known-r : tie.Need-enum-known-r
 enum-known-r c = search needs

@@ -3,12 +3,9 @@ use mathlib.Core.Path.{refl}
 use lib.ListN.{length}
 use borrow.Author.Tests.{lt-ltb}
 use Rattle.lent_compare.proofs.Answers.{told-word}
-use native.Mathlib.Omega.{arith}
 use borrow.Author.Needs.{needs}
 use Rattle.lent_compare.proofs.rokemaipu_compare.Statement.{statement}
 use Rattle.lent_compare.proofs.rokemaipu_compare.Tie as tie
-use Rattle.lent_compare.proofs.rokemaipu_compare.Reads as reads
-use Rattle.lent_compare.proofs.rokemaipu_compare.Lts as lts
 
 refusal-word-requires : tie.Need-refusal-word-requires
 refusal-word-requires c κs = search needs

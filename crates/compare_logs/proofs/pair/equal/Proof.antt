@@ -7,9 +7,6 @@ use native.Mathlib.Omega.{arith}
 use borrow.Author.Needs.{needs}
 use Rattle.compare_logs.proofs.pair.equal.Statement.{statement}
 use Rattle.compare_logs.proofs.pair.equal.Tie as tie
-use Rattle.compare_logs.proofs.pair.equal.Reads as reads
-use Rattle.compare_logs.proofs.pair.equal.Lts as lts
-use Rattle.compare_logs.proofs.pair.same_bytes.Reads as same-bytes-reads
 
 mul-if1 : tie.Need-mul-if1
 mul-if1 c = search needs

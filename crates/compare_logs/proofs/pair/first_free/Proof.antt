@@ -7,13 +7,9 @@ use lib.ListN.{getD}
 use borrow.Author.Count.{below-more}
 use Rattle.compare_rules.specs.Records.{same, at}
 use Rattle.compare_rules.specs.Compare.{recordsOf}
-use borrow.Author.Needs.{needs}
 use native.Mathlib.Omega.{arith}
 use Rattle.compare_logs.proofs.pair.first_free.Statement.{statement}
 use Rattle.compare_logs.proofs.pair.first_free.Tie as tie
-use Rattle.compare_logs.proofs.pair.first_free.Reads as reads
-use Rattle.compare_logs.proofs.pair.first_free.Lts as lts
-use Rattle.compare_logs.proofs.pair.equal.Reads as equal-reads
 
 abbrev Inv-loop : tie.InvT-loop
 Inv-loop a sa ka n i b sb kb m used low j₀ j = (j ≤ m) × ((l : ℕ) → l < j → low ≤ l → getD used l 0 ≡ 0 → same (at (recordsOf a) i) (at (recordsOf b) l) ≡ true → ⊥)

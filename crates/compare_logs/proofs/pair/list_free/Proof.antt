@@ -1,14 +1,9 @@
 -- `compare_logs::pair::list_free` meets its contract.
-use mathlib.Core.Path.{_≡_, refl}
-use Prim.Native.Nat.{ℕ, _-_, _≤_}
-use lib.ListN.{length}
+use Prim.Native.Nat.{_-_}
 use Rattle.compare_logs.proofs.Lists.{Listing, listing-start, listing-more, listing-skip, listing-end}
-use borrow.Author.Needs.{needs}
 use native.Mathlib.Omega.{arith}
 use Rattle.compare_logs.proofs.pair.list_free.Statement.{statement}
 use Rattle.compare_logs.proofs.pair.list_free.Tie as tie
-use Rattle.compare_logs.proofs.pair.list_free.Reads as reads
-use Rattle.compare_logs.proofs.pair.list_free.Lts as lts
 
 abbrev Inv-loop : tie.InvT-loop
 Inv-loop used m list₀ j₀ k₀ list j k = Listing used m list₀ list j k

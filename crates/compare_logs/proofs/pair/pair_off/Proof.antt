@@ -1,18 +1,12 @@
 -- `compare_logs::pair::pair_off` meets its contract.
 use mathlib.Core.Path.{subst}
-use Prim.Native.Nat.{ℕ, _-_, _≤_, _<_}
-use lib.ListN.{length}
+use Prim.Native.Nat.{ℕ, _-_}
 use Rattle.compare_rules.specs.Compare.{recordsOf}
 use Rattle.compare_logs.specs.Held.{FirstFree}
 use Rattle.compare_logs.proofs.Pairs.{Paired, pair-start, pair-found, pair-none, pair-end}
-use borrow.Author.Needs.{needs}
 use native.Mathlib.Omega.{arith}
 use Rattle.compare_logs.proofs.pair.pair_off.Statement.{statement}
 use Rattle.compare_logs.proofs.pair.pair_off.Tie as tie
-use Rattle.compare_logs.proofs.pair.pair_off.Reads as reads
-use Rattle.compare_logs.proofs.pair.pair_off.Lts as lts
-use Rattle.compare_logs.proofs.pair.first_free.Reads as first-free-reads
-use Rattle.compare_logs.proofs.pair.past_used.Reads as past-used-reads
 
 abbrev Inv-loop : tie.InvT-loop
 Inv-loop a sa ka n b sb kb m used₀ list₀ i₀ k₀ low₀ used list i k low = Paired (recordsOf a) (recordsOf b) list₀ used list i k low

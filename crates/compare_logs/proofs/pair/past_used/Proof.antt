@@ -1,15 +1,10 @@
 -- `compare_logs::pair::past_used` meets its contract.
-use mathlib.Core.Path.{_≡_}
-use Prim.Native.Nat.{ℕ, _-_, _≤_, _<_}
-use lib.ListN.{getD}
+use Prim.Native.Nat.{_-_, _≤_}
 use borrow.Author.Count.{below-more}
 use Rattle.compare_logs.specs.Held.{UsedBelow}
-use borrow.Author.Needs.{needs}
 use native.Mathlib.Omega.{arith}
 use Rattle.compare_logs.proofs.pair.past_used.Statement.{statement}
 use Rattle.compare_logs.proofs.pair.past_used.Tie as tie
-use Rattle.compare_logs.proofs.pair.past_used.Reads as reads
-use Rattle.compare_logs.proofs.pair.past_used.Lts as lts
 
 abbrev Inv-loop : tie.InvT-loop
 Inv-loop used low m i₀ i = (i ≤ m) × UsedBelow used i

@@ -1,13 +1,9 @@
 -- `compare_logs::pair::same_bytes` meets its contract.
 use Prim.Native.Nat.{_-_}
-use lib.ListN.{length}
 use Rattle.compare_logs.proofs.Bytes.{Same, same-short, same-more, same-stop, same-end}
-use borrow.Author.Needs.{needs}
 use native.Mathlib.Omega.{arith}
 use Rattle.compare_logs.proofs.pair.same_bytes.Statement.{statement}
 use Rattle.compare_logs.proofs.pair.same_bytes.Tie as tie
-use Rattle.compare_logs.proofs.pair.same_bytes.Reads as reads
-use Rattle.compare_logs.proofs.pair.same_bytes.Lts as lts
 
 abbrev Inv-loop : tie.InvT-loop
 Inv-loop a b i₀ i = Same a b i

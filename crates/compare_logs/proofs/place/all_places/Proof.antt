@@ -3,7 +3,6 @@ use lib.ListN.{length-replicate}
 use Prim.Native.Nat.{ℕ}
 use Rattle.compare_logs.proofs.Channels.{unseen}
 use borrow.Author.Needs.{needs}
-use native.Mathlib.Omega.{arith}
 use Rattle.compare_logs.proofs.place.all_places.Statement.{statement}
 use Rattle.compare_logs.proofs.place.all_places.Tie as tie
 

@@ -3,12 +3,9 @@ use mathlib.Core.Path.{refl}
 use Prim.Native.Nat.{_-_, _≤_}
 use Rattle.compare_logs.specs.Held.{Marked}
 use Rattle.compare_logs.proofs.Channels.{mark-more, mark-skip}
-use borrow.Author.Needs.{needs}
 use native.Mathlib.Omega.{arith}
 use Rattle.compare_logs.proofs.place.mark_channels.Statement.{statement}
 use Rattle.compare_logs.proofs.place.mark_channels.Tie as tie
-use Rattle.compare_logs.proofs.place.mark_channels.Reads as reads
-use Rattle.compare_logs.proofs.place.mark_channels.Lts as lts
 
 abbrev Inv-loop : tie.InvT-loop
 Inv-loop keys n seen₀ i₀ seen i = (i ≤ n) × Marked keys seen₀ seen i

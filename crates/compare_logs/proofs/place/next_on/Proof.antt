@@ -3,12 +3,9 @@ use mathlib.Core.Path.{_≡_}
 use Prim.Native.Nat.{ℕ, _-_, _≤_, _<_, _/_}
 use lib.ListN.{getD}
 use borrow.Author.Count.{below-more}
-use borrow.Author.Needs.{needs}
 use native.Mathlib.Omega.{arith}
 use Rattle.compare_logs.proofs.place.next_on.Statement.{statement}
 use Rattle.compare_logs.proofs.place.next_on.Tie as tie
-use Rattle.compare_logs.proofs.place.next_on.Reads as reads
-use Rattle.compare_logs.proofs.place.next_on.Lts as lts
 
 abbrev Inv-loop : tie.InvT-loop
 Inv-loop keys c from n i₀ i = (from ≤ i) × (i ≤ n) × ((j : ℕ) → j < i → from ≤ j → getD keys j 0 / 4294967296 ≡ c → ⊥)

@@ -1,17 +1,12 @@
 -- `compare_logs::place::place_of` meets its contract.
 use borrow.Author.Tests.{not-true, not-false}
-use mathlib.Core.Path.{_≡_, refl, sym, _∙_}
+use mathlib.Core.Path.{refl, sym, _∙_}
 use Prim.Native.Nat.{_-_, _+_, _≤_}
 use Rattle.compare_rules.specs.Compare.{recordsOf}
 use Rattle.compare_logs.proofs.Channels.{Placing, place-none, place-second, place-first, place-here, place-more}
-use borrow.Author.Needs.{needs}
 use native.Mathlib.Omega.{arith}
 use Rattle.compare_logs.proofs.place.place_of.Statement.{statement}
 use Rattle.compare_logs.proofs.place.place_of.Tie as tie
-use Rattle.compare_logs.proofs.place.place_of.Reads as reads
-use Rattle.compare_logs.proofs.place.place_of.Lts as lts
-use Rattle.compare_logs.proofs.pair.equal.Reads as equal-reads
-use Rattle.compare_logs.proofs.place.next_on.Reads as next-on-reads
 
 abbrev Inv-loop : tie.InvT-loop
 Inv-loop a sa ka n b sb kb m c x₀ y₀ k₀ x y k = (x ≤ n) × (y ≤ m) × (k ≤ x + 1) × Placing c (recordsOf a) (recordsOf b) x y k

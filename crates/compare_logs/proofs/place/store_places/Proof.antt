@@ -4,13 +4,9 @@ use Prim.Native.Nat.{_-_}
 use Rattle.compare_rules.specs.Places.{channels}
 use Rattle.compare_rules.specs.Compare.{recordsOf}
 use Rattle.compare_logs.proofs.Channels.{Storing, storing-more, storing-end}
-use borrow.Author.Needs.{needs}
 use native.Mathlib.Omega.{arith}
 use Rattle.compare_logs.proofs.place.store_places.Statement.{statement}
 use Rattle.compare_logs.proofs.place.store_places.Tie as tie
-use Rattle.compare_logs.proofs.place.store_places.Reads as reads
-use Rattle.compare_logs.proofs.place.store_places.Lts as lts
-use Rattle.compare_logs.proofs.place.place_of.Reads as place-of-reads
 
 abbrev Inv-loop : tie.InvT-loop
 Inv-loop a sa ka n b sb kb m seen places₀ c₀ places c = Storing (recordsOf a) (recordsOf b) places₀ places c

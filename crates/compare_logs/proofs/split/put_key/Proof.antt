@@ -5,8 +5,6 @@ use native.Mathlib.Omega.{arith}
 use borrow.Author.Needs.{needs}
 use Rattle.compare_logs.proofs.split.put_key.Statement.{statement}
 use Rattle.compare_logs.proofs.split.put_key.Tie as tie
-use Rattle.compare_logs.proofs.split.put_key.Reads as reads
-use Rattle.compare_logs.proofs.split.put_key.Lts as lts
 
 mul-keys : tie.Need-mul-keys
 mul-keys c = search needs

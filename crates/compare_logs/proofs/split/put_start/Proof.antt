@@ -5,8 +5,6 @@ use native.Mathlib.Omega.{arith}
 use borrow.Author.Needs.{needs}
 use Rattle.compare_logs.proofs.split.put_start.Statement.{statement}
 use Rattle.compare_logs.proofs.split.put_start.Tie as tie
-use Rattle.compare_logs.proofs.split.put_start.Reads as reads
-use Rattle.compare_logs.proofs.split.put_start.Lts as lts
 
 mul-starts : tie.Need-mul-starts
 mul-starts c = search needs

@@ -1,17 +1,12 @@
 -- `compare_logs::split::take_apart` meets its contract.
 use mathlib.Core.Path.{refl}
-use Prim.Native.Nat.{_-_, _+_, _*_}
-use lib.ListN.{length, set}
+use Prim.Native.Nat.{_-_}
+use lib.ListN.{length}
 use Rattle.compare_logs.proofs.Splits.{Told, told-start, told-more, told-end, told-cut, told-refused, told-all, told-by}
 use borrow.Author.Needs.{needs}
 use native.Mathlib.Omega.{arith}
 use Rattle.compare_logs.proofs.split.take_apart.Statement.{statement}
 use Rattle.compare_logs.proofs.split.take_apart.Tie as tie
-use Rattle.compare_logs.proofs.split.take_apart.Reads as reads
-use Rattle.compare_logs.proofs.split.take_apart.Lts as lts
-use Rattle.compare_logs.proofs.split.put_key.Reads as put-key-reads
-use Rattle.compare_logs.proofs.split.put_start.Reads as put-start-reads
-use Rattle.log_read.proofs.record_at.Reads as record-at-reads
 
 abbrev Inv-loop : tie.InvT-loop
 Inv-loop s starts₀ keys₀ at₀ n₀ starts keys at n = Told s starts keys at n
