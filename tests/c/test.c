@@ -14,7 +14,7 @@ static bool same_table(const rokemaipu_table *a, const rokemaipu_table *b) { ret
 
 static void layout(void) {
     IS(rokemaipu_layout(), ROKEMAIPU_LAYOUT);
-    IS(rokemaipu_layout(), 3976 + 8 * (1ull << 32) + 12 * (1ull << 40) + 1 * (1ull << 48));
+    IS(rokemaipu_layout(), 3976 + 8 * (1ull << 32) + 12 * (1ull << 40) + 2 * (1ull << 48));
     rokemaipu_table t, zero;
     memset(&t, 0, sizeof t);
     memset(&zero, 0, sizeof zero);
@@ -439,6 +439,10 @@ static void full_counts(void) {
         IS(rokemaipu_tick(&t, 6, 0), R(1));
         IS(rokemaipu_refused(&t), UINT32_MAX);
     }
+    t.refused = UINT64_MAX - 1; /* a table of one's own making */
+    IS(rokemaipu_refused(&t), UINT32_MAX);
+    IS(rokemaipu_tick(&t, 6, 0), R(1));
+    IS(t.refused, UINT64_MAX - 1);
     puts("full counts: 25 behind 4,294,967,295, after all other refusals; the refused count stays there");
 }
 

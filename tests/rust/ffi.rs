@@ -81,7 +81,7 @@ pub struct Replay {
 }
 
 /// What `rokemaipu_layout` answers where the library has this table.
-pub const LAYOUT: u64 = std::mem::size_of::<Table>() as u64 + ((POSTS as u64) << 32) + ((KINDS as u64) << 40) + (1 << 48);
+pub const LAYOUT: u64 = std::mem::size_of::<Table>() as u64 + ((POSTS as u64) << 32) + ((KINDS as u64) << 40) + (2 << 48);
 
 impl Table {
     /// Zeroed memory is the empty table.
