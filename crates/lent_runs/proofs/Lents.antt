@@ -11,8 +11,8 @@ use Rattle.plain_words.proofs.WordLaws.{word-tells}
 use Rattle.watch_rules.specs.declared.Table.{Table}
 use Rattle.watch_rules.specs.declared.Answer.the-variants.{Findings, Refused}
 use Rattle.watch_rules.specs.declared.Setting.the-variants as setting
-use Rattle.watch_rules.specs.Run.{Request, setUp, release, frame, tick, Reply, set, fed, reply, next, run, reply01, accepted, isRefusal}
-use Rattle.watch_rules.proofs.Refusing.{refused-table}
+use Rattle.watch_rules.specs.Run.{Request, setUp, release, frame, tick, Reply, set, fed, reply, next, run, reply01, accepted, afterRefusal, isRefusal}
+use Rattle.watch_rules.proofs.Refusing.{refused-table, refused-posts}
 use Rattle.watch_rules.proofs.Demand.{every-answer}
 use Rattle.lent_words.specs.Lent.{startOf, setUpWord, releaseWord}
 use Rattle.lent_step.specs.Fed.{frameWord, tickWord}
@@ -55,16 +55,24 @@ accepted-not (set (setting.Refused w)) = refl
 accepted-not (fed (Findings n)) = refl
 accepted-not (fed (Refused w)) = refl
 
--- "Below 65,536 a call was accepted; from there on .. nothing was changed" (the header), of every table
+-- "Below 65,536 a call was accepted" (the header), of every table
 pub word-told : (t : Table) (a : Request) → ltb (lentBy t a .answer) 65536 ≡ not (isRefusal (reply t a))
 word-told t a = lent-told t a .told ∙ accepted-not (reply t a)
 
-pub lent-refused : (t : Table) (a : Request) → 65536 ≤ lentBy t a .answer → lentBy t a .table ≡ t
-lent-refused t a l = lent-next t a ∙ refused-table t a (refused (isRefusal (reply t a)) refl)
+refusal-told : (t : Table) (a : Request) → 65536 ≤ lentBy t a .answer → isRefusal (reply t a) ≡ true
+refusal-told t a l = go (isRefusal (reply t a)) refl
   where
-    refused : (b : Bool) → isRefusal (reply t a) ≡ b → b ≡ true
-    refused true e = refl
-    refused false e = absurd (let z : ⊥ = omega (arith, ltb-true (lentBy t a .answer) 65536 (word-told t a ∙ ap not e)) in z)
+    go : (b : Bool) → isRefusal (reply t a) ≡ b → isRefusal (reply t a) ≡ true
+    go true e = e
+    go false e = absurd (let z : ⊥ = omega (arith, ltb-true (lentBy t a .answer) 65536 (word-told t a ∙ ap not e)) in z)
+
+-- from there on a set-up or a release left the table as it was, and a frame or a tick with one more refused
+pub lent-refused : (t : Table) (a : Request) → 65536 ≤ lentBy t a .answer → lentBy t a .table ≡ afterRefusal t a
+lent-refused t a l = lent-next t a ∙ refused-table t a (refusal-told t a l)
+
+-- so that every post is as it was
+pub refused-left : (t : Table) (a : Request) → 65536 ≤ lentBy t a .answer → lentBy t a .table .posts ≡ t .posts
+refused-left t a l = ap (λ (u : Table). u .posts) (lent-next t a) ∙ refused-posts t a (refusal-told t a l)
 
 -- ---- any requests
 

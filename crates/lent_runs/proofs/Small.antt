@@ -4,8 +4,7 @@ use Prim.Native.Nat.{ℕ, _+_, _<_, _≤_}
 use native.Mathlib.Omega.{arith}
 use mathlib.Core.Bool.{Bool, true, false, not, _&&_}
 use lib.Dec.{eqb, ltb}
-use Rattle.refusals.specs.declared.Refusal.the-variants.{ChannelFree, Earlier}
-use Rattle.refusals.specs.Refusals.{startOf}
+use Rattle.refusals.specs.declared.Refusal.the-variants.{ChannelFree, Earlier, CountFull}
 use Rattle.page_read.specs.declared.Judged.{Judged}
 use Rattle.page_read.specs.declared.Judged.the-variants as judged
 use Rattle.page_read.specs.Judge.{judgeOf}
@@ -19,7 +18,7 @@ use Rattle.message_types.specs.declared.NewChargeSession.{NewChargeSession}
 use Rattle.rule_limits.specs.Sensor.{sensorOf}
 use Rattle.rule_asks.specs.Judgements.{isClose, isPowered, isOff, lowersBadly, outside, badInsulation, differs, isSet, bit}
 use Rattle.message_parts.specs.Parts.{statusKind, sessionKind, controlKind, finishedKind, statusIn, sessionIn, controlIn}
-use Rattle.rules.specs.After.{silentIn, lateAfter, limitIn, unreadyIn, carryingIn, anyFindings, controlFindings, statusFindings, openingFindings, finishedFindings, messageFindings, afterTick, afterFrame, agedTo, stampIn, isEarly}
+use Rattle.rules.specs.After.{silentIn, lateAfter, limitIn, unreadyIn, carryingIn, anyFindings, controlFindings, statusFindings, openingFindings, finishedFindings, messageFindings, isFullIn, afterTick, afterFrame, agedTo, stampIn, isEarly}
 use Rattle.watch_rules.specs.declared.Table.{Table}
 use Rattle.watch_rules.specs.declared.Answer.{Answer}
 use Rattle.watch_rules.specs.declared.Answer.the-variants.{Findings, Refused}
@@ -106,11 +105,26 @@ abbrev pub Found : Answer → Type 0
 Found (Findings n) = n ≤ 2047
 Found (Refused w) = Unit {0}
 
-heard-small : (p : Head) (t : ℕ) (a : Arrival) → Found (judgedOf p t a .answer)
-unfolding afterTick afterFrame
-heard-small p t Tick = omega (arith, any-small (agedTo p (stampIn p t)))
-heard-small p t (Frame k n) = omega (arith, any-small (agedTo p (stampIn p t)), message-small (agedTo p (stampIn p t)) k n)
-heard-small p t (Unread w) = tt
+tick-small : (p : Head) (t : ℕ) → afterTick p t .findings ≤ 2047
+unfolding afterTick
+tick-small p t = omega (arith, any-small (agedTo p (stampIn p t)))
+
+frame-small : (p : Head) (t k n : ℕ) → afterFrame p t k n .findings ≤ 2047
+unfolding afterFrame
+frame-small p t k n = omega (arith, any-small (agedTo p (stampIn p t)), message-small (agedTo p (stampIn p t)) k n)
+
+-- an arrival that is not read is refused with what P holds of
+abbrev pub Reads : (Answer → Type 0) → Arrival → Type 0
+Reads P Tick = Unit {0}
+Reads P (Frame k n) = Unit {0}
+Reads P (Unread w) = P (Refused w)
+
+-- what holds of 25, of any findings up to 2,047 and of what is not read holds of a head's answer
+judged-says : (P : Answer → Type 0) → P (Refused CountFull) → ((n : ℕ) → n ≤ 2047 → P (Findings n)) → (p : Head) (t : ℕ) (a : Arrival) → Reads P a
+    → P (judgedOf p t a .answer)
+judged-says P full found p t Tick l = either (λ (r : Heard). P (r .answer)) (isFullIn p) full (found _ (tick-small p t))
+judged-says P full found p t (Frame k n) l = either (λ (r : Heard). P (r .answer)) (isFullIn p) full (found _ (frame-small p t k n))
+judged-says P full found p t (Unread w) l = l
 
 -- what holds of 1, of 2 and of whatever a head answers holds of the table's answer
 feed-says : (P : Answer → Type 0) (t : Table) (c time : ℕ) (a : Arriving) → P (Refused ChannelFree) → P (Refused Earlier)
@@ -124,29 +138,27 @@ feed-says P t c time a free early heard =
     free)
     free
 
+any-reads : (a : Arrival) → Reads Found a
+any-reads Tick = tt
+any-reads (Frame k n) = tt
+any-reads (Unread w) = tt
+
 pub found-small : (t : Table) (c time : ℕ) (a : Arriving) → Found (feedOf t c time a .answer)
-found-small t c time a = feed-says Found t c time a tt tt (λ p. heard-small p time (a (p .limits)))
+found-small t c time a = feed-says Found t c time a tt tt (λ p. judged-says Found tt (λ n l. l) p time (a (p .limits)) (any-reads (a (p .limits))))
 
 -- ---- what comes to a word, of any table
 
--- an arrival that is not read is refused with the start of a row, or with none
-abbrev pub Readable : Arrival → Type 0
-Readable Tick = Unit {0}
-Readable (Frame k n) = Unit {0}
-Readable (Unread w) = startOf w < 64
+abbrev FedWithin : Answer → Type 0
+FedWithin r = Within 2047 (answerOutcome r)
 
-frame-readable : (j : Judged) → SmallJudged j → Readable (arrivalOf j)
+-- an arrival that is not read is refused with the start of a row, or with none
+frame-readable : (j : Judged) → SmallJudged j → Reads FedWithin (arrivalOf j)
 frame-readable (judged.Frame k n) l = tt
 frame-readable (judged.Refused w) l = l
 
-heard-within : (p : Head) (t : ℕ) (a : Arrival) → Readable a → Within 2047 (answerOutcome (judgedOf p t a .answer))
-heard-within p t Tick l = heard-small p t Tick
-heard-within p t (Frame k n) l = heard-small p t (Frame k n)
-heard-within p t (Unread w) l = l
-
-fed-within : (t : Table) (c time : ℕ) (a : Arriving) → ((lim : PlainLimits) → Readable (a lim)) → Within 2047 (answerOutcome (feedOf t c time a .answer))
+fed-within : (t : Table) (c time : ℕ) (a : Arriving) → ((lim : PlainLimits) → Reads FedWithin (a lim)) → FedWithin (feedOf t c time a .answer)
 fed-within t c time a l =
-    feed-says (λ (r : Answer). Within 2047 (answerOutcome r)) t c time a (omega arith) (omega arith) (λ p. heard-within p time (a (p .limits)) (l (p .limits)))
+    feed-says FedWithin t c time a (omega arith) (omega arith) (λ p. judged-says FedWithin (omega arith) (λ n m. m) p time (a (p .limits)) (l (p .limits)))
 
 abbrev SetWithin : Settled → Type 0
 SetWithin r = Within 0 (settingOutcome (r .answer))
