@@ -124,7 +124,7 @@ module _ (t : Table) (s ws : List ℕ) where
   accepted-answers k = by-why s (length ws) (λ o. answersBy o t heard ws ≡ wordsOf t heard ++ drop (length heard) ws)
       (λ l. absurd (omega (arith, k .0))) (λ b. differ s (length ws) (sym (k .1) ∙ b .1)) (λ r. absurd (omega (arith, r .2, k .2))) (λ k. refl)
 
-  -- "and nothing changes"
+  -- "and nothing changes", the table's count of what was refused neither
   pub refused-nothing : 65536 ≤ batchOf t s (length ws) .answer → (batchOf t s (length ws) .table ≡ t) × (answersAfter t s ws ≡ ws)
   unfolding batchOf answersAfter
   refused-nothing = by-why s (length ws) (λ o. 65536 ≤ batchBy o t heard .answer → (batchBy o t heard .table ≡ t) × (answersBy o t heard ws ≡ ws))

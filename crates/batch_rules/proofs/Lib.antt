@@ -1,3 +1,4 @@
 pub mod Laws
 pub mod Flat
+pub mod Counted
 pub mod Night

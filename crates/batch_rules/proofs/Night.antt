@@ -1,8 +1,8 @@
 -- The laws of batches on a night: post 0 is set up on channel 4; a batch opens a session, ticks, and hears a tick on a channel that nobody holds; a
 -- second one ends in a cut record and is refused; then a tick comes singly.
-use Prim.Native.Nat.{ℕ, _+_}
+use Prim.Native.Nat.{ℕ, _+_, min}
 use native.Mathlib.Omega.{arith}
-use mathlib.Core.Path.{_≡_, refl, ap, _∙_}
+use mathlib.Core.Path.{_≡_, refl, ap, sym, _∙_}
 use mathlib.Core.Bool.{true}
 use mathlib.Core.List.{List, [], _∷_}
 use lib.ListN.{length, replicate, length-replicate}
@@ -20,6 +20,7 @@ use Rattle.rule_limits.specs.Limits.{limitsFit}
 use Rattle.rule_asks.specs.Judgements.{lowersBadly, outside, leaking, badInsulation, differs}
 use Rattle.rules.specs.History.{sinceFinished, opening, inSession, earlierIn}
 use Rattle.rules.specs.Rules.{sessionStatus, sessionControl, limitOf, f1, f2, f3, f4, f5, f6, f7, f8, f9, f10, f11, findings01}
+use Rattle.rules.specs.Counts.{largest}
 use Rattle.log_numbers.specs.Number.{groups, readGroups}
 use Rattle.log_records.specs.Record.{Rec, AllLoggable, recordBytes, logBytes}
 use Rattle.log_records.specs.Record as rec
@@ -27,7 +28,7 @@ use Rattle.log_records.specs.Reading.{lengthPart, identifierPart, channelPart, 
 use Rattle.watch_rules.specs.declared.Table.{Table}
 use Rattle.watch_rules.specs.Table.{lookUpOf}
 use Rattle.watch_rules.specs.Steps.{standing, findFrom, holder, otherHolds, feed01, setUp01, lookUp01, feedSteps, setUpSteps}
-use Rattle.watch_rules.specs.Run.{Request, setUp, frame, tick, run, reply01, accepted}
+use Rattle.watch_rules.specs.Run.{Request, setUp, frame, tick, run, reply01, accepted, handedIn, refusedEver, acceptedEver}
 use Rattle.watch_rules.proofs.Demand.{every-record}
 use Rattle.lent_runs.specs.Runs.{lentBy, wordOf}
 use Rattle.batch_rules.specs.Batch.{isWhole, whyBatch, tableAfter, wordsOf, batchOf, answersAfter}
@@ -35,6 +36,7 @@ use Rattle.batch_rules.specs.Cases.{Broken}
 use Rattle.batch_rules.specs.Runs.{Asked, single, batch, askedRun, withRecords, flat, words01}
 use Rattle.batch_rules.proofs.Laws.{refused-22, refused-23, refused-24, refused-nothing, written-batch}
 use Rattle.batch_rules.proofs.Flat.{flat-run, flat-words, flat-answer}
+use Rattle.batch_rules.proofs.Counted.{flat-handed, asked-refused, asked-handed}
 
 abbrev limits : PlainLimits
 limits = record { voltage = 5000; charge = 1000; discharge = 500; silence = 500; sensor = 0 }
@@ -78,6 +80,10 @@ computed : (words01 (setUp 0 4 limits ∷ []) three ≡ 0 ∷ 0 ∷ 65537 ∷ []
 unfolding words01 standing findFrom holder otherHolds feed01 setUp01 lookUp01 feedSteps setUpSteps limitsFit accepted sinceFinished opening inSession earlierIn lowersBadly outside leaking badInsulation differs sessionStatus sessionControl limitOf f1 f2 f3 f4 f5 f6 f7 f8 f9 f10 f11 findings01 rows ofKind firstAt covered unlabelled strayBelow judgedNumber judgeOf wholesOf pad rawsOf getBits leNumber toSigned statusIn parametersIn sessionIn controlIn
 computed = (refl, refl)
 
+counted : (min (refusedEver alone) largest ≡ 1) × (acceptedEver alone ≡ 2) × (refusedEver alone ≡ 1)
+unfolding standing findFrom holder otherHolds feed01 setUp01 lookUp01 feedSteps setUpSteps limitsFit accepted sinceFinished opening inSession earlierIn lowersBadly outside leaking badInsulation differs sessionStatus sessionControl limitOf f1 f2 f3 f4 f5 f6 f7 f8 f9 f10 f11 findings01 rows ofKind firstAt covered unlabelled strayBelow judgedNumber judgeOf wholesOf pad rawsOf getBits leNumber toSigned statusIn parametersIn sessionIn controlIn
+counted = (refl, refl, refl)
+
 module _ (t : Table) where
   -- the first batch answers nothing found, nothing found, and 1 for the channel that nobody holds
   pub night-words : wordsOf (askedRun t before) (recordsIn (logOf bytes)) ≡ 0 ∷ 0 ∷ 65537 ∷ []
@@ -91,6 +97,16 @@ module _ (t : Table) where
   -- and demand 3 has the post's record
   pub night-record : lookUpOf (askedRun t night) 0 ≡ lookUp01 (accepted alone) 0
   night-record = ap (λ (u : Table). lookUpOf u 0) (flat-run t night) ∙ ap (λ (rs : List Request). lookUpOf (run rs) 0) night-flat ∙ every-record alone 0
+
+  -- 02, Req 08: the tick on channel 9 was refused and is counted, and the refused batch handed in nothing
+  pub night-refused : askedRun t night .refused ≡ 1
+  night-refused = asked-refused t night ∙ ap (λ (rs : List Request). min (refusedEver rs) largest) night-flat ∙ counted .0
+
+  pub night-handed : 2 + askedRun t night .refused ≡ 3
+  night-handed =
+      ap (λ (n : ℕ). n + askedRun t night .refused) (sym (counted .1) ∙ ap acceptedEver (sym night-flat))
+      ∙ asked-handed t night (omega (arith, ap refusedEver night-flat, counted .2))
+      ∙ sym (flat-handed night) ∙ ap handedIn night-flat
 
 -- ---- the premises of the other laws hold there
 
