@@ -1,4 +1,4 @@
--- The posts of a table in two lists, and a record fed to them: it is the single call.
+-- The posts of a table in two lists, the count of what it refused beside them, and a record fed to them: it is the single call.
 use Prim.Native.Nat.{ℕ, zero, suc, _≤_, _<_}
 use native.Mathlib.Omega.{arith}
 use mathlib.Core.Path.{_≡_, refl, ap, sym, _∙_}
@@ -13,12 +13,12 @@ use Rattle.rules.specs.declared.Head.{Head}
 use Rattle.rules.specs.declared.Slot.{Slot}
 use Rattle.rules.specs.declared.Post.{Post}
 use Rattle.rules.specs.Record.{kindCount}
-use Rattle.rules.specs.After.{isEarly, afterTick, afterFrame, agedTo, withFrame, keepIn}
+use Rattle.rules.specs.After.{isEarly, isFullIn, afterTick, afterFrame, agedTo, withFrame, withCounts, keepIn}
 use Rattle.watch_rules.specs.declared.Table.{Table}
 use Rattle.watch_rules.specs.declared.Heard.{Heard}
 use Rattle.watch_rules.specs.declared.Arrival.{Arrival}
 use Rattle.watch_rules.specs.declared.Arrival.the-variants.{Tick, Frame, Unread}
-use Rattle.watch_rules.specs.Table.{postCount, isChannel, holds, placeOf, somePlace, noHead, noPost, postIn, judgedOf, heardOf, arrivalFor}
+use Rattle.watch_rules.specs.Table.{postCount, isChannel, holds, placeOf, somePlace, noHead, noPost, postIn, judgedOf, heardOf, arrivalFor, refusedAfter}
 use Rattle.lent_words.specs.declared.Lent.{Lent}
 use Rattle.lent_words.specs.Words.{answerWord}
 use Rattle.lent_step.specs.One.{wordedBy, lentAt}
@@ -72,9 +72,9 @@ either P true p q = p
 either P false p q = q
 
 judged-holds : (h : Head) (time d : ℕ) (a : Arrival) → holds (judgedOf h time a .head) d ≡ holds h d
-unfolding afterTick afterFrame agedTo withFrame
-judged-holds h time d Tick = refl
-judged-holds h time d (Frame k n) = refl
+unfolding afterTick afterFrame agedTo withFrame withCounts
+judged-holds h time d Tick = either (λ (r : Heard). holds (r .head) d ≡ holds h d) (isFullIn h) refl refl
+judged-holds h time d (Frame k n) = either (λ (r : Heard). holds (r .head) d ≡ holds h d) (isFullIn h) refl refl
 judged-holds h time d (Unread w) = refl
 
 heard-holds : (h : Head) (c time d : ℕ) (a : Arrival) → holds (heardOf h c time a .head) d ≡ holds h d
@@ -105,11 +105,11 @@ abbrev pub channelOf : Rec → ℕ
 channelOf (tick time c) = c
 channelOf (frame time c x m bs) = c
 
-module _ (hs : List Head) (ls : List (List Slot)) (i : ℕ) (low : i < length hs) (row : i < length ls) where
+module _ (hs : List Head) (ls : List (List Slot)) (n i : ℕ) (low : i < length hs) (row : i < length ls) where
   abbrev table : Table
-  table = record { posts = joined hs ls }
+  table = record { posts = joined hs ls; refused = n }
 
-  -- the two lists with what the post at i heard
+  -- the two lists with what the post at i heard, and the count
   abbrev pub headsBy : Heard → List Head
   headsBy w = set hs i (w .head)
 
@@ -117,18 +117,18 @@ module _ (hs : List Head) (ls : List (List Slot)) (i : ℕ) (low : i < length hs
   latestBy w = set ls i (keepIn (getD ls i []) (w .at) (w .slot))
 
   abbrev pub lentBack : Heard → Lent
-  lentBack w = record { table = record { posts = joined (headsBy w) (latestBy w) }; answer = answerWord (w .answer) }
+  lentBack w = record { table = record { posts = joined (headsBy w) (latestBy w); refused = refusedAfter n (w .answer) }; answer = answerWord (w .answer) }
 
-  stored-back : (f : Head → Heard) → lentAt table i (wordedBy (f (postIn table i .head))) ≡ lentBack (f (getD hs i noHead))
+  stored-back : (f : Head → Heard) → lentAt table i (wordedBy n (f (postIn table i .head))) ≡ lentBack (f (getD hs i noHead))
   stored-back f =
       let w = f (getD hs i noHead) in
-      rw (joined-at hs ls i low row) (ap (λ (ps : List Post). record { table = record { posts = ps }; answer = answerWord (w .answer) }) (sym (joined-set hs ls i (w .head) (keepIn (getD ls i []) (w .at) (w .slot)))))
+      rw (joined-at hs ls i low row) (ap (λ (ps : List Post). record { table = record { posts = ps; refused = refusedAfter n (w .answer) }; answer = answerWord (w .answer) }) (sym (joined-set hs ls i (w .head) (keepIn (getD ls i []) (w .at) (w .slot)))))
 
   pub called-same : (r : Rec) → i ≡ somePlace (joined hs ls) (channelOf r) → calledWith table r ≡ lentBack (heardBy (getD hs i noHead) r)
   called-same (tick time c) e =
-      sym (tick-same table c time) ∙ ap (λ (j : ℕ). lentAt table j (wordedBy (heardBy (postIn table j .head) (tick time c)))) (sym e) ∙ stored-back (λ h. heardBy h (tick time c))
+      sym (tick-same table c time) ∙ ap (λ (j : ℕ). lentAt table j (wordedBy n (heardBy (postIn table j .head) (tick time c)))) (sym e) ∙ stored-back (λ h. heardBy h (tick time c))
   called-same (frame time c x m bs) e =
-      sym (frame-same table c time m x bs) ∙ ap (λ (j : ℕ). lentAt table j (wordedBy (heardBy (postIn table j .head) (frame time c x m bs)))) (sym e) ∙ stored-back (λ h. heardBy h (frame time c x m bs))
+      sym (frame-same table c time m x bs) ∙ ap (λ (j : ℕ). lentAt table j (wordedBy n (heardBy (postIn table j .head) (frame time c x m bs)))) (sym e) ∙ stored-back (λ h. heardBy h (frame time c x m bs))
 
   pub places-same : (r : Rec) (c : ℕ) → somePlace (joined (headsBy (heardBy (getD hs i noHead) r)) (latestBy (heardBy (getD hs i noHead) r))) c ≡ somePlace (joined hs ls) c
   unfolding somePlace

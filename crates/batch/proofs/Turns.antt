@@ -21,7 +21,7 @@ use Rattle.log_read.proofs.Scans.{logAt, unroll}
 use Rattle.rules.specs.declared.Head.{Head}
 use Rattle.rules.specs.declared.Slot.{Slot}
 use Rattle.watch_rules.specs.declared.Table.{Table}
-use Rattle.watch_rules.specs.Table.{postCount, noHead, somePlace}
+use Rattle.watch_rules.specs.Table.{postCount, noHead, somePlace, refusedAfter}
 use Rattle.lent_words.specs.declared.Lent.{Lent}
 use Rattle.watch_rules.specs.declared.Heard.{Heard}
 use Rattle.lent_words.specs.Words.{answerWord}
@@ -54,17 +54,17 @@ module _ (t : Table) (s a₀ : List ℕ) where
   abbrev all : List Rec
   all = recordsIn (logOf s)
 
-  abbrev posts : List Head → List (List Slot) → Table
-  posts hs ls = record { posts = joined hs ls }
+  abbrev table : List Head → List (List Slot) → ℕ → Table
+  table hs ls m = record { posts = joined hs ls; refused = m }
 
-  -- after n records, at byte `at`, with the posts in two lists and the answers a
-  abbrev pub FedSo : List ℕ → List Head → List (List Slot) → ℕ → ℕ → Type 0
-  FedSo a hs ls at n =
+  -- after n records, at byte `at`, with the posts in two lists, m frames and ticks refused so far, and the answers a
+  abbrev pub FedSo : List ℕ → List Head → List (List Slot) → ℕ → ℕ → ℕ → Type 0
+  FedSo a hs ls m at n =
       (length hs ≡ postCount) × (length ls ≡ postCount) × (length a ≡ length a₀) × (n + length (left at) ≤ length a₀)
       × ((c : ℕ) → somePlace (joined hs ls) c ≡ somePlace (t .posts) c)
-      × (tableAfter (posts hs ls) (left at) ≡ tableAfter t all) × (sets a n (wordsOf (posts hs ls) (left at)) ≡ sets a₀ 0 (wordsOf t all))
+      × (tableAfter (table hs ls m) (left at) ≡ tableAfter t all) × (sets a n (wordsOf (table hs ls m) (left at)) ≡ sets a₀ 0 (wordsOf t all))
 
-  module _ (a : List ℕ) (hs : List Head) (ls : List (List Slot)) (at n : ℕ) (so : FedSo a hs ls at n) where
+  module _ (a : List ℕ) (hs : List Head) (ls : List (List Slot)) (m at n : ℕ) (so : FedSo a hs ls m at n) where
     module _ (e : Entry) (here : foundAt s at ≡ found.Record e) where
       more : left at ≡ recOf s e ∷ left (e .next)
       unfolding recordsIn
@@ -84,51 +84,52 @@ module _ (t : Table) (s a₀ : List ℕ) where
         abbrev heard : Heard
         heard = heardBy (getD hs i noHead) (recOf s e)
 
-        call : calledWith (posts hs ls) (recOf s e) ≡ lentBack hs ls i low-head low-row heard
+        call : calledWith (table hs ls m) (recOf s e) ≡ lentBack hs ls m i low-head low-row heard
         call =
-            called-same hs ls i low-head low-row (recOf s e)
+            called-same hs ls m i low-head low-row (recOf s e)
             (at-place ∙ sym (so .4 (e .channel)) ∙ ap (somePlace (joined hs ls)) (sym (channel-is s e)))
 
-        fed : FedSo (set a n (answerWord (heard .answer))) (headsBy hs ls i low-head low-row heard) (latestBy hs ls i low-head low-row heard) (e .next) (n + 1)
+        fed : FedSo (set a n (answerWord (heard .answer))) (headsBy hs ls m i low-head low-row heard) (latestBy hs ls m i low-head low-row heard) (refusedAfter m (heard .answer)) (e .next) (n + 1)
         unfolding tableAfter wordsOf
         fed = (
           length-set hs i (heard .head) ∙ so .0,
           length-set ls i _ ∙ so .1,
           length-set a n (answerWord (heard .answer)) ∙ so .2,
           omega (arith, ap length more, so .3),
-          λ c. places-same hs ls i low-head low-row (recOf s e) c ∙ so .4 c,
-          ap (λ (r : Lent). tableAfter (r .table) (left (e .next))) (sym call) ∙ sym (ap (tableAfter (posts hs ls)) more) ∙ so .5,
-          rw (add-one n) (ap (λ (r : Lent). sets (set a n (r .answer)) (suc n) (wordsOf (r .table) (left (e .next)))) (sym call)) ∙ sym (ap (λ (xs : List Rec). sets a n (wordsOf (posts hs ls) xs)) more) ∙ so .6,
+          λ c. places-same hs ls m i low-head low-row (recOf s e) c ∙ so .4 c,
+          ap (λ (r : Lent). tableAfter (r .table) (left (e .next))) (sym call) ∙ sym (ap (tableAfter (table hs ls m)) more) ∙ so .5,
+          rw (add-one n) (ap (λ (r : Lent). sets (set a n (r .answer)) (suc n) (wordsOf (r .table) (left (e .next)))) (sym call)) ∙ sym (ap (λ (xs : List Rec). sets a n (wordsOf (table hs ls m) xs)) more) ∙ so .6,
         )
 
-        pub turn : (w : Heard) → w ≡ heardBy (getD hs i noHead) (recOf s e) → (v : ℕ) → v ≡ answerWord (w .answer) → (rows : List (List Slot)) → latestBy hs ls i low-head low-row w ≡ rows
-            → FedSo (set a n v) (set hs i (w .head)) rows (e .next) (n + 1)
-        turn w q v m rows k =
-            subst (λ (x : List (List Slot)). FedSo (set a n v) (set hs i (w .head)) x (e .next) (n + 1)) k
-            (subst (λ (x : ℕ). FedSo (set a n x) (set hs i (w .head)) (latestBy hs ls i low-head low-row w) (e .next) (n + 1)) (sym m)
-            (subst (λ (y : Heard). FedSo (set a n (answerWord (y .answer))) (set hs i (y .head)) (latestBy hs ls i low-head low-row y) (e .next) (n + 1)) (sym q) fed))
+        pub turn : (w : Heard) → w ≡ heardBy (getD hs i noHead) (recOf s e) → (u : ℕ) → u ≡ refusedAfter m (w .answer) → (v : ℕ) → v ≡ answerWord (w .answer)
+            → (rows : List (List Slot)) → latestBy hs ls m i low-head low-row w ≡ rows → FedSo (set a n v) (set hs i (w .head)) rows u (e .next) (n + 1)
+        turn w q u o v p rows k =
+            subst (λ (x : List (List Slot)). FedSo (set a n v) (set hs i (w .head)) x u (e .next) (n + 1)) k
+            (subst (λ (x : ℕ). FedSo (set a n v) (set hs i (w .head)) (latestBy hs ls m i low-head low-row w) x (e .next) (n + 1)) (sym o)
+            (subst (λ (x : ℕ). FedSo (set a n x) (set hs i (w .head)) (latestBy hs ls m i low-head low-row w) (refusedAfter m (w .answer)) (e .next) (n + 1)) (sym p)
+            (subst (λ (y : Heard). FedSo (set a n (answerWord (y .answer))) (set hs i (y .head)) (latestBy hs ls m i low-head low-row y) (refusedAfter m (y .answer)) (e .next) (n + 1)) (sym q) fed)))
 
     -- where no record is found there is nothing left
     pub stop : (f : Found) → f ≡ foundAt s at → recordsIn (onward s (logAt s) f) ≡ [] → length (recordsIn (logOf s)) ≤ length a₀
-        → (record { posts = joined hs ls } ≡ tableAfter t (recordsIn (logOf s))) × (a ≡ answersBy none t (recordsIn (logOf s)) a₀)
+        → (record { posts = joined hs ls; refused = m } ≡ tableAfter t (recordsIn (logOf s))) × (a ≡ answersBy none t (recordsIn (logOf s)) a₀)
     unfolding tableAfter wordsOf
     stop f here nothing room =
         let z : left at ≡ [] = ap recordsIn (found-on s at) ∙ ap (λ (x : Found). recordsIn (onward s (logAt s) x)) (sym here) ∙ nothing in
         let w = words-length t all in (
-          sym (ap (tableAfter (posts hs ls)) z) ∙ so .5,
-          sym (ap (λ (xs : List Rec). sets a n (wordsOf (posts hs ls) xs)) z) ∙ so .6 ∙ sets-eq (wordsOf t all) a₀ 0 (omega (arith, w))
+          sym (ap (tableAfter (table hs ls m)) z) ∙ so .5,
+          sym (ap (λ (xs : List Rec). sets a n (wordsOf (table hs ls m) xs)) z) ∙ so .6 ∙ sets-eq (wordsOf t all) a₀ 0 (omega (arith, w))
               ∙ ap (λ (k : ℕ). wordsOf t all ++ drop k a₀) (zero-add (length (wordsOf t all)) ∙ w),
         )
 
   -- before the first record
   pub start : length (recordsIn (logOf s)) ≤ length a₀ → (hs : List Head) (ls : List (List Slot)) → length hs ≡ postCount → length ls ≡ postCount → joined hs ls ≡ t .posts
-      → FedSo a₀ hs ls 0 0
+      → FedSo a₀ hs ls (t .refused) 0 0
   start room hs ls m n e = (
     m,
     n,
     refl,
     omega arith,
     λ c. ap (λ ps. somePlace ps c) e,
-    ap (λ ps. tableAfter (record { posts = ps }) all) e,
-    ap (λ ps. sets a₀ 0 (wordsOf (record { posts = ps }) all)) e,
+    ap (λ ps. tableAfter (record { posts = ps; refused = t .refused }) all) e,
+    ap (λ ps. sets a₀ 0 (wordsOf (record { posts = ps; refused = t .refused }) all)) e,
   )

@@ -1,6 +1,6 @@
 // A batch in one call (02, Req 07), by value: the bytes are judged in a first pass, and then each record is fed in order. The heads and the latest
-// frames of the posts stand in two local arrays meanwhile, so that a record stores one head and one slot and copies no table. For `lent_batch`, and
-// for callers in Rattle.
+// frames of the posts stand in two local arrays meanwhile, and the count of what was refused beside them, so that a record stores one head and one
+// slot and copies no table. For `lent_batch`, and for callers in Rattle.
 ghost use mathlib.Core.Path.{_≡_};
 ghost use mathlib.Core.List.{[], map};
 ghost use mathlib.Core.Option.{none, some};
@@ -25,6 +25,7 @@ use rules::Post;
 use rules::Slot;
 use watch_hear::arrival_for;
 use watch_hear::hear;
+use watch_hear::refused_after;
 use watch_places::some_place;
 use watch_rules::Arrival;
 use watch_rules::Heard;
@@ -66,8 +67,8 @@ fn latest_of(t: Table) -> [[Slot; KINDS]; POSTS]
     latest
 }
 
-fn table_of(heads: [Head; POSTS], latest: [[Slot; KINDS]; POSTS]) -> Table
-    ensures { λ r. ⌜ r ≡ record { posts = joined heads latest } ⌝ }
+fn table_of(heads: [Head; POSTS], latest: [[Slot; KINDS]; POSTS], refused: u64) -> Table
+    ensures { λ r. ⌜ r ≡ record { posts = joined heads latest; refused = refused } ⌝ }
 {
     let h = heads[0];
     let l = latest[0];
@@ -81,7 +82,7 @@ fn table_of(heads: [Head; POSTS], latest: [[Slot; KINDS]; POSTS]) -> Table
         posts[i] = p;
         i += 1;
     }
-    Table { posts }
+    Table { posts, refused }
 }
 
 // What the record of an entry of the log is to a post with these limits.
@@ -120,11 +121,12 @@ fn feed_all(t: Table, log: &[u8], answers: &mut [u32]) -> Table
 {
     let mut heads = heads_of(t);
     let mut latest = latest_of(t);
+    let mut refused = t.refused;
     let mut at: usize = 0;
     let mut n: usize = 0;
     loop {
         let Found::Record(e) = record_at(log, at) else {
-            return table_of(heads, latest);
+            return table_of(heads, latest, refused);
         };
         let channel = e.channel;
         let i = some_place(t, channel);
@@ -135,6 +137,7 @@ fn feed_all(t: Table, log: &[u8], answers: &mut [u32]) -> Table
         let k = r.at;
         let answer = r.answer;
         heads[i] = g;
+        refused = refused_after(refused, answer);
         answers[n] = answer_word(answer);
         at = e.next;
         n += 1;
@@ -153,7 +156,7 @@ fn refused(t: Table, w: Refusal) -> Lent
     }
 }
 
-// Accepted, the answer is the number of records; refused, 65,536 plus 22, 23 or 24, and neither table nor answers change.
+// Accepted, the answer is the number of records; refused, 65,536 plus 22, 23 or 24, and neither table nor answers change, nor is anything counted.
 pub fn feed_batch(t: Table, records: &[u8], answers: &mut [u32]) -> Lent
     ensures { λ r.
         ⌜ (r ≡ batchOf t (now (records .entry)) (length (now (answers .entry))))

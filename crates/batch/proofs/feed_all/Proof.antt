@@ -23,10 +23,10 @@ use Rattle.batch.proofs.feed_all.Statement.{statement}
 use Rattle.batch.proofs.feed_all.Tie as tie
 
 abbrev Inv-loop : tie.InvT-loop
-Inv-loop t log answers₀ heads₀ latest₀ at₀ n₀ answers heads latest at n = FedSo t log answers₀ answers heads latest at n
+Inv-loop t log answers₀ heads₀ latest₀ refused₀ at₀ n₀ answers heads latest refused at n = FedSo t log answers₀ answers heads latest refused at n
 
 abbrev μ-loop : tie.MeasureT-loop
-μ-loop t log answers₀ heads₀ latest₀ at₀ n₀ answers heads latest at n = length log - at
+μ-loop t log answers₀ heads₀ latest₀ refused₀ at₀ n₀ answers heads latest refused at n = length log - at
 
 heads-of-requires : tie.Need-heads-of-requires Inv-loop μ-loop
 heads-of-requires c κs = search needs
@@ -73,7 +73,7 @@ returns c =
     let z = c .before .before .before in
     let l = z .loop in
     let a = z .before .before .before .before .before .args in
-    let w = stop (a .t) (a .log .now) (a .answers .now) (l .answers) (l .heads) (l .latest) (l .at) (l .n) (l .inv) (c .before .before .record-at .result) (c .before .before .record-at .ensures) (none-found (a .log .now) (logAt (a .log .now)) (c .before .before .record-at .result) (c .before .match .keys2)) (z .before .before .before .before .before .pre) in
+    let w = stop (a .t) (a .log .now) (a .answers .now) (l .answers) (l .heads) (l .latest) (l .refused) (l .at) (l .n) (l .inv) (c .before .before .record-at .result) (c .before .before .record-at .ensures) (none-found (a .log .now) (logAt (a .log .now)) (c .before .before .record-at .result) (c .before .match .keys2)) (z .before .before .before .before .before .pre) in
     (c .table-of .ensures ∙ w .0, w .1)
 
 some-place-requires : tie.Need-some-place-requires Inv-loop μ-loop
@@ -97,36 +97,39 @@ mul-heads c = search needs
 array-set-from-heads : tie.Need-array-set-from-heads Inv-loop μ-loop
 array-set-from-heads c = search needs
 
+refused-after-requires : tie.Need-refused-after-requires Inv-loop μ-loop
+refused-after-requires c κs = search needs
+
 answer-word-requires : tie.Need-answer-word-requires Inv-loop μ-loop
 answer-word-requires c κs = search needs
 
 mul-answers : tie.Need-mul-answers Inv-loop μ-loop
 mul-answers c =
-    let z = c .before .before .before .before .before .before .before .before .before .before in
+    let z = c .before .before .before .before .before .before .before .before .before .before .before in
     let l = z .loop in
     let a = z .before .before .before .before .before .args in
-    let e = c .before .before .before .before .before .before .before .e .given in
-    let here = sym (c .before .before .before .before .before .before .before .before .before .record-at .ensures) ∙ e .1 in
-    let p : l .n < length (l .answers) = has-place (a .t) (a .log .now) (a .answers .now) (l .answers) (l .heads) (l .latest) (l .at) (l .n) (l .inv) (e .0 .0) here in
+    let e = c .before .before .before .before .before .before .before .before .e .given in
+    let here = sym (c .before .before .before .before .before .before .before .before .before .before .record-at .ensures) ∙ e .1 in
+    let p : l .n < length (l .answers) = has-place (a .t) (a .log .now) (a .answers .now) (l .answers) (l .heads) (l .latest) (l .refused) (l .at) (l .n) (l .inv) (e .0 .0) here in
     search (needs, l .inv .2)
 
 slice-write-answers : tie.Need-slice-write-answers Inv-loop μ-loop
 slice-write-answers c =
-    let z = c .before .before .before .before .before .before .before .before .before .before in
+    let z = c .before .before .before .before .before .before .before .before .before .before .before in
     let l = z .loop in
     let a = z .before .before .before .before .before .args in
-    let e = c .before .before .before .before .before .before .before .e .given in
-    let here = sym (c .before .before .before .before .before .before .before .before .before .record-at .ensures) ∙ e .1 in
-    has-place (a .t) (a .log .now) (a .answers .now) (l .answers) (l .heads) (l .latest) (l .at) (l .n) (l .inv) (e .0 .0) here
+    let e = c .before .before .before .before .before .before .before .before .e .given in
+    let here = sym (c .before .before .before .before .before .before .before .before .before .before .record-at .ensures) ∙ e .1 in
+    has-place (a .t) (a .log .now) (a .answers .now) (l .answers) (l .heads) (l .latest) (l .refused) (l .at) (l .n) (l .inv) (e .0 .0) here
 
 add-n : tie.Need-add-n Inv-loop μ-loop
 add-n c =
-    let z = c .before .before .before .before .before .before .before .before .before .before in
+    let z = c .before .before .before .before .before .before .before .before .before .before .before in
     let l = z .loop in
     let a = z .before .before .before .before .before .args in
-    let e = c .before .before .before .before .before .before .before .e .given in
-    let here = sym (c .before .before .before .before .before .before .before .before .before .record-at .ensures) ∙ e .1 in
-    let p : l .n < length (l .answers) = has-place (a .t) (a .log .now) (a .answers .now) (l .answers) (l .heads) (l .latest) (l .at) (l .n) (l .inv) (e .0 .0) here in
+    let e = c .before .before .before .before .before .before .before .before .e .given in
+    let here = sym (c .before .before .before .before .before .before .before .before .before .before .record-at .ensures) ∙ e .1 in
+    let p : l .n < length (l .answers) = has-place (a .t) (a .log .now) (a .answers .now) (l .answers) (l .heads) (l .latest) (l .refused) (l .at) (l .n) (l .inv) (e .0 .0) here in
     search (needs, l .inv .2)
 
 mul-slot : tie.Need-mul-slot Inv-loop μ-loop
@@ -143,47 +146,47 @@ index-2-slot c = search needs
 
 loop-less : tie.Need-loop-less Inv-loop μ-loop
 loop-less c =
-    let z = c .before .before .before .before .before .before .before .before .before .before .before in
+    let z = c .before .before .before .before .before .before .before .before .before .before .before .before in
     let l = z .loop in
     let a = z .before .before .before .before .before .args in
-    let e = c .before .before .before .before .before .before .before .before .e .given in
-    let here = sym (c .before .before .before .before .before .before .before .before .before .before .record-at .ensures) ∙ e .1 in
+    let e = c .before .before .before .before .before .before .before .before .before .e .given in
+    let here = sym (c .before .before .before .before .before .before .before .before .before .before .before .record-at .ensures) ∙ e .1 in
     let w = entry-lies (a .log .now) (l .at) (e .0 .0) here in
     omega (arith, w .1, w .2)
 
 loop-again : tie.Need-loop-again Inv-loop μ-loop
 loop-again c =
-    let z = c .before .before .before .before .before .before .before .before .before .before .before in
+    let z = c .before .before .before .before .before .before .before .before .before .before .before .before in
     let l = z .loop in
     let a = z .before .before .before .before .before .args in
-    let e = c .before .before .before .before .before .before .before .before .e .given in
-    let here = sym (c .before .before .before .before .before .before .before .before .before .before .record-at .ensures) ∙ e .1 in
-    let i = c .before .before .before .before .before .before .some-place in
-    let r = c .before .before .before .before .step in
-    turn (a .t) (a .log .now) (a .answers .now) (l .answers) (l .heads) (l .latest) (l .at) (l .n) (l .inv) (e .0 .0) here (i .result) (i .ensures .1) (i .ensures .0) (r .result) (r .ensures) (c .before .answer-word .result) (c .before .answer-word .ensures) _
-    (latest-kept (l .heads) (l .latest) (i .result) (omega (arith, l .inv .0, i .ensures .1)) (omega (arith, l .inv .1, i .ensures .1)) (r .result) (c .if1 .taken))
+    let e = c .before .before .before .before .before .before .before .before .before .e .given in
+    let here = sym (c .before .before .before .before .before .before .before .before .before .before .before .record-at .ensures) ∙ e .1 in
+    let i = c .before .before .before .before .before .before .before .some-place in
+    let r = c .before .before .before .before .before .step in
+    turn (a .t) (a .log .now) (a .answers .now) (l .answers) (l .heads) (l .latest) (l .refused) (l .at) (l .n) (l .inv) (e .0 .0) here (i .result) (i .ensures .1) (i .ensures .0) (r .result) (r .ensures) (c .before .before .refused-after .result) (c .before .before .refused-after .ensures) (c .before .answer-word .result) (c .before .answer-word .ensures) _
+    (latest-kept (l .heads) (l .latest) (l .refused) (i .result) (omega (arith, l .inv .0, i .ensures .1)) (omega (arith, l .inv .1, i .ensures .1)) (r .result) (c .if1 .taken))
 
 loop-less-2 : tie.Need-loop-less-2 Inv-loop μ-loop
 loop-less-2 c =
-    let z = c .before .before .before .before .before .before .before .before .before .before .before in
+    let z = c .before .before .before .before .before .before .before .before .before .before .before .before in
     let l = z .loop in
     let a = z .before .before .before .before .before .args in
-    let e = c .before .before .before .before .before .before .before .before .e .given in
-    let here = sym (c .before .before .before .before .before .before .before .before .before .before .record-at .ensures) ∙ e .1 in
+    let e = c .before .before .before .before .before .before .before .before .before .e .given in
+    let here = sym (c .before .before .before .before .before .before .before .before .before .before .before .record-at .ensures) ∙ e .1 in
     let w = entry-lies (a .log .now) (l .at) (e .0 .0) here in
     omega (arith, w .1, w .2)
 
 loop-again-2 : tie.Need-loop-again-2 Inv-loop μ-loop
 loop-again-2 c =
-    let z = c .before .before .before .before .before .before .before .before .before .before .before in
+    let z = c .before .before .before .before .before .before .before .before .before .before .before .before in
     let l = z .loop in
     let a = z .before .before .before .before .before .args in
-    let e = c .before .before .before .before .before .before .before .before .e .given in
-    let here = sym (c .before .before .before .before .before .before .before .before .before .before .record-at .ensures) ∙ e .1 in
-    let i = c .before .before .before .before .before .before .some-place in
-    let r = c .before .before .before .before .step in
-    turn (a .t) (a .log .now) (a .answers .now) (l .answers) (l .heads) (l .latest) (l .at) (l .n) (l .inv) (e .0 .0) here (i .result) (i .ensures .1) (i .ensures .0) (r .result) (r .ensures) (c .before .answer-word .result) (c .before .answer-word .ensures) _
-    (latest-left (l .heads) (l .latest) (i .result) (omega (arith, l .inv .0, i .ensures .1)) (omega (arith, l .inv .1, i .ensures .1)) (r .result) (c .if1 .left))
+    let e = c .before .before .before .before .before .before .before .before .before .e .given in
+    let here = sym (c .before .before .before .before .before .before .before .before .before .before .before .record-at .ensures) ∙ e .1 in
+    let i = c .before .before .before .before .before .before .before .some-place in
+    let r = c .before .before .before .before .before .step in
+    turn (a .t) (a .log .now) (a .answers .now) (l .answers) (l .heads) (l .latest) (l .refused) (l .at) (l .n) (l .inv) (e .0 .0) here (i .result) (i .ensures .1) (i .ensures .0) (r .result) (r .ensures) (c .before .before .refused-after .result) (c .before .before .refused-after .ensures) (c .before .answer-word .result) (c .before .answer-word .ensures) _
+    (latest-left (l .heads) (l .latest) (l .refused) (i .result) (omega (arith, l .inv .0, i .ensures .1)) (omega (arith, l .inv .1, i .ensures .1)) (r .result) (c .if1 .left))
 
 pub feed-all-spec : {M : Type 1} → statement M
 feed-all-spec =
@@ -205,6 +208,7 @@ feed-all-spec =
     step-requires
     mul-heads
     array-set-from-heads
+    refused-after-requires
     answer-word-requires
     mul-answers
     slice-write-answers

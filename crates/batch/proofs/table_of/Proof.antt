@@ -15,10 +15,10 @@ use Rattle.batch.proofs.table_of.Statement.{statement}
 use Rattle.batch.proofs.table_of.Tie as tie
 
 abbrev Inv-loop : tie.InvT-loop
-Inv-loop heads latest posts₀ i₀ posts i = Filled postCount (joined heads latest) posts i
+Inv-loop refused heads latest posts₀ i₀ posts i = Filled postCount (joined heads latest) posts i
 
 abbrev μ-loop : tie.MeasureT-loop
-μ-loop heads latest posts₀ i₀ posts i = postCount - i
+μ-loop refused heads latest posts₀ i₀ posts i = postCount - i
 
 loop-again : tie.Need-loop-again Inv-loop μ-loop
 loop-again c =
@@ -39,7 +39,7 @@ returns c =
     let ls = a .t2 in
     let m : length hs ≡ postCount = search (needs, unmapped) in
     let n : length ls ≡ postCount = search (needs, unmapped) in
-    ap (λ (ps : List Post). record { posts = ps }) (filled-whole postCount (joined hs ls) (l .posts) (l .i) (joined-length hs ls (m ∙ sym n) ∙ m) (omega arith) (l .inv))
+    ap (λ (ps : List Post). record { posts = ps; refused = a .refused }) (filled-whole postCount (joined hs ls) (l .posts) (l .i) (joined-length hs ls (m ∙ sym n) ∙ m) (omega arith) (l .inv))
 
 pub table-of-spec : {M : Type 1} → statement M
 table-of-spec =
