@@ -1,0 +1,4 @@
+pub mod Fours
+pub mod Singly
+pub mod Turns
+pub mod Judged
