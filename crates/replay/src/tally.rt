@@ -20,6 +20,12 @@ fn add(counts: &mut [u64], k: usize) {
     }
 }
 
+fn add_bit(counts: &mut [u64], k: usize, bit: u32) {
+    if bit == 1 {
+        add(counts, k);
+    }
+}
+
 // 01: finding k has the bit 2^(k - 1).
 fn add_findings(counts: &mut [u64], found: u32) {
     let mut rest = found;
@@ -28,9 +34,7 @@ fn add_findings(counts: &mut [u64], found: u32) {
         if rest == 0 {
             return;
         }
-        if rest % 2 == 1 {
-            add(counts, k);
-        }
+        add_bit(counts, k, rest % 2);
         rest = rest / 2;
         k += 1;
     }

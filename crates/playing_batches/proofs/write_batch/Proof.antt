@@ -1,5 +1,6 @@
 -- `playing_batches::write_batch` meets its contract: 8 first, then the course, then the batch (`Judged.antt`).
-use Rattle.playing_batches.proofs.Judged.{short, has-room, before-records, among-records, ended}
+use native.Mathlib.Omega.{arith}
+use Rattle.playing_batches.proofs.Judged.{short, before-records, among-records, ended}
 use borrow.Author.Needs.{needs}
 use Rattle.playing_batches.proofs.write_batch.Statement.{statement}
 use Rattle.playing_batches.proofs.write_batch.Tie as tie
@@ -7,7 +8,7 @@ use Rattle.playing_batches.proofs.write_batch.Tie as tie
 returns : tie.Need-returns
 returns c =
     let a = c .before .before .before .before .args in
-    short (a .r) (a .records .now) (a .answers .now) (a .out .now) (c .if1 .taken)
+    short (a .r) (a .records .now) (a .answers .now) (a .out .now) (omega (arith, c .if1 .taken))
 
 enum-told : tie.Need-enum-told
 enum-told c = search needs
@@ -33,7 +34,7 @@ same-length-2 c = search needs
 returns-2 : tie.Need-returns-2
 returns-2 c =
     let a = c .before .before .before .before .before .before .before .before .before .before .before .before .before .args in
-    before-records (a .r) (a .records .now) (a .answers .now) (a .out .now) (c .before .before .before .before .before .before .before .before .before .if1 .left) (c .before .before .before .before .before .before .before .enum-told .given .1) _ _ _ (c .before .before .before .before .fed .ensures)
+    before-records (a .r) (a .records .now) (a .answers .now) (a .out .now) (omega (arith, c .before .before .before .before .before .before .before .before .before .if1 .left)) (c .before .before .before .before .before .before .before .enum-told .given .1) _ _ _ (c .before .before .before .before .fed .ensures)
 
 same-length-3 : tie.Need-same-length-3
 same-length-3 c = search needs
@@ -44,12 +45,12 @@ same-length-4 c = search needs
 returns-3 : tie.Need-returns-3
 returns-3 c =
     let a = c .before .before .before .before .before .before .before .before .before .before .before .before .before .args in
-    among-records (a .r) (a .records .now) (a .answers .now) (a .out .now) (c .before .before .before .before .before .before .before .before .before .if1 .left) (c .before .before .before .before .before .before .before .enum-told2 .given .1) _ _ _ (c .before .before .before .before .fed2 .ensures)
+    among-records (a .r) (a .records .now) (a .answers .now) (a .out .now) (omega (arith, c .before .before .before .before .before .before .before .before .before .if1 .left)) (c .before .before .before .before .before .before .before .enum-told2 .given .1) _ _ _ (c .before .before .before .before .fed2 .ensures)
 
 returns-4 : tie.Need-returns-4
 returns-4 c =
     let a = c .before .before .before .before .before .before .before .args in
-    ended (a .r) (a .records .now) (a .answers .now) (a .out .now) (c .before .before .before .if1 .left) _ (c .before .course .given .1)
+    ended (a .r) (a .records .now) (a .answers .now) (a .out .now) (omega (arith, c .before .before .before .if1 .left)) _ (c .before .course .given .1)
 
 pub write-batch-spec : {M : Type 1} → statement M
 write-batch-spec =
