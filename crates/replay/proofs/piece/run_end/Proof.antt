@@ -1,56 +1,43 @@
+-- `replay::piece::run_end`: each record takes a turn.
+use borrow.Author.Needs.{needs}
 use Rattle.replay.proofs.piece.run_end.Statement.{statement}
 use Rattle.replay.proofs.piece.run_end.Tie as tie
-use Rattle.replay.proofs.piece.run_end.Reads as reads
-use Rattle.replay.proofs.piece.run_end.Lts as lts
-use Rattle.log_walk.proofs.is_within.Reads as is-within-reads
-use Rattle.log_walk.proofs.stepped.Reads as stepped-reads
-use Rattle.replay.proofs.piece.between.Reads as between-reads
 
 abbrev Inv-loop : tie.InvT-loop
-Inv-loop start piece w₀ turns₀ w turns = ?
+Inv-loop start piece w₀ turns₀ w turns = Unit {0}
 
 abbrev μ-loop : tie.MeasureT-loop
-μ-loop start piece w₀ turns₀ w turns = ?
+μ-loop start piece w₀ turns₀ w turns = turns
 
--- src/piece.rt:48:5
 loop-holds : tie.Need-loop-holds Inv-loop μ-loop
-loop-holds c = ?
+loop-holds c = search needs
 
--- src/piece.rt:49:13
 stepped-requires : tie.Need-stepped-requires Inv-loop μ-loop
-stepped-requires c κs = ?
+stepped-requires c κs = search needs
 
--- src/piece.rt:51:13
 is-within-requires : tie.Need-is-within-requires Inv-loop μ-loop
-is-within-requires c κs = ?
+is-within-requires c κs = search needs
 
--- src/piece.rt:52:13
 returns : tie.Need-returns Inv-loop μ-loop
-returns c = ?
+returns c = search needs
 
--- src/piece.rt:54:12
 between-requires : tie.Need-between-requires Inv-loop μ-loop
-between-requires c κs = ?
+between-requires c κs = search needs
 
--- src/piece.rt:55:13
 returns-2 : tie.Need-returns-2 Inv-loop μ-loop
-returns-2 c = ?
+returns-2 c = search needs
 
--- src/piece.rt:58:9
 sub-turns : tie.Need-sub-turns Inv-loop μ-loop
-sub-turns c = ?
+sub-turns c = search needs
 
--- src/piece.rt:48:5
 loop-less : tie.Need-loop-less Inv-loop μ-loop
-loop-less c = ?
+loop-less c = search needs
 
--- src/piece.rt:48:5
 loop-again : tie.Need-loop-again Inv-loop μ-loop
-loop-again c = ?
+loop-again c = search needs
 
--- src/piece.rt:45:1
 returns-3 : tie.Need-returns-3 Inv-loop μ-loop
-returns-3 c = ?
+returns-3 c = search needs
 
 pub run-end-spec : {M : Type 1} → statement M
 run-end-spec =

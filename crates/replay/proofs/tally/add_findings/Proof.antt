@@ -1,54 +1,46 @@
+-- `replay::tally::add_findings`: the counts keep their length over the findings, whose numbers stay within them.
+use mathlib.Core.Path.{_≡_}
+use Prim.Native.Nat.{_-_, _≤_}
+use lib.ListN.{length}
+use borrow.Author.Needs.{needs}
 use Rattle.replay.proofs.tally.add_findings.Statement.{statement}
 use Rattle.replay.proofs.tally.add_findings.Tie as tie
-use Rattle.replay.proofs.tally.add_findings.Reads as reads
-use Rattle.replay.proofs.tally.add_findings.Lts as lts
-use Rattle.replay.proofs.tally.add.Reads as add-reads
 
 abbrev Inv-loop : tie.InvT-loop
-Inv-loop counts₀ found rest₀ k₀ counts rest k = ?
+Inv-loop counts₀ found rest₀ k₀ counts rest k = (length counts ≡ length counts₀) × (k ≤ 64)
 
 abbrev μ-loop : tie.MeasureT-loop
-μ-loop counts₀ found rest₀ k₀ counts rest k = ?
+μ-loop counts₀ found rest₀ k₀ counts rest k = 64 - k
 
--- src/tally.rt:26:17
 add-k : tie.Need-add-k Inv-loop μ-loop
-add-k c = ?
+add-k c = search needs
 
--- src/tally.rt:27:5
 loop-holds : tie.Need-loop-holds Inv-loop μ-loop
-loop-holds c = ?
+loop-holds c = search needs
 
--- src/tally.rt:29:13
 same-length : tie.Need-same-length Inv-loop μ-loop
-same-length c = ?
+same-length c = search needs
 
--- src/tally.rt:29:13
 returns : tie.Need-returns Inv-loop μ-loop
-returns c = ?
+returns c = search needs
 
--- src/tally.rt:32:13
-add-requires : tie.Need-add-requires Inv-loop μ-loop
-add-requires c κs = ?
+add-bit-requires : tie.Need-add-bit-requires Inv-loop μ-loop
+add-bit-requires c κs = search needs
 
--- src/tally.rt:35:9
 add-k-2 : tie.Need-add-k-2 Inv-loop μ-loop
-add-k-2 c = ?
+add-k-2 c = search needs
 
--- src/tally.rt:27:5
 loop-less : tie.Need-loop-less Inv-loop μ-loop
-loop-less c = ?
+loop-less c = search needs
 
--- src/tally.rt:27:5
 loop-again : tie.Need-loop-again Inv-loop μ-loop
-loop-again c = ?
+loop-again c = search needs
 
--- src/tally.rt:24:1
 same-length-2 : tie.Need-same-length-2 Inv-loop μ-loop
-same-length-2 c = ?
+same-length-2 c = search needs
 
--- src/tally.rt:24:1
 returns-2 : tie.Need-returns-2 Inv-loop μ-loop
-returns-2 c = ?
+returns-2 c = search needs
 
 pub add-findings-spec : {M : Type 1} → statement M
 add-findings-spec =
@@ -60,7 +52,7 @@ add-findings-spec =
     loop-holds
     same-length
     returns
-    add-requires
+    add-bit-requires
     add-k-2
     loop-less
     loop-again
