@@ -61,7 +61,7 @@ joined-posts (p ∷ ps) = ap (λ (qs : List Post). p ∷ qs) (joined-posts ps)
 
 -- ---- a record changes no place
 
-place-set : (ps : List Post) (i : ℕ) (p : Post) (c : ℕ) → holds (p .head) c ≡ holds (getD ps i noPost .head) c → placeOf (set ps i p) c ≡ placeOf ps c
+pub place-set : (ps : List Post) (i : ℕ) (p : Post) (c : ℕ) → holds (p .head) c ≡ holds (getD ps i noPost .head) c → placeOf (set ps i p) c ≡ placeOf ps c
 unfolding placeOf
 place-set [] i p c e = refl
 place-set (q ∷ ps) zero p c e = ap (λ (b : Bool). cond b 0 (suc (placeOf ps c))) e
@@ -77,7 +77,7 @@ judged-holds h time d Tick = either (λ (r : Heard). holds (r .head) d ≡ holds
 judged-holds h time d (Frame k n) = either (λ (r : Heard). holds (r .head) d ≡ holds h d) (isFullIn h) refl refl
 judged-holds h time d (Unread w) = refl
 
-heard-holds : (h : Head) (c time d : ℕ) (a : Arrival) → holds (heardOf h c time a .head) d ≡ holds h d
+pub heard-holds : (h : Head) (c time d : ℕ) (a : Arrival) → holds (heardOf h c time a .head) d ≡ holds h d
 unfolding heardOf
 heard-holds h c time d a =
     either (λ (r : Heard). holds (r .head) d ≡ holds h d) (isChannel c && holds h c)

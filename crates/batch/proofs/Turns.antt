@@ -32,7 +32,7 @@ use Rattle.batch.proofs.Joined.{channelOf, headsBy, latestBy, lentBack,
 
 -- ---- the log from a byte on
 
-found-on : (s : List ℕ) (at : ℕ) → logAt s at ≡ onward s (logAt s) (foundAt s at)
+pub found-on : (s : List ℕ) (at : ℕ) → logAt s at ≡ onward s (logAt s) (foundAt s at)
 found-on s at = go (leb (length s) at) refl
   where
     go : (b : Bool) → leb (length s) at ≡ b → logAt s at ≡ onward s (logAt s) (cond b found.End (placed at (recordAt s at)))

@@ -103,7 +103,7 @@ calls (suc k) r s at out g h l few =
 -- ---- set-ups
 
 -- what set-ups left, and the replay then
-abbrev Stands : Ready Table → Replay → Type 0
+abbrev pub Stands : Ready Table → Replay → Type 0
 Stands (ready t) r = r ≡ record { table = t; count = 0; course = SetUps }
 Stands (stopped w) r = r .course ≡ Refused w
 
@@ -113,7 +113,7 @@ unfolding setUpsFrom setUpIn
 ended [] r w e = e
 ended (u ∷ us) r w e = ended us _ w (rw e)
 
-set-ups : (us : List Wanted) (t : Table) → Stands (preparedFrom t us) (setUpsFrom (record { table = t; count = 0; course = SetUps }) us)
+pub set-ups : (us : List Wanted) (t : Table) → Stands (preparedFrom t us) (setUpsFrom (record { table = t; count = 0; course = SetUps }) us)
 unfolding setUpsFrom preparedFrom setUpIn
 set-ups [] t = refl
 set-ups (u ∷ us) t =

@@ -4,7 +4,7 @@ mod say; // say.rt: what is said on standard error
 mod posts; // posts.rt: the set-ups of a file
 mod tally; // tally.rt: answers counted by their numbers
 mod paper; // paper.rt: the output buffer
-mod piece; // piece.rt: the records of a piece of the log
+mod piece; // piece.rt: a piece of the log, batch by batch
 mod night; // night.rt: the log, piece by piece
 mod summary; // summary.rt: the ending and the counts
 
@@ -18,11 +18,12 @@ fn run(posts: &[u8], log: &[u8]) {
     if !p.ready {
         return;
     }
-    let n = night::played(p.replay, log);
+    let mut counts = tally::none();
+    let n = night::played(p.replay, log, &mut counts);
     if n.course.failed {
         return;
     }
-    summary::say(n);
+    summary::say(n, &counts);
 }
 
 fn main() {

@@ -6,6 +6,9 @@ use crate::say;
 use log_walk::file;
 use playing_nights::Replay;
 
+// A batch has 4,096 bytes, and a record four at least.
+const RECORDS: usize = 1024;
+
 fn unread(n: Read, name: &[u8], doing: &[u8]) -> Read {
     say::fail(name, doing);
     failed(n)
@@ -32,10 +35,18 @@ fn judged(n: Read, name: &[u8]) -> Read {
     n
 }
 
-fn taken(n: Read, got: isize, buf: &[u8], name: &[u8], line: &mut [u8], out: &mut [u8]) -> Read {
+fn taken(
+    n: Read,
+    got: isize,
+    buf: &[u8],
+    name: &[u8],
+    words: &mut [u32],
+    counts: &mut [u64],
+    out: &mut [u8],
+) -> Read {
     let c = n.course;
     let count = file::within(io::count(got, buf), c.walk.from, c.walk.size);
-    let m = piece::played(n, file::front(buf, count), line, out);
+    let m = piece::played(n, file::front(buf, count), words, counts, out);
     judged(m, name)
 }
 
@@ -45,14 +56,15 @@ fn next_piece(
     fd: i32,
     name: &[u8],
     buf: &mut [u8],
-    line: &mut [u8],
+    words: &mut [u32],
+    counts: &mut [u64],
     out: &mut [u8],
 ) -> Read {
     let got = libc::pread(fd, buf, file::offset(n.course.walk.from));
     if got < 0 {
         return unread(n, name, b": reading");
     }
-    taken(n, got, buf, name, line, out)
+    taken(n, got, buf, name, words, counts, out)
 }
 
 // A piece has 65,536 bytes, so each 16th is about a MiB.
@@ -79,13 +91,14 @@ fn walked(
     watched: bool,
     name: &[u8],
     buf: &mut [u8],
-    line: &mut [u8],
+    words: &mut [u32],
+    counts: &mut [u64],
     out: &mut [u8],
 ) -> Read {
     let mut n = start;
     let mut turns = u64::MAX;
     while turns > 0 {
-        n = next_piece(n, fd, name, buf, line, out);
+        n = next_piece(n, fd, name, buf, words, counts, out);
         if !is_at_seam(n) {
             return n;
         }
@@ -116,12 +129,21 @@ fn finished(n: Read, watched: bool, out: &[u8]) -> Read {
     n
 }
 
-fn all_pieces(start: Read, fd: i32, name: &[u8]) -> Read {
+fn all_pieces(start: Read, fd: i32, name: &[u8], counts: &mut [u64]) -> Read {
     let mut buf = io::large_buffer();
-    let mut line = io::buffer();
+    let mut words = [0u32; RECORDS];
     let mut out = io::large_buffer();
     let watched = is_watched();
-    let n = walked(start, fd, watched, name, &mut buf, &mut line, &mut out);
+    let n = walked(
+        start,
+        fd,
+        watched,
+        name,
+        &mut buf,
+        &mut words,
+        counts,
+        &mut out,
+    );
     finished(n, watched, &out)
 }
 
@@ -131,22 +153,22 @@ fn begun(replay: Replay, size: u64) -> Read {
 }
 
 // The log is replayed to the length that it had: whoever records may append to it meanwhile.
-fn of_length(replay: Replay, fd: i32, size: i64, name: &[u8]) -> Read {
+fn of_length(replay: Replay, fd: i32, size: i64, name: &[u8], counts: &mut [u64]) -> Read {
     let n = begun(replay, file::length(size));
     if size < 0 {
         return unread(n, name, b": finding its length");
     }
-    all_pieces(n, fd, name)
+    all_pieces(n, fd, name, counts)
 }
 
 // The whole log is fed to a replay; failed where it could not be read or its lines could not be written, and that was said.
-pub fn played(replay: Replay, name: &[u8]) -> Read {
+pub fn played(replay: Replay, name: &[u8], counts: &mut [u64]) -> Read {
     let fd = os::open_read(name);
     if fd < 0 {
         return unread(begun(replay, 0), name, b"");
     }
     let size = libc::lseek(fd, 0, libc::SEEK_END);
-    let n = of_length(replay, fd, size, name);
+    let n = of_length(replay, fd, size, name, counts);
     libc::close(fd);
     n
 }

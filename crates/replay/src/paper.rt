@@ -13,11 +13,33 @@ pub fn flushed(out: &[u8], pen: Pen) -> Pen {
     Pen { at: 0, full: true }
 }
 
-// Every line has room behind half of the buffer.
-pub fn put(out: &mut [u8], pen: Pen, line: &[u8]) -> Pen {
-    if pen.at > 32768 {
-        let p = flushed(out, pen);
-        return text_pen::put(out, p, line);
+// The lines of a batch have 40,960 bytes of the buffer's 65,536: playing_batches wants ten for each byte of the log.
+pub fn with_room(out: &[u8], pen: Pen) -> Pen {
+    if pen.at > 24576 {
+        return flushed(out, pen);
     }
-    text_pen::put(out, pen, line)
+    pen
+}
+
+// The part behind what waits.
+pub fn rest(out: &mut [u8], pen: Pen) -> &mut [u8] {
+    let at = pen.at;
+    if at > out.len() {
+        return &mut out[0..0];
+    }
+    &mut out[at..]
+}
+
+pub fn moved(out: &[u8], pen: Pen, bytes: usize) -> Pen {
+    let at = pen.at;
+    if at > out.len() {
+        return Pen { at, full: true };
+    }
+    if bytes > out.len() - at {
+        return Pen { at, full: true };
+    }
+    Pen {
+        at: at + bytes,
+        full: false,
+    }
 }

@@ -1,23 +1,17 @@
-// The records of a piece of the log, one after the other: log_walk says where they end, and the replay, the lines and the tally go along.
+// A piece of the log, batch by batch: log_walk says where its records end, and the replay, the lines and the counts go along.
 use crate::paper;
 use crate::tally;
-use crate::tally::Tally;
-use log_walk::Seen;
 use log_walk::Walk;
-use log_walk::file;
-use playing_nights::Played;
+use playing_batches::Batched;
+use playing_batches::Written;
 use playing_nights::Replay;
+use std::num::wrapping_sub_u64;
 use text_pen::Pen;
-use watch_rules::Answer;
 
-// A walk over the log, with what goes along: the byte of the piece where it stands, and whether the piece may hold more; failed where something could not
-// be read or written, which was said.
+// A walk over the log, and where its lines wait; failed where something could not be read or written, which was said.
 pub struct Course {
-    pub tally: Tally,
     pub pen: Pen,
     pub walk: Walk,
-    pub at: usize,
-    pub more: bool,
     pub failed: bool,
 }
 
@@ -28,102 +22,134 @@ pub struct Read {
 }
 
 pub fn begun(size: u64) -> Course {
-    let tally = tally::none();
     let walk = log_walk::start(size);
     Course {
-        tally,
         pen: Pen { at: 0, full: false },
         walk,
-        at: 0,
-        more: true,
         failed: false,
     }
 }
 
 pub fn failed(c: Course) -> Course {
     let mut d = c;
-    d.more = false;
     d.failed = true;
     d
 }
 
-fn passed(c: Course, length: usize, seen: Seen) -> Course {
-    let w = c.walk;
-    let tally = c.tally;
-    let pen = c.pen;
-    let walk = log_walk::passed(w, length, seen);
-    Course {
-        tally,
-        pen,
-        walk,
-        at: log_walk::place(walk),
-        more: log_walk::is_within(walk),
-        failed: false,
+// The bytes of the log between two places of a walk.
+fn between(first: Walk, last: Walk) -> u64 {
+    wrapping_sub_u64(last.at, first.at)
+}
+
+// The walk behind as many whole records of its piece as a batch takes.
+fn run_end(start: Walk, piece: &[u8]) -> Walk {
+    let mut w = start;
+    let mut turns = u64::MAX;
+    while turns > 0 {
+        let s = log_walk::stepped(w, piece);
+        let next = s.walk;
+        if !log_walk::is_within(next) {
+            return next;
+        }
+        if between(start, next) > 4096 {
+            return w;
+        }
+        w = next;
+        turns -= 1;
+    }
+    w
+}
+
+// So many bytes of the piece from a place on.
+fn slice(piece: &[u8], at: usize, length: u64) -> &[u8] {
+    if at > piece.len() {
+        return &piece[0..0];
+    }
+    if length > (piece.len() - at) as u64 {
+        return &piece[0..0];
+    }
+    let end = at + length as usize;
+    &piece[at..end]
+}
+
+// What a batch answered: its records are counted, and its lines wait. Every slice holds whole records, and there is room for them.
+fn told(c: Course, end: Walk, b: Written, words: &[u32], counts: &mut [u64], out: &[u8]) -> Course {
+    let p = c.pen;
+    match b {
+        Written::Lines { records, bytes } => {
+            tally::add_words(counts, words, records as usize);
+            let pen = paper::moved(out, p, bytes);
+            Course {
+                pen,
+                walk: end,
+                failed: pen.full,
+            }
+        }
+        Written::SetUp(_) => failed(c),
+        Written::Refused(_) => failed(c),
     }
 }
 
-// A line was written: its answer is counted, and it goes to the output.
-fn told(c: Course, heard: Answer, line: &[u8], out: &mut [u8]) -> Course {
-    let t = c.tally;
+fn fed(n: Read, bytes: &[u8], words: &mut [u32], out: &mut [u8]) -> Batched {
+    let p = n.course.pen;
+    playing_batches::write_batch(n.replay, bytes, words, paper::rest(out, p))
+}
+
+fn with_room(c: Course, out: &[u8]) -> Course {
     let p = c.pen;
     let walk = c.walk;
-    let pen = paper::put(out, p, line);
-    let tally = tally::counted(t, heard);
+    let pen = paper::with_room(out, p);
     Course {
-        tally,
         pen,
         walk,
-        at: c.at,
-        more: c.more,
         failed: pen.full,
     }
 }
 
-fn behind(c: Course, length: usize, next: usize) -> Course {
+// One batch further.
+fn stepped(n: Read, piece: &[u8], words: &mut [u32], counts: &mut [u64], out: &mut [u8]) -> Read {
+    let c = with_room(n.course, out);
+    let replay = n.replay;
+    let m = Read { replay, course: c };
     if c.failed {
-        return failed(c);
+        return m;
     }
-    passed(c, length, Seen::Record(next))
+    let w = c.walk;
+    let end = run_end(w, piece);
+    let b = fed(
+        m,
+        slice(piece, log_walk::place(w), between(w, end)),
+        words,
+        out,
+    );
+    let after = b.replay;
+    let answer = b.answer;
+    let course = told(c, end, answer, words, counts, out);
+    Read {
+        replay: after,
+        course,
+    }
 }
 
-fn answered(
-    c: Course,
-    answer: Played,
-    heard: Answer,
-    length: usize,
-    line: &[u8],
+fn is_within(c: Course) -> bool {
+    if c.failed {
+        return false;
+    }
+    log_walk::is_within(c.walk)
+}
+
+pub fn played(
+    start: Read,
+    piece: &[u8],
+    words: &mut [u32],
+    counts: &mut [u64],
     out: &mut [u8],
-) -> Course {
-    match answer {
-        Played::Line { bytes, next } => {
-            let d = told(c, heard, file::front(line, bytes), out);
-            behind(d, length, next)
-        }
-        Played::End => passed(c, length, Seen::End),
-        Played::Cut(_) => passed(c, length, Seen::Cut),
-        Played::Bad(why, _) => passed(c, length, Seen::Bad(why)),
-        Played::SetUp(_) => failed(c),
-        Played::Short => failed(c),
-    }
-}
-
-// One record further.
-fn stepped(n: Read, piece: &[u8], line: &mut [u8], out: &mut [u8]) -> Read {
-    let c = n.course;
-    let m = playing_calls::next_line(n.replay, piece, c.at, line);
-    let replay = m.replay;
-    let answer = m.answer;
-    let heard = m.heard;
-    let course = answered(c, answer, heard, piece.len(), line, out);
-    Read { replay, course }
-}
-
-pub fn played(start: Read, piece: &[u8], line: &mut [u8], out: &mut [u8]) -> Read {
+) -> Read {
     let mut n = start;
     let mut turns = u64::MAX;
     while turns > 0 {
-        n = stepped(n, piece, line, out);
-        if !n.course.more {
+        n = stepped(n, piece, words, counts, out);
+        if !is_within(n.course) {
             return n;
         }
         turns -= 1;

@@ -1,8 +1,9 @@
 // How the log ended, and the counts: on standard error, behind the lines.
 use crate::piece::Read;
 use crate::say;
-use crate::tally::Tally;
+use crate::tally;
 use log_walk::Stand;
+use std::num::wrapping_add_usize;
 use text_pen::Pen;
 
 // desk.md: `END`, `CUT@BYTE` or `BAD R<n>@BYTE`
@@ -39,25 +40,32 @@ fn put_number(out: &mut [u8], pen: Pen, name: &[u8], k: u32, n: u64) -> Pen {
     put_counted(out, q, n, b"\n")
 }
 
-fn put_numbers(out: &mut [u8], pen: Pen, name: &[u8], counts: [u64; 32]) -> Pen {
+// The counts of refusals or of findings, from a place on.
+fn put_numbers(out: &mut [u8], pen: Pen, name: &[u8], counts: &[u64], from: usize) -> Pen {
     let mut p = pen;
     let mut k: usize = 0;
     while k < 32 {
-        p = put_number(out, p, name, k as u32, counts[k]);
+        p = put_number(
+            out,
+            p,
+            name,
+            k as u32,
+            tally::at(counts, wrapping_add_usize(from, k)),
+        );
         k += 1;
     }
     p
 }
 
-fn put_tally(out: &mut [u8], pen: Pen, records: u64, t: Tally) -> Pen {
-    let refusals = t.refusals;
-    let findings = t.findings;
-    let p = put_counts(out, pen, records, t.accepted, t.refused);
-    let q = put_numbers(out, p, b"R", refusals);
-    put_numbers(out, q, b"F", findings)
+fn put_tally(out: &mut [u8], pen: Pen, records: u64, counts: &[u64]) -> Pen {
+    let accepted = tally::at(counts, tally::ACCEPTED);
+    let refused = tally::at(counts, tally::REFUSED);
+    let p = put_counts(out, pen, records, accepted, refused);
+    let q = put_numbers(out, p, b"R", counts, 0);
+    put_numbers(out, q, b"F", counts, tally::FINDINGS)
 }
 
-pub fn say(n: Read) {
+pub fn say(n: Read, counts: &[u64]) {
     let c = n.course;
     let w = c.walk;
     let stand = w.stand;
@@ -65,6 +73,6 @@ pub fn say(n: Read) {
     let mut out = io::large_buffer();
     let p = put_ending(&mut out, Pen { at: 0, full: false }, stand, w.at);
     let q = notation_answers::answer::line_end(&mut out, p);
-    let r = put_tally(&mut out, q, records, c.tally);
+    let r = put_tally(&mut out, q, records, counts);
     say::written(r.at, &out);
 }

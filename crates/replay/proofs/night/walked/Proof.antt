@@ -6,10 +6,10 @@ use Rattle.replay.proofs.night.walked.Statement.{statement}
 use Rattle.replay.proofs.night.walked.Tie as tie
 
 abbrev Inv-loop : tie.InvT-loop
-Inv-loop fd watched name buf₀ line₀ out₀ n₀ turns₀ buf line out n turns = (length buf ≡ length buf₀) × (length line ≡ length line₀) × (length out ≡ length out₀)
+Inv-loop fd watched name buf₀ words₀ counts₀ out₀ n₀ turns₀ buf words counts out n turns = (length buf ≡ length buf₀) × (length words ≡ length words₀) × (length counts ≡ length counts₀) × (length out ≡ length out₀)
 
 abbrev μ-loop : tie.MeasureT-loop
-μ-loop fd watched name buf₀ line₀ out₀ n₀ turns₀ buf line out n turns = turns
+μ-loop fd watched name buf₀ words₀ counts₀ out₀ n₀ turns₀ buf words counts out n turns = turns
 
 loop-holds : tie.Need-loop-holds Inv-loop μ-loop
 loop-holds c = search needs
@@ -29,6 +29,9 @@ same-length-2 c = search needs
 same-length-3 : tie.Need-same-length-3 Inv-loop μ-loop
 same-length-3 c = search needs
 
+same-length-4 : tie.Need-same-length-4 Inv-loop μ-loop
+same-length-4 c = search needs
+
 returns : tie.Need-returns Inv-loop μ-loop
 returns c = search needs
 
@@ -44,14 +47,17 @@ loop-less c = search needs
 loop-again : tie.Need-loop-again Inv-loop μ-loop
 loop-again c = search needs
 
-same-length-4 : tie.Need-same-length-4 Inv-loop μ-loop
-same-length-4 c = search needs
-
 same-length-5 : tie.Need-same-length-5 Inv-loop μ-loop
 same-length-5 c = search needs
 
 same-length-6 : tie.Need-same-length-6 Inv-loop μ-loop
 same-length-6 c = search needs
+
+same-length-7 : tie.Need-same-length-7 Inv-loop μ-loop
+same-length-7 c = search needs
+
+same-length-8 : tie.Need-same-length-8 Inv-loop μ-loop
+same-length-8 c = search needs
 
 returns-2 : tie.Need-returns-2 Inv-loop μ-loop
 returns-2 c = search needs
@@ -68,12 +74,14 @@ walked-spec =
     same-length
     same-length-2
     same-length-3
+    same-length-4
     returns
     told-requires
     sub-turns
     loop-less
     loop-again
-    same-length-4
     same-length-5
     same-length-6
+    same-length-7
+    same-length-8
     returns-2)

@@ -7,10 +7,10 @@ use Rattle.replay.proofs.summary.put_numbers.Statement.{statement}
 use Rattle.replay.proofs.summary.put_numbers.Tie as tie
 
 abbrev Inv-loop : tie.InvT-loop
-Inv-loop out₀ name counts p₀ k₀ out p k = (k ≤ 32) × (length out ≡ length out₀)
+Inv-loop out₀ name counts from p₀ k₀ out p k = (k ≤ 32) × (length out ≡ length out₀)
 
 abbrev μ-loop : tie.MeasureT-loop
-μ-loop out₀ name counts p₀ k₀ out p k = 32 - k
+μ-loop out₀ name counts from p₀ k₀ out p k = 32 - k
 
 loop-holds : tie.Need-loop-holds Inv-loop μ-loop
 loop-holds c = search needs
@@ -18,11 +18,11 @@ loop-holds c = search needs
 cast-put-number : tie.Need-cast-put-number Inv-loop μ-loop
 cast-put-number c = search needs
 
-mul-put-number : tie.Need-mul-put-number Inv-loop μ-loop
-mul-put-number c = search needs
+wrapping-add-usize-requires : tie.Need-wrapping-add-usize-requires Inv-loop μ-loop
+wrapping-add-usize-requires c κs = search needs
 
-array-read-put-number : tie.Need-array-read-put-number Inv-loop μ-loop
-array-read-put-number c = search needs
+at-requires : tie.Need-at-requires Inv-loop μ-loop
+at-requires c κs = search needs
 
 put-number-requires : tie.Need-put-number-requires Inv-loop μ-loop
 put-number-requires c κs = search needs
@@ -50,8 +50,8 @@ put-numbers-spec =
     μ-loop
     loop-holds
     cast-put-number
-    mul-put-number
-    array-read-put-number
+    wrapping-add-usize-requires
+    at-requires
     put-number-requires
     add-k
     loop-less
