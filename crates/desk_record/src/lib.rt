@@ -206,16 +206,11 @@ fn put_looked_up(out: &mut [u8], pen: Pen, r: LookedUp) -> Pen {
     }
 }
 
-// In a table that operations left there is no larger count.
-fn within(n: u64) -> u32 {
-    if n < 4294967295 { n as u32 } else { 4294967295 }
-}
-
 // `refused`, and nothing behind it
 pub fn refused(table: Table, s: &[u8], at: usize, out: &mut [u8], pen: Pen) -> Pen {
     if at <= s.len() {
         return answer::unknown(out, pen);
     }
-    let p = named(out, pen, b"N ", within(table.refused));
+    let p = named(out, pen, b"N ", watch::refused(table));
     text_pen::put(out, p, b"\n")
 }
