@@ -471,6 +471,7 @@ ROKEMAIPU_IS(offsetof(rokemaipu_head, controller), 40);
 ROKEMAIPU_IS(offsetof(rokemaipu_head, parameters), 64);
 ROKEMAIPU_IS(offsetof(rokemaipu_head, session), 88);
 ROKEMAIPU_IS(offsetof(rokemaipu_head, counts), 160);
+ROKEMAIPU_IS(ROKEMAIPU_COUNTS, 12); /* a head of 11 has the same bytes */
 ROKEMAIPU_IS(sizeof(rokemaipu_post), 496);
 ROKEMAIPU_IS(offsetof(rokemaipu_post, head), 0);
 ROKEMAIPU_IS(offsetof(rokemaipu_post, latest), 208);

@@ -5,7 +5,7 @@ use native.Mathlib.Omega.{arith}
 use mathlib.Core.Path.{_≡_, refl, sym, ap, _∙_, subst}
 use mathlib.Core.Bool.{true}
 use mathlib.Core.List.{List, [], _∷_, _++_}
-use lib.ListN.{length, drop, replicate}
+use lib.ListN.{drop, replicate}
 use borrow.Author.Tests.{ltb-true, leb-true}
 use Rattle.payload.specs.Payload.{leNumber}
 use Rattle.signal.specs.Signal.{getBits}
@@ -20,10 +20,9 @@ use Rattle.rule_asks.specs.Judgements.{lowersBadly, outside, leaking, badInsula
 use Rattle.rules.specs.History.{History, sinceFinished, opening, inSession, earlierIn}
 use Rattle.rules.specs.History as history
 use Rattle.rules.specs.Rules.{sessionStatus, sessionControl, limitOf, f1, f2, f3, f4, f5, f6, f7, f8, f9, f10, f11, findings01}
-use Rattle.rules.specs.Counts.{largest, talliesOf, countsOf}
+use Rattle.rules.specs.Counts.{talliesOf, countsOf}
 use Rattle.rules.specs.After.{countCount}
 use Rattle.watch_rules.specs.declared.LookedUp.{LookedUp}
-use Rattle.watch_rules.specs.declared.Setting.{Setting}
 use Rattle.watch_rules.specs.declared.Setting.the-variants as setting
 use Rattle.watch_rules.specs.Table.{postCount, lookUpOf}
 use Rattle.watch_rules.specs.Steps.{held, standing, findFrom, holder, otherHolds, feed01, setUp01, lookUp01, feedSteps, setUpSteps}

@@ -1,7 +1,7 @@
 -- `lent_numbers::hand_out` meets its contract: 8, or the numbers stored.
 use borrow.Author.Needs.{needs}
 use borrow.Author.Tests.{le-leb, lt-leb}
-use mathlib.Core.Path.{refl, _∙_}
+use mathlib.Core.Path.{refl}
 use Rattle.lent_numbers.proofs.hand_out.Statement.{statement}
 use Rattle.lent_numbers.proofs.hand_out.Tie as tie
 
