@@ -1,19 +1,18 @@
 -- A record has four bytes or more: one for its time, one for its channel, one for its identifier part and one for its length.
 use mathlib.Core.Path.{_≡_, refl, subst}
 use mathlib.Core.Bool.{Bool, true, false, cond}
-use mathlib.Core.List.{List, [], _∷_}
+use mathlib.Core.List.{List}
 use Prim.Native.Nat.{ℕ, zero, suc, _+_, _-_, _*_, _/_, _%_, _≤_, _<_}
 use native.Mathlib.Omega.{arith}
 use lib.Dec.{ltb, leb, eqb}
 use lib.ListN.{length}
 use borrow.Author.Tests.{leb-false}
-use Rattle.log_records.specs.declared.Entry.{Entry}
 use Rattle.log_records.specs.declared.Taken.{Taken}
 use Rattle.log_records.specs.declared.Taken.the-variants.{Whole, Cut, Bad}
 use Rattle.log_records.specs.declared.Found.{Found}
 use Rattle.log_records.specs.declared.Found.the-variants as found
-use Rattle.log_records.specs.Record.{Rec, identifiers}
-use Rattle.log_records.specs.Reading.{part as onPart, lengthPart, identifierPart, channelPart, timePart, recordAt, placed, foundAt, Log, onward, readFrom, logOf, recordsIn}
+use Rattle.log_records.specs.Record.{identifiers}
+use Rattle.log_records.specs.Reading.{part as onPart, lengthPart, identifierPart, channelPart, timePart, recordAt, placed, foundAt, onward, readFrom, logOf, recordsIn}
 use Rattle.log_records.proofs.Entries.{entry-lies}
 use Rattle.log_records.proofs.Wholes.{by-part, by-test}
 

@@ -1,11 +1,11 @@
 -- What `fed` and `write_batch` hand together, by the case that holds.
-use Prim.Native.Nat.{ℕ, suc, _+_, _-_, _*_, _/_, _%_, _^_, _≤_, _<_}
-use native.Mathlib.Nat.{zero-add, mod-eq-of-lt}
+use Prim.Native.Nat.{ℕ, suc, _+_, _-_, _/_, _%_, _^_, _≤_, _<_}
+use native.Mathlib.Nat.{zero-add}
 use native.Mathlib.Omega.{arith}
-use mathlib.Core.Path.{_≡_, refl, sym, ap, ap₂, subst, _∙_}
+use mathlib.Core.Path.{_≡_, refl, sym, ap, subst, _∙_}
 use mathlib.Core.Option.{Option, none, some}
 use mathlib.Core.List.{List, [], _∷_, _++_}
-use lib.ListN.{length, take, drop}
+use lib.ListN.{length, drop}
 use borrow.Author.Tests.{lt-ltb, le-ltb}
 use Rattle.refusals.specs.declared.Refusal.{Refusal}
 use Rattle.log_records.specs.Record.{Rec}
@@ -31,7 +31,7 @@ use Rattle.playing_nights.specs.Call.{nextCount}
 use Rattle.playing_batches.specs.declared.Written.{Written}
 use Rattle.playing_batches.specs.declared.Written.the-variants.{Lines, SetUp, Refused}
 use Rattle.playing_batches.specs.declared.Batched.{Batched}
-use Rattle.playing_batches.specs.Batched.{fedOne, fedOn, linesOn, roomFor, whyOf, onCourse, whyNot, batchedBy, answersBy, linesBy, batchedOf, answersOf, linesOf}
+use Rattle.playing_batches.specs.Batched.{fedOn, linesOn, roomFor, whyOf, onCourse, whyNot, batchedBy, answersBy, linesBy, batchedOf, answersOf, linesOf}
 use Rattle.playing_batches.specs.Words.{wordLines}
 use Rattle.playing_batches.proofs.Fours.{four-bytes}
 use Rattle.playing_batches.proofs.Singly.{called-table, words-lines, lines-short}

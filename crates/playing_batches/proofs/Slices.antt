@@ -12,7 +12,6 @@ use lib.ListN.{length, drop, length-drop}
 use lib.Seq.{take-append-seam, take-all, length-take-le}
 use borrow.Author.Tests.{leb-true, leb-false}
 use Rattle.refusals.specs.declared.Refusal.{Refusal}
-use Rattle.log_records.specs.declared.Entry.{Entry}
 use Rattle.log_records.specs.declared.Taken.{Taken}
 use Rattle.log_records.specs.declared.Taken.the-variants.{Whole, Cut, Bad}
 use Rattle.log_records.specs.declared.Found.the-variants as found
@@ -37,7 +36,7 @@ use Rattle.playing_nights.specs.Call.{fresh, nextCount}
 use Rattle.playing_nights.specs.Night.{Wanted, Ready, ready, stopped, preparedFrom, nightOf, setUpsFrom}
 use Rattle.playing_nights.proofs.Nights.{Stands, set-ups}
 use Rattle.playing_batches.specs.declared.Written.{Written}
-use Rattle.playing_batches.specs.declared.Written.the-variants.{Lines, SetUp, Refused}
+use Rattle.playing_batches.specs.declared.Written.the-variants.{SetUp, Refused}
 use Rattle.playing_batches.specs.Batched.{fedOne, fedOn, linesOn, roomFor, whyOf, onCourse, whyNot, batchedBy, linesBy, batchedOf, linesOf}
 use Rattle.playing_batches.specs.Slices.{Slice, sizeOf, behind, onWritten, inSlices}
 

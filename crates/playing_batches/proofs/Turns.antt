@@ -22,7 +22,6 @@ use Rattle.notation_answers.specs.Answers.{Wrote}
 use Rattle.notation_answers.proofs.Ink.{then}
 use Rattle.playing_line.specs.Lines.{newPen}
 use Rattle.playing_answers.specs.Texts.{wordLine}
-use Rattle.playing_nights.specs.Fed.{channelOf}
 use Rattle.playing_nights.specs.Call.{nextCount}
 use Rattle.playing_nights.proofs.Entries.{channel-of}
 use Rattle.playing_batches.specs.Words.{wordLines}

@@ -1,10 +1,8 @@
 -- `playing_answers::made` meets its contract: the count in front of what follows.
-use mathlib.Core.Path.{_≡_, sym, ap, ap₂, _∙_}
-use mathlib.Core.List.{List, [], _∷_, _++_}
+use mathlib.Core.Path.{ap, _∙_}
+use mathlib.Core.List.{List, _++_}
 use Prim.Native.Nat.{ℕ}
 use native.Mathlib.Omega.{arith}
-use lib.ListN.{length, take, drop}
-use Rattle.text_numbers.specs.Ascii.{space, dash}
 use Rattle.text_numbers.specs.Numbers.{numeral}
 use Rattle.playing_answers.specs.Texts.{wordLine}
 use borrow.Author.Needs.{needs}

@@ -1,14 +1,11 @@
 -- `playing_answers::put_behind` meets its contract: the answer, the post, and a space in front of each.
-use mathlib.Core.Path.{_≡_, sym, ap, ap₂, _∙_}
-use mathlib.Core.List.{List, [], _∷_, _++_}
+use mathlib.Core.Path.{ap, ap₂, _∙_}
+use mathlib.Core.List.{List, _∷_, _++_}
 use Prim.Native.Nat.{ℕ}
 use native.Mathlib.Omega.{arith}
-use lib.ListN.{length, take, drop}
-use Rattle.text_numbers.specs.Ascii.{space, dash}
-use Rattle.text_numbers.specs.Numbers.{numeral}
-use mathlib.Core.Bool.{Bool}
+use Rattle.text_numbers.specs.Ascii.{space}
 use lib.Dec.{eqb}
-use Rattle.playing_answers.specs.Texts.{answerText, postText}
+use Rattle.playing_answers.specs.Texts.{postText}
 use borrow.Author.Needs.{needs}
 use Rattle.playing_answers.proofs.put_behind.Statement.{statement}
 use Rattle.playing_answers.proofs.put_behind.Tie as tie

@@ -1,12 +1,10 @@
 -- `playing_answers::put_found` meets its contract: the line feed, the digits, and `A`.
-use mathlib.Core.Path.{_≡_, sym, ap, ap₂, _∙_}
-use mathlib.Core.List.{List, [], _∷_, _++_}
+use mathlib.Core.Path.{ap, _∙_}
+use mathlib.Core.List.{List, _∷_, _++_}
 use Prim.Native.Nat.{ℕ}
 use native.Mathlib.Omega.{arith}
-use lib.ListN.{length, take, drop}
-use Rattle.text_numbers.specs.Ascii.{space, dash}
 use Rattle.text_numbers.specs.Numbers.{numeral}
-use Rattle.notation_answers.specs.Answers.{lineFeed, capitalA, capitalR}
+use Rattle.notation_answers.specs.Answers.{capitalA}
 use Rattle.playing_answers.proofs.Stored.{ended}
 use borrow.Author.Needs.{needs}
 use Rattle.playing_answers.proofs.put_found.Statement.{statement}

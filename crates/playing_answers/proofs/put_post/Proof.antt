@@ -1,9 +1,8 @@
 -- `playing_answers::put_post` meets its contract, case by case.
-use mathlib.Core.Path.{_≡_, sym, ap, ap₂, _∙_}
-use mathlib.Core.List.{List, [], _∷_, _++_}
-use Prim.Native.Nat.{ℕ}
+use mathlib.Core.Path.{sym, ap, _∙_}
+use mathlib.Core.List.{_++_}
 use native.Mathlib.Omega.{arith}
-use lib.ListN.{length, take, drop}
+use lib.ListN.{drop}
 use mathlib.Core.Bool.{Bool}
 use Rattle.playing_answers.specs.Texts.{postText}
 use borrow.Author.Needs.{needs}

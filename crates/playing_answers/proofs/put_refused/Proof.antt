@@ -1,12 +1,10 @@
 -- `playing_answers::put_refused` meets its contract: what follows the number, the number, and `R`.
-use mathlib.Core.Path.{_≡_, sym, ap, ap₂, _∙_}
-use mathlib.Core.List.{List, [], _∷_, _++_}
+use mathlib.Core.Path.{ap, _∙_}
+use mathlib.Core.List.{List, _∷_, _++_}
 use Prim.Native.Nat.{ℕ}
 use native.Mathlib.Omega.{arith}
-use lib.ListN.{length, take, drop}
-use Rattle.text_numbers.specs.Ascii.{space, dash}
 use Rattle.text_numbers.specs.Numbers.{numeral}
-use Rattle.notation_answers.specs.Answers.{lineFeed, capitalA, capitalR}
+use Rattle.notation_answers.specs.Answers.{capitalR}
 use borrow.Author.Needs.{needs}
 use Rattle.playing_answers.proofs.put_refused.Statement.{statement}
 use Rattle.playing_answers.proofs.put_refused.Tie as tie

@@ -1,16 +1,10 @@
 -- `playing_answers::put_start` meets its contract: only 5 has a start bit before the line feed.
-use mathlib.Core.Path.{_≡_, sym, ap, ap₂, _∙_}
-use mathlib.Core.List.{List, [], _∷_, _++_}
+use mathlib.Core.Path.{ap, _∙_}
+use mathlib.Core.List.{List, _∷_, _++_}
 use Prim.Native.Nat.{ℕ}
 use native.Mathlib.Omega.{arith}
-use lib.ListN.{length, take, drop}
-use Rattle.text_numbers.specs.Ascii.{space, dash}
+use Rattle.text_numbers.specs.Ascii.{space}
 use Rattle.text_numbers.specs.Numbers.{numeral}
-use Rattle.notation_answers.specs.Answers.{lineFeed, capitalA, capitalR}
-use borrow.Author.Tests.{eq-eqb, ne-eqb}
-use mathlib.Core.Bool.{Bool, cond}
-use lib.Dec.{eqb}
-use Rattle.playing_answers.specs.Texts.{startText}
 use Rattle.playing_answers.proofs.Stored.{ended, plain, started}
 use borrow.Author.Needs.{needs}
 use Rattle.playing_answers.proofs.put_start.Statement.{statement}

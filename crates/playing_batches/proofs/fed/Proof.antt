@@ -1,8 +1,5 @@
 -- `playing_batches::fed` meets its contract: refused, nothing to write, or lines that fit (`Judged.antt`).
-use mathlib.Core.Path.{_≡_}
-use Prim.Native.Nat.{ℕ, _≤_, _<_}
 use native.Mathlib.Omega.{arith}
-use lib.ListN.{length}
 use Rattle.playing_batches.proofs.Singly.{place-low}
 use Rattle.playing_batches.proofs.Judged.{refused, enough, nothing, some-lines}
 use borrow.Author.Needs.{needs}
