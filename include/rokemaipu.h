@@ -380,7 +380,7 @@ enum rokemaipu_compared {
  * Refuses with 8 where numbers has fewer than ROKEMAIPU_COMPARED_NUMBERS places, before anything else, and nothing is written. Then with 26 a log
  * with a malformed or cut record, however many stand before it; then with 27 a log of more than ROKEMAIPU_COMPARE_RECORDS records; then with 28 a
  * list of fewer than ROKEMAIPU_COMPARE_RECORDS places; each of them for the first log before the second; at last with 8 fewer than ROKEMAIPU_CHANNELS
- * places. Then side and byte are in numbers, and all else is as it was. About 21 KB of stack are used. */
+ * places. Then side and byte are in numbers, and all else is as it was. About 17 KB of stack are used. */
 uint32_t rokemaipu_compare(const uint8_t *a, size_t size_a, const uint8_t *b, size_t size_b, uint32_t *first, size_t room_first, uint32_t *second, size_t room_second, uint32_t *places, size_t channels, uint64_t *numbers, size_t two);
 
 /* ---- replay of a night log: a line for each record, one a call ----
