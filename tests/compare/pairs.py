@@ -244,6 +244,8 @@ def calls():
         same(called(*words), ('', 'compare: missing: No such file or directory\n'), words)
     for words in ('folder', 'a.log'), ('a.log', 'folder'):
         same(called(*words), ('', 'compare: folder: reading: Is a directory\n'), words)
+    same(called('n/' * 2500, 'a.log'), ('', 'compare: FIRST: File name too long\n'), 'a long name')
+    same(called('a.log', 'n/' * 2500), ('', 'compare: SECOND: File name too long\n'), 'a long name')
     read, write = os.pipe()
     same(called('a.log', f'/dev/fd/{read}', pass_fds=[read])[1], f'compare: /dev/fd/{read}: finding its length: Illegal seek\n', 'a pipe')
     os.close(read)

@@ -1,13 +1,16 @@
 """Two night logs compared by target/bin/compare, with the exit status of cmp.
 
 usage: compare FIRST SECOND [FROM TO]
-  FIRST, SECOND  night logs, as files of any length
-  FROM, TO       cut both to the records whose time in ms lies between, FROM and TO included: at most 512 records of each log are compared
-  prints first N LINE for each record that FIRST has and SECOND has not, counting repeats, the later ones being the surplus, and second N LINE likewise:
-  LINE is the record's line of nightlog show, and N that line's number, so that `nightlog show FIRST | sed -n Np` prints it, with FROM TO too;
-  channel C place P: first N LINE; second N LINE for each channel whose two sequences differ, with the records at the first place P where they do,
-  from 1 among the channel's compared records, and - for the sequence that has ended;
-  compared N and M records, and at last same or differ: logs are the same where each channel's records are, whatever stands between them
+  FIRST, SECOND  night logs, files of any length; at most 512 records of each are compared
+  FROM, TO       only the records whose time in ms lies between are compared, FROM and TO included
+It prints
+  first N LINE   a record that FIRST has and SECOND has not, counting repeats, of which the later ones are listed; second N LINE likewise;
+                 LINE is its line of nightlog show and N that line's number, with FROM TO too: `nightlog show FIRST | sed -n Np` prints it
+  channel C place P: first N LINE; second N LINE
+                 a channel whose two sequences differ, and the records at the first place where they do, from 1 among those of the channel that are
+                 compared; - for a sequence that has ended
+  compared N and M records
+  same, differ   the last line; same where each channel's records are, in their order, however the channels stand between each other
 Exit status: 0 same; 1 differ; 2 a log is cut or malformed (R26, with the byte of the file) or has more than 512 records to compare (R27), something could not
 be read or written, or the call is wrong.
 """

@@ -47,25 +47,25 @@ fn run(first: &[u8], second: &[u8], w: Window) {
     with_second(x, first, &bytes, &numbers, second, w);
 }
 
-fn between(first: &[u8], second: &[u8]) {
-    match window::told() {
-        Asked::Bad => usage(),
-        Asked::Is(w) => run(first, second, w),
-    }
-}
-
-fn main() {
+fn between(w: Window) {
     let mut first = io::buffer();
     let n = os::arg(1, &mut first);
     if os::errno() != 0 {
-        usage();
+        os::fail(b"compare: FIRST");
         return;
     }
     let mut second = io::buffer();
     let k = os::arg(2, &mut second);
     if os::errno() != 0 {
-        usage();
+        os::fail(b"compare: SECOND");
         return;
     }
-    between(&first[..n], &second[..k]);
+    run(&first[..n], &second[..k], w);
+}
+
+fn main() {
+    match window::told() {
+        Asked::Bad => usage(),
+        Asked::Is(w) => between(w),
+    }
 }

@@ -21,7 +21,7 @@ impl Generator {
 }
 
 fn pair(rng: &mut Rng) -> [Vec<u8>; 2] {
-    let first = if rng.chance(8) { many(rng) } else { few(rng) };
+    let first = if rng.chance(16) { many(rng) } else { few(rng) };
     let mut logs = [first.clone(), other(rng, first)];
     if rng.chance(50) {
         logs.reverse();
