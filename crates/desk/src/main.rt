@@ -115,17 +115,33 @@ fn told(desk: Desk, out: &[u8]) -> Desk {
     d
 }
 
+// The next piece of the input, and how many bytes of it there are.
+fn read_piece(piece: &mut [u8]) -> usize {
+    let got = libc::read(libc::STDIN_FILENO, piece);
+    counted(got, piece)
+}
+
+fn fed_first(
+    desk: Desk,
+    n: usize,
+    piece: &[u8],
+    line: &mut [u8],
+    room: &mut [u8],
+    out: &mut [u8],
+) -> Desk {
+    fed(desk, front(piece, n), line, room, out)
+}
+
 fn run(desk: Desk, piece: &mut [u8], line: &mut [u8], room: &mut [u8], out: &mut [u8]) -> Desk {
     let mut d = desk;
     let mut turns = u64::MAX;
     while turns > 0 {
         d = told(d, out);
-        let got = libc::read(libc::STDIN_FILENO, piece);
-        let n = counted(got, piece);
+        let n = read_piece(piece);
         if n == 0 {
             return d;
         }
-        d = fed(d, front(piece, n), line, room, out);
+        d = fed_first(d, n, piece, line, room, out);
         turns -= 1;
     }
     d

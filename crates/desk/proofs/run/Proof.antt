@@ -17,11 +17,8 @@ loop-holds c = search needs
 told-requires : tie.Need-told-requires Inv-loop μ-loop
 told-requires c κs = search needs
 
-read-requires : tie.Need-read-requires Inv-loop μ-loop
-read-requires c κs = search needs
-
-counted-requires : tie.Need-counted-requires Inv-loop μ-loop
-counted-requires c κs = search needs
+read-piece-requires : tie.Need-read-piece-requires Inv-loop μ-loop
+read-piece-requires c κs = search needs
 
 same-length : tie.Need-same-length Inv-loop μ-loop
 same-length c = search needs
@@ -38,11 +35,8 @@ same-length-4 c = search needs
 returns : tie.Need-returns Inv-loop μ-loop
 returns c = search needs
 
-front-requires : tie.Need-front-requires Inv-loop μ-loop
-front-requires c κs = search needs
-
-fed-requires : tie.Need-fed-requires Inv-loop μ-loop
-fed-requires c κs = search needs
+fed-first-requires : tie.Need-fed-first-requires Inv-loop μ-loop
+fed-first-requires c κs = search needs
 
 sub-turns : tie.Need-sub-turns Inv-loop μ-loop
 sub-turns c = search needs
@@ -76,15 +70,13 @@ run-spec =
     μ-loop
     loop-holds
     told-requires
-    read-requires
-    counted-requires
+    read-piece-requires
     same-length
     same-length-2
     same-length-3
     same-length-4
     returns
-    front-requires
-    fed-requires
+    fed-first-requires
     sub-turns
     loop-less
     loop-again
