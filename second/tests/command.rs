@@ -25,7 +25,8 @@ fn agrees_with_itself() {
 
 #[test]
 fn agrees_on_explaining() {
-    let run = second(&["compare", "--explain", "--steps", "5000", "--seed", "3", "--seed", "4", "--", SECOND, "answer"]);
+    let run =
+        second(&["compare", "--explain", "--steps", "5000", "--seed", "3", "--seed", "4", "--", SECOND, "answer"]);
     assert_eq!(run.status.code(), Some(0), "{}", text(&run.stdout));
     assert!(text(&run.stdout).contains(" explain "));
 }
