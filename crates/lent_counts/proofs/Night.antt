@@ -28,6 +28,8 @@ use Rattle.watch_rules.specs.Table.{postCount, lookUpOf}
 use Rattle.watch_rules.specs.Steps.{held, standing, findFrom, holder, otherHolds, feed01, setUp01, lookUp01, feedSteps, setUpSteps}
 use Rattle.watch_rules.specs.Run.{Request, setUp, frame, tick, run, accepted, handedIn, refusedEver, acceptedEver}
 use Rattle.watch_rules.proofs.Demand.{every-record}
+use Rattle.lent_numbers.specs.LookUp.{lookUpWord, numbersAfter}
+use Rattle.lent_numbers.proofs.LookLaws.{look-up-refused}
 use Rattle.lent_counts.specs.Counts.{countsWord, countsAfter, refusedIn}
 use Rattle.lent_counts.proofs.CountLaws.{counts-refused, counts-kept, counts-of-run, refused-of-run, accounted}
 
@@ -83,3 +85,11 @@ eleven = rw answered
 
 pub night-short : countsAfter (run night) 0 (replicate 11 7) ≡ replicate 11 7
 night-short = counts-refused (run night) 0 (replicate 11 7) (subst (λ (a : ℕ). 65536 ≤ a) (sym eleven) (omega arith))
+
+-- and so for the post's numbers
+no-number : lookUpWord (run night) 0 (replicate 11 7) ≡ 65544
+unfolding lookUpWord
+no-number = rw answered
+
+pub night-numbers : numbersAfter (run night) 0 (replicate 11 7) ≡ replicate 11 7
+night-numbers = look-up-refused (run night) 0 (replicate 11 7) (subst (λ (a : ℕ). 65536 ≤ a) (sym no-number) (omega arith))

@@ -23,7 +23,9 @@ use Rattle.rules.specs.History as history
 use Rattle.rule_asks.specs.Judgements.{lowersBadly, outside, leaking, badInsulation, differs}
 use Rattle.rules.specs.Rules.{sessionStatus, sessionControl, limitOf, f1, f2, f3, f4, f5, f6, f7, f8, f9, f10, f11, findings01}
 use Rattle.rules.specs.declared.Post.{Post}
-use Rattle.rules.specs.Record.{isSet, unknown, slotAt, session01, headAt}
+use Rattle.rules.specs.declared.Dated.the-variants as dated
+use Rattle.rules.specs.Record.{kindCount, isSet, unknown, slotAt, session01, headAt, latests}
+use Rattle.rules.proofs.Excludes.{excludes}
 use Rattle.rules.specs.After.{statusPlace, controlPlace, keptCount, datedIn}
 use Rattle.watch_rules.specs.declared.Setting.the-variants as setting
 use Rattle.watch_rules.specs.declared.Setting.{Setting}
@@ -33,7 +35,8 @@ use Rattle.watch_rules.specs.Steps.{held, standing, keptPost, findFrom, holder,
 use Rattle.watch_rules.specs.Run.{Request, setUp, frame, run, accepted}
 use Rattle.watch_rules.proofs.Tables.{post-at}
 use Rattle.watch_rules.proofs.Demand.{run-kept, every-record}
-use Rattle.lent_latest.specs.Latest.{hands}
+use Rattle.lent_latest.specs.Latest.{hands, keptOf, latestWord, timeAfter, frameAfter}
+use Rattle.lent_latest.proofs.LatestLaws.{latest-refused, latest-shown, some-bytes}
 use Rattle.lent_session.specs.InSession.{partOf, handsPart, partWord, partTime, partFrame}
 use Rattle.lent_session.proofs.SessionLaws.{as-it-came, part-refused, shownAt, part-shown, closed, part-right, part-closed}
 
@@ -136,3 +139,29 @@ shut = ap (λ (p : Post). isSet (p .head .session .opened)) (head-in quiet [] (u
 pub none-yet : (times buf : List ℕ) → partWord (run quiet) 0 controlPlace times buf ≡ 0
 none-yet times buf =
     closed (run quiet) 0 controlPlace times buf refl (used-in quiet [] (unheard .0)) (ltb-true controlPlace keptCount refl) shut
+
+-- ---- the laws of the latest frame of a kind, and of findings that exclude each other, on the same night
+
+kept-latest : keptOf (run night) 0 0 ≡ slotAt 10 allowed
+unfolding latests
+kept-latest = ap (λ (p : Post). getD (p .latest) 0 unknown) (head-in night heard (computed .0))
+
+latest-8 : latestWord (run night) 0 0 [] buffer ≡ 65544
+unfolding latestWord
+latest-8 = rw (answered, kept-latest)
+
+pub latest-no-place : (timeAfter (run night) 0 0 [] buffer ≡ []) × (frameAfter (run night) 0 0 [] buffer ≡ buffer)
+latest-no-place = latest-refused (run night) 0 0 [] buffer (subst (λ (a : ℕ). 65536 ≤ a) (sym latest-8) (omega arith))
+
+pub latest-in-record : getD (lookUpOf (run night) 0 .shown .latest) 0 (record { message = dated.Nothing }) .message ≡ datedIn (postIn (run night) 0 .head .time) 0 (keptOf (run night) 0 0)
+latest-in-record = latest-shown (run night) 0 0 refl (used-in night heard (computed .0)) (ltb-true 0 kindCount refl)
+
+pub probes-have-bytes : 1 ≤ lengthOf 11
+probes-have-bytes = some-bytes 11 (ltb-true 11 kindCount refl)
+
+-- in the open session, and before any
+pub no-f3-f4-f11 : (f3 limits heard (history.tick 20) ≡ false) × (f4 limits heard (history.tick 20) ≡ false) × (f11 limits heard (history.tick 20) ≡ false)
+no-f3-f4-f11 = excludes limits heard (history.tick 20) .1 (rw (computed .1))
+
+pub no-f1 : f1 limits [] (history.tick 20) ≡ false
+no-f1 = excludes limits [] (history.tick 20) .0 (rw (unheard .1)) .0
