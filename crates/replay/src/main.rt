@@ -2,7 +2,8 @@
 // writes each record's line to standard output. How the log ends, and a summary, go to standard error.
 mod say; // say.rt: what is said on standard error
 mod posts; // posts.rt: the set-ups of a file
-mod tally; // tally.rt: answers counted by their numbers
+mod tally; // tally.rt: refusals counted by their numbers
+mod own; // own.rt: the table's own counts
 mod paper; // paper.rt: the output buffer
 mod piece; // piece.rt: a piece of the log, batch by batch
 mod night; // night.rt: the log, piece by piece
@@ -18,12 +19,12 @@ fn run(posts: &[u8], log: &[u8]) {
     if !p.ready {
         return;
     }
-    let mut counts = tally::none();
-    let n = night::played(p.replay, log, &mut counts);
+    let mut refusals = tally::none();
+    let n = night::played(p.replay, log, &mut refusals);
     if n.course.failed {
         return;
     }
-    summary::say(n, &counts);
+    summary::say(n, &refusals);
 }
 
 fn main() {

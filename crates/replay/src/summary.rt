@@ -1,9 +1,10 @@
 // How the log ended, and the counts: on standard error, behind the lines.
+use crate::own;
 use crate::piece::Read;
 use crate::say;
 use crate::tally;
 use log_walk::Stand;
-use std::num::wrapping_add_usize;
+use rules::COUNTS;
 use text_pen::Pen;
 
 // desk.md: `END`, `CUT@BYTE` or `BAD R<n>@BYTE`
@@ -40,39 +41,42 @@ fn put_number(out: &mut [u8], pen: Pen, name: &[u8], k: u32, n: u64) -> Pen {
     put_counted(out, q, n, b"\n")
 }
 
-// The counts of refusals or of findings, from a place on.
-fn put_numbers(out: &mut [u8], pen: Pen, name: &[u8], counts: &[u64], from: usize) -> Pen {
+// The counts of refusals or of findings, from number 1 on.
+fn put_numbers(out: &mut [u8], pen: Pen, name: &[u8], counts: &[u64]) -> Pen {
     let mut p = pen;
-    let mut k: usize = 0;
+    let mut k: usize = 1;
     while k < 32 {
-        p = put_number(
-            out,
-            p,
-            name,
-            k as u32,
-            tally::at(counts, wrapping_add_usize(from, k)),
-        );
+        p = put_number(out, p, name, k as u32, tally::at(counts, k));
         k += 1;
     }
     p
 }
 
-fn put_tally(out: &mut [u8], pen: Pen, records: u64, counts: &[u64]) -> Pen {
-    let accepted = tally::at(counts, tally::ACCEPTED);
-    let refused = tally::at(counts, tally::REFUSED);
-    let p = put_counts(out, pen, records, accepted, refused);
-    let q = put_numbers(out, p, b"R", counts, 0);
-    put_numbers(out, q, b"F", counts, tally::FINDINGS)
+// What was accepted, refused and found is what the table counted; how often each refusal was given it does not count.
+fn put_tally(
+    out: &mut [u8],
+    pen: Pen,
+    records: u64,
+    refused: u64,
+    refusals: &[u64],
+    own: &[u64],
+) -> Pen {
+    let p = put_counts(out, pen, records, tally::at(own, 0), refused);
+    let q = put_numbers(out, p, b"R", refusals);
+    put_numbers(out, q, b"F", own)
 }
 
-pub fn say(n: Read, counts: &[u64]) {
+pub fn say(n: Read, refusals: &[u64]) {
     let c = n.course;
     let w = c.walk;
     let stand = w.stand;
-    let records = n.replay.count;
+    let r = n.replay;
+    let t = r.table;
+    let mut sums = [0; COUNTS];
+    own::add_posts(&mut sums, t);
     let mut out = io::large_buffer();
     let p = put_ending(&mut out, Pen { at: 0, full: false }, stand, w.at);
     let q = notation_answers::answer::line_end(&mut out, p);
-    let r = put_tally(&mut out, q, records, counts);
-    say::written(r.at, &out);
+    let told = put_tally(&mut out, q, r.count, t.refused, refusals, &sums);
+    say::written(told.at, &out);
 }

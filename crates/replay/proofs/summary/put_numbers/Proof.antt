@@ -7,19 +7,16 @@ use Rattle.replay.proofs.summary.put_numbers.Statement.{statement}
 use Rattle.replay.proofs.summary.put_numbers.Tie as tie
 
 abbrev Inv-loop : tie.InvT-loop
-Inv-loop out₀ name counts from p₀ k₀ out p k = (k ≤ 32) × (length out ≡ length out₀)
+Inv-loop out₀ name counts p₀ k₀ out p k = (k ≤ 32) × (length out ≡ length out₀)
 
 abbrev μ-loop : tie.MeasureT-loop
-μ-loop out₀ name counts from p₀ k₀ out p k = 32 - k
+μ-loop out₀ name counts p₀ k₀ out p k = 32 - k
 
 loop-holds : tie.Need-loop-holds Inv-loop μ-loop
 loop-holds c = search needs
 
 cast-put-number : tie.Need-cast-put-number Inv-loop μ-loop
 cast-put-number c = search needs
-
-wrapping-add-usize-requires : tie.Need-wrapping-add-usize-requires Inv-loop μ-loop
-wrapping-add-usize-requires c κs = search needs
 
 at-requires : tie.Need-at-requires Inv-loop μ-loop
 at-requires c κs = search needs
@@ -50,7 +47,6 @@ put-numbers-spec =
     μ-loop
     loop-holds
     cast-put-number
-    wrapping-add-usize-requires
     at-requires
     put-number-requires
     add-k
