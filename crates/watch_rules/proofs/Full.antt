@@ -9,7 +9,12 @@ use borrow.Author.Tests.{ltb-true, le-leb, lt-leb}
 use lib.ListN.{length, replicate}
 use Rattle.refusals.specs.declared.Refusal.the-variants.{ChannelFree, CountFull}
 use Rattle.page_read.specs.declared.Judged.the-variants as judged
-use Rattle.page_read.specs.Judge.{judgeOf}
+use Rattle.page_rows.specs.Table.{rows, ofKind, firstAt, covered}
+use Rattle.page_read.specs.Judge.{unlabelled, strayBelow, judgedNumber, judgeOf}
+use Rattle.page_write.specs.Raws.{wholesOf, pad, rawsOf}
+use Rattle.signal.specs.Signal.{getBits}
+use Rattle.payload.specs.Payload.{leNumber}
+use Rattle.signal.specs.Twos.{toSigned}
 use Rattle.rule_limits.specs.declared.PlainLimits.{PlainLimits}
 use Rattle.rule_limits.specs.Limits.{limitsFit}
 use Rattle.rules.specs.History.{History, earlierIn}
@@ -20,9 +25,9 @@ use Rattle.watch_rules.specs.declared.Answer.the-variants.{Findings, Ref
 use Rattle.watch_rules.specs.declared.Setting.the-variants as setting
 use Rattle.watch_rules.specs.Table.{postCount}
 use Rattle.watch_rules.specs.Steps.{free, held, standing, findFrom, holder, otherHolds, feed01, setUp01, feedSteps, setUpSteps}
-use Rattle.watch_rules.specs.Run.{Request, setUp, frame, tick, fed, reply, run, reply01, accepted, isRefusal, refusedEver}
-use Rattle.watch_rules.proofs.Demand.{own-tick, counted-tick, full-tick, refused-nothing}
-use Rattle.watch_rules.proofs.Handed.{refused-counted}
+use Rattle.watch_rules.specs.Run.{Request, setUp, frame, tick, fed, reply, run, reply01, accepted, isRefusal, handedIn, refusedEver, acceptedEver}
+use Rattle.watch_rules.proofs.Demand.{own-tick, counted-tick, full-tick, full-frame, refused-nothing}
+use Rattle.watch_rules.proofs.Handed.{refused-counted, handed-in}
 
 abbrev limits : PlainLimits
 limits = record { voltage = 5000; charge = 1000; discharge = 500; silence = 500; sensor = 0 }
@@ -68,6 +73,16 @@ tick-25 n e =
     let z : reply (run (ticked n)) (tick 4 0) ≡ fed (Refused CountFull) = full-tick (ticked n) 0 4 limits (ticks n) first (stands n (omega (arith, e))) 0 (in-time n) full in
     (z, refused-nothing (ticked n) (tick 4 0) (ap isRefusal z) .1)
 
+-- and so is a frame
+readable : judgeOf 0x6b001 true (2 ∷ 1 ∷ []) ≡ judged.Frame 3 258
+unfolding rows ofKind firstAt covered unlabelled strayBelow judgedNumber judgeOf wholesOf pad rawsOf getBits leNumber toSigned
+readable = refl
+
+pub frame-25 : (n : ℕ) → n ≡ largest → reply (run (ticked n)) (frame 4 0 0x6b001 true (2 ∷ 1 ∷ [])) ≡ fed (Refused CountFull)
+frame-25 n e =
+    let full : isFull (ticks n) ≡ true = le-leb largest (length (ticks n)) (omega (arith, as-many n, e)) in
+    full-frame (ticked n) 0 4 limits (ticks n) first (stands n (omega (arith, e))) 0 0x6b001 true (2 ∷ 1 ∷ []) 3 258 readable (in-time n) full
+
 -- ---- an empty table is ticked n times
 
 abbrev turned : ℕ → List Request
@@ -90,3 +105,7 @@ all-refused (suc n) = rw (none-accepted n, nobody) (omega (arith, all-refused n)
 -- the count stays where it is
 pub stays-largest : (n : ℕ) → largest ≤ n → run (turned n) .refused ≡ largest
 stays-largest n le = refused-counted (turned n) ∙ omega (arith, all-refused n, le)
+
+-- while one was refused, what was handed in is what was accepted and refused
+pub one-handed : acceptedEver (turned 1) + run (turned 1) .refused ≡ handedIn (turned 1)
+one-handed = handed-in (turned 1) (omega (arith, all-refused 1))
