@@ -18,7 +18,7 @@ run: replay
 	@tools/replay $(POSTS) $(LOG)
 
 replay:
-	@[ -x target/bin/replay ] || echo "proving and building the replay: about 7 minutes, once" >&2
+	@[ -x target/bin/replay ] || echo "proving and building the replay: about 8 minutes, once" >&2
 	@rt check replay > replay.log 2>&1 || { cat replay.log; rm -f replay.log; exit 1; }
 	@rm -f replay.log
 
