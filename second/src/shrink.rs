@@ -220,6 +220,15 @@ fn simpler_bytes(field: &[u8]) -> Vec<Line> {
     std::iter::once(all).filter(|all| all.as_slice() != field).chain(zeroed).collect()
 }
 
+/// The shortest line found whose answer still has that in it.
+#[cfg(test)]
+pub fn shortest(line: &str, part: &str) -> String {
+    use crate::desk::{self, Desk};
+    let shows = |lines: &[Line]| lines.iter().any(|line| desk::answer(&mut Desk::new(), line).contains(part));
+    let short = shrink(vec![line.as_bytes().to_vec()], &mut |lines| shows(lines));
+    String::from_utf8(short.concat()).unwrap()
+}
+
 #[cfg(test)]
 mod tests {
     use super::*;
