@@ -20,7 +20,8 @@ use Rattle.page_write.proofs.Trips.{accepted, raws-back}
 use Rattle.rules.specs.declared.Dated.the-variants as dated
 use Rattle.rules.specs.declared.Latest.{Latest}
 use Rattle.rules.specs.declared.Slot.{Slot}
-use Rattle.rules.specs.History.{receivedOf, countFrom}
+use Rattle.rules.specs.History.{countFrom}
+use Rattle.rules.specs.Times.{receivedOf}
 use Rattle.rules.specs.Record.{kindCount, isSet, slotAt}
 use Rattle.rules.specs.After.{latestIn, datedIn, postRecord}
 use Rattle.rules.proofs.Counted.{count-at}

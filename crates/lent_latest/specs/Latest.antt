@@ -9,7 +9,7 @@ use Rattle.payload.specs.Payload.{bytesOf}
 use Rattle.refusals.specs.declared.Refusal.the-variants.{UnknownIdentifier, ShortBuffer}
 use Rattle.page_rows.specs.Table.{lengthOf, bigOf}
 use Rattle.rules.specs.declared.Slot.{Slot}
-use Rattle.rules.specs.History.{receivedOf}
+use Rattle.rules.specs.Times.{receivedOf}
 use Rattle.rules.specs.Record.{kindCount, isSet}
 use Rattle.rules.specs.After.{latestIn}
 use Rattle.watch_rules.specs.declared.Table.{Table}

@@ -23,7 +23,8 @@ use Rattle.rules.specs.declared.SessionPart.{SessionPart}
 use Rattle.rules.specs.declared.SessionPart.the-variants as part
 use Rattle.rules.specs.declared.Post.{Post}
 use Rattle.rules.specs.declared.Session.{Session}
-use Rattle.rules.specs.History.{History, receivedOf, opening, inSession}
+use Rattle.rules.specs.History.{History, opening, inSession}
+use Rattle.rules.specs.Times.{receivedOf}
 use Rattle.rules.specs.Rules.{sessionStatus, sessionControl}
 use Rattle.rules.specs.Record.{kindCount, isSet, unknown, slotAt, slotOf, keptOf, session01, headAt, postOf}
 use Rattle.rules.specs.After.{statusPlace, controlPlace, keptCount, datedIn, partIn, postRecord}

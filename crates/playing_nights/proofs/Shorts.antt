@@ -14,7 +14,8 @@ use Rattle.page_read.specs.declared.Judged.the-variants as judged
 use Rattle.page_rows.specs.Table.{rows, rowsOf, noRow, firstAt, hasId}
 use Rattle.page_read.specs.Judge.{unlabelled, offends, offender, strayBelow, judgedNumber, judgedAt, judgeOf}
 use Rattle.rule_limits.specs.declared.PlainLimits.{PlainLimits}
-use Rattle.rules.specs.History.{Event, History, frame, tick, stampOf, earlierIn}
+use Rattle.rules.specs.History.{Event, History, frame, tick}
+use Rattle.rules.specs.Times.{stampOf, earlierIn}
 use Rattle.rule_asks.specs.Judgements.{bit}
 use Rattle.rules.specs.Counts.{isFull}
 use Rattle.rules.specs.Rules.{f1, f2, f3, f4, f5, f6, f7, f8, f9, f10, f11, findings01}

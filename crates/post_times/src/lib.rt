@@ -2,7 +2,7 @@
 // For the post's step and for who refuses an event.
 ghost use mathlib.Core.Path.{_≡_};
 ghost use Prim.Native.Nat.{_≤_};
-ghost use Rattle.rules.specs.History.{earlier, elapsed};
+ghost use Rattle.rules.specs.Times.{earlier, elapsed};
 ghost use Rattle.rules.specs.After.{stampIn, isEarly, laterOf, silentIn, lateAfter, anyFindings};
 use rule_asks::flag;
 use rule_asks::is_set;

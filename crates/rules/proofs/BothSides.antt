@@ -16,7 +16,7 @@ use Rattle.rules.specs.declared.AfterEvent.{AfterEvent}
 use Rattle.rules.specs.History.{Event, frame, tick, History, sinceFinished, opening, inSession}
 use Rattle.rules.specs.Rules.{sessionStatus, sessionControl, limitOf, f1, f2, f3, f4, f5, f6, f7, f8, f9, f10, f11, findings01}
 use Rattle.rules.specs.Counts.{talliesOf, countsOf}
-use Rattle.rules.specs.After.{sessionAfter, agedTo, withFrame, silentIn, lateAfter, anyFindings, unreadyIn, carryingIn, controlFindings, statusFindings, openingFindings, finishedFindings, messageFindings, counted, withCounts, afterTick, afterFrame, newHead}
+use Rattle.rules.specs.After.{sessionAfter, stampIn, agedTo, withFrame, silentIn, lateAfter, anyFindings, unreadyIn, carryingIn, controlFindings, statusFindings, openingFindings, finishedFindings, messageFindings, counted, withCounts, afterTick, afterFrame, newHead}
 
 -- ---- the findings of events in order of arrival
 
@@ -77,6 +77,9 @@ table =
     ∷ (controller 1000 ∷ tick 1200 ∷ tick 1201 ∷ controller 1201 ∷ tick 1202 ∷ [], 0 ∷ 0 ∷ 2 ∷ 2 ∷ 0 ∷ [])
     -- with no session open F3 and F4 of a DC_Power_Control, and nothing of the same bits in a frame of the safety controller
     ∷ (transfer 0 ∷ frame 1 safetyControlKind 0x48000000001388 ∷ frame 2 safetyStateKind 0x48000000001388 ∷ frame 3 probesKind 0x48000000001388 ∷ [], 12 ∷ 0 ∷ 0 ∷ 0 ∷ [])
+    -- 02, Req 09: F1 and F2 across the round of the clock: at 4,294,967,290 as received, then at 494 and 495, 500 and 501 ms later
+    ∷ (session 4294967290 ∷ tick 4294967790 ∷ tick 4294967791 ∷ [], 0 ∷ 0 ∷ 1 ∷ [])
+    ∷ (controller 4294967290 ∷ tick 4294967490 ∷ tick 4294967491 ∷ [], 0 ∷ 0 ∷ 2 ∷ [])
     ∷ []
 
 abbrev pub All : List (List Event × List ℕ) → Type 0
@@ -84,8 +87,8 @@ All [] = Unit {0}
 All (x ∷ xs) = ((lookedBack limits [] (x .0) ≡ x .1) × (inTurn (newHead 1 4 limits) (x .0) ≡ x .1)) × All xs
 
 pub both-sides : All table
-unfolding sinceFinished opening inSession lowersBadly outside leaking badInsulation differs sessionStatus sessionControl limitOf f1 f2 f3 f4 f5 f6 f7 f8 f9 f10 f11 findings01 sessionAfter agedTo withFrame silentIn lateAfter anyFindings unreadyIn carryingIn controlFindings statusFindings openingFindings finishedFindings messageFindings withCounts afterTick afterFrame statusIn parametersIn sessionIn controlIn rows ofKind firstAt wholesOf pad rawsOf getBits toSigned
-both-sides = ((refl, refl), ((refl, refl), ((refl, refl), ((refl, refl), ((refl, refl), ((refl, refl), ((refl, refl), tt)))))))
+unfolding sinceFinished opening inSession lowersBadly outside leaking badInsulation differs sessionStatus sessionControl limitOf f1 f2 f3 f4 f5 f6 f7 f8 f9 f10 f11 findings01 sessionAfter stampIn agedTo withFrame silentIn lateAfter anyFindings unreadyIn carryingIn controlFindings statusFindings openingFindings finishedFindings messageFindings withCounts afterTick afterFrame statusIn parametersIn sessionIn controlIn rows ofKind firstAt wholesOf pad rawsOf getBits toSigned
+both-sides = ((refl, refl), ((refl, refl), ((refl, refl), ((refl, refl), ((refl, refl), ((refl, refl), ((refl, refl), ((refl, refl), ((refl, refl), tt)))))))))
 
 -- ---- 02, Req 08: the counts of such events, the newest first, and of the head that they leave
 
@@ -107,5 +110,5 @@ abbrev poweredCounts : List ℕ
 poweredCounts = 2 ∷ 0 ∷ 0 ∷ 1 ∷ 1 ∷ 0 ∷ 0 ∷ 0 ∷ 0 ∷ 0 ∷ 0 ∷ 0 ∷ []
 
 pub counts-both-sides : ((countsOf limits late ≡ lateCounts) × (leaves late .counts ≡ lateCounts)) × ((countsOf limits powered ≡ poweredCounts) × (leaves powered .counts ≡ poweredCounts))
-unfolding sinceFinished opening inSession lowersBadly outside leaking badInsulation differs sessionStatus sessionControl limitOf f1 f2 f3 f4 f5 f6 f7 f8 f9 f10 f11 findings01 talliesOf sessionAfter agedTo withFrame silentIn lateAfter anyFindings unreadyIn carryingIn controlFindings statusFindings openingFindings finishedFindings messageFindings counted withCounts afterTick afterFrame statusIn parametersIn sessionIn controlIn rows ofKind firstAt wholesOf pad rawsOf getBits toSigned
+unfolding sinceFinished opening inSession lowersBadly outside leaking badInsulation differs sessionStatus sessionControl limitOf f1 f2 f3 f4 f5 f6 f7 f8 f9 f10 f11 findings01 talliesOf sessionAfter stampIn agedTo withFrame silentIn lateAfter anyFindings unreadyIn carryingIn controlFindings statusFindings openingFindings finishedFindings messageFindings counted withCounts afterTick afterFrame statusIn parametersIn sessionIn controlIn rows ofKind firstAt wholesOf pad rawsOf getBits toSigned
 counts-both-sides = ((refl, refl), (refl, refl))

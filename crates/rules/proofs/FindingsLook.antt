@@ -10,7 +10,8 @@ use Rattle.message_types.specs.declared.DcPowerParameters.{DcPowerParameters}
 use Rattle.message_types.specs.declared.NewChargeSession.{NewChargeSession}
 use Rattle.message_parts.specs.Parts.{statusKind, sessionKind, controlKind, finishedKind, statusIn, sessionIn, controlIn}
 use Rattle.rule_limits.specs.declared.PlainLimits.{PlainLimits}
-use Rattle.rules.specs.History.{Event, frame, tick, History, timeOf, newest, statusOf, commandOf, elapsed}
+use Rattle.rules.specs.History.{Event, frame, tick, History, timeOf, newest, statusOf, commandOf}
+use Rattle.rules.specs.Times.{elapsed}
 use Rattle.rule_asks.specs.Judgements.{bit, differs, isCarrying}
 use Rattle.rules.specs.declared.Session.{Session}
 use Rattle.rules.specs.Rules.{ask, isOpen, sessionStatus, sessionControl, laterTime, limitBy, limitOf, unready, f1, f2, f3, f4, f5, f6, f7, f8, f9, f10, f11, findings01}

@@ -6,6 +6,7 @@ pub mod Unasked
 pub mod SessionLook
 pub mod FindingsLook
 pub mod CountsLook
+pub mod Unrolled
 pub mod Look
 pub mod Right
 pub mod Excludes

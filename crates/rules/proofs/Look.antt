@@ -1,8 +1,8 @@
 -- The inner step is looking back over one event more: a head that stands for a history goes to the one that stands for the longer history,
 -- and its findings and its post's record are 01's.
-use Prim.Native.Nat.{ℕ, _<_}
+use Prim.Native.Nat.{ℕ, _+_, _%_, _<_}
 use native.Mathlib.Omega.{arith}
-use mathlib.Core.Path.{_≡_, refl, sym}
+use mathlib.Core.Path.{_≡_, refl, sym, _∙_}
 use mathlib.Core.List.{List, [], _∷_, map}
 use mathlib.Core.Bool.{Bool, true, false, cond}
 use mathlib.Core.Option.{Option, none, some}
@@ -12,15 +12,17 @@ use lib.ListN.{set}
 use Rattle.message_parts.specs.Parts.{controllerKind, parametersKind}
 use Rattle.rule_limits.specs.declared.PlainLimits.{PlainLimits}
 use Rattle.rules.specs.declared.Latest.{Latest}
-use Rattle.rules.specs.History.{frame, tick, History, newest, ofKind, sinceFinished, opening, inSession, stampOf, earlierIn, countFrom}
+use Rattle.rules.specs.History.{frame, tick, History, newest, ofKind, sinceFinished, opening, inSession, countFrom}
+use Rattle.rules.specs.Times.{earlierIn, stampOf, latestTime, Unrolled}
 use Rattle.rules.specs.Rules.{sessionStatus, sessionControl, findings01}
 use Rattle.rules.specs.Counts.{timesFound, talliesOf, countsOf, isFull}
-use Rattle.rules.specs.Record.{kindCount, datedOf, lastOf, partOf, latestTime, recordAsOf, recordOf, unknown, slotAt, slotOf, keptOf, sessionOf, session01, headAt, headOf, latests, postOf}
-use Rattle.rules.specs.After.{putAt, agedTo, withFrame, isEarly, counted, isFullIn, tallyIn, findingCount, withCounts, afterTick, afterFrame, keepIn, stored, freshPost, latestIn, datedIn, partIn, lastIn, postRecord}
+use Rattle.rules.specs.Record.{kindCount, datedOf, lastOf, partOf, recordAsOf, recordOf, unknown, slotAt, slotOf, keptOf, sessionOf, session01, headAt, headOf, latests, postOf}
+use Rattle.rules.specs.After.{stampIn, putAt, agedTo, withFrame, isEarly, counted, isFullIn, tallyIn, findingCount, withCounts, afterTick, afterFrame, keepIn, stored, freshPost, latestIn, datedIn, partIn, lastIn, postRecord}
 use Rattle.rules.proofs.Counted.{count-at, count-same, count-set}
 use Rattle.rules.proofs.SessionLook.{session-stays, session-frame}
 use Rattle.rules.proofs.FindingsLook.{findings-tick, findings-frame}
 use Rattle.rules.proofs.CountsLook.{counts-look}
+use Rattle.rules.proofs.Unrolled.{stamp-fits}
 
 -- ---- the latest of each kind
 
@@ -140,19 +142,27 @@ module _ (c : ℕ) (lim : PlainLimits) where
   early-look [] t = refl
   early-look (e ∷ h) t = refl
 
-  pub tick-look : (h : History) (t : ℕ) → isFull h ≡ false
+  -- the sum does not come round in 64 bits
+  pub stamp-look : (h : History) (t : ℕ) → Unrolled h → isFull h ≡ false → stampIn (headOf c lim h) t ≡ stampOf h t
+  unfolding stampIn headAt
+  stamp-look [] t un room = refl
+  stamp-look (e ∷ h) t un room = omega (arith, stamp-fits (e ∷ h) t un room)
+
+  pub tick-look : (h : History) (t : ℕ) → Unrolled h → isFull h ≡ false
       → afterTick (headOf c lim h) t
       ≡ record { head = headOf c lim (tick (stampOf h t) ∷ h); slot = unknown; at = kindCount; findings = findings01 lim h (tick (stampOf h t)) }
   unfolding afterTick
-  tick-look h t room =
-      rw (aged-look h t, findings-tick c lim (countsOf lim h) h t, head-tick (countsOf lim h) h t, counted-look (countsOf lim h) t (findings01 lim h (tick t)) (tick t ∷ h), counts-look lim h (tick t) room)
+  tick-look h t un room =
+      let u = stampOf h t in
+      rw (stamp-look h t un room, aged-look h u, findings-tick c lim (countsOf lim h) h u, head-tick (countsOf lim h) h u, counted-look (countsOf lim h) u (findings01 lim h (tick u)) (tick u ∷ h), counts-look lim h (tick u) room)
 
-  pub frame-look : (h : History) (t k raw : ℕ) → isFull h ≡ false
+  pub frame-look : (h : History) (t k raw : ℕ) → Unrolled h → isFull h ≡ false
       → afterFrame (headOf c lim h) t k raw
       ≡ record { head = headOf c lim (frame (stampOf h t) k raw ∷ h); slot = slotAt (stampOf h t) raw; at = k; findings = findings01 lim h (frame (stampOf h t) k raw) }
   unfolding afterFrame
-  frame-look h t k raw room =
-      rw (aged-look h t, findings-frame c lim (countsOf lim h) h t k raw, head-frame (countsOf lim h) h t k raw, counted-look (countsOf lim h) t (findings01 lim h (frame t k raw)) (frame t k raw ∷ h), counts-look lim h (frame t k raw) room)
+  frame-look h t k raw un room =
+      let u = stampOf h t in
+      rw (stamp-look h t un room, aged-look h u, findings-frame c lim (countsOf lim h) h u k raw, head-frame (countsOf lim h) h u k raw, counted-look (countsOf lim h) u (findings01 lim h (frame u k raw)) (frame u k raw ∷ h), counts-look lim h (frame u k raw) room)
 
   -- the post with what a step left of it
   pub stored-tick : (h : History) (t : ℕ) → stored (postOf c lim h) (headOf c lim (tick t ∷ h)) kindCount unknown ≡ postOf c lim (tick t ∷ h)

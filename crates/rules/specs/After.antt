@@ -28,7 +28,8 @@ use Rattle.rules.specs.declared.Dated.the-variants as dated
 use Rattle.rules.specs.declared.SessionPart.{SessionPart}
 use Rattle.rules.specs.declared.SessionPart.the-variants as part
 use Rattle.rules.specs.declared.Record.{Record}
-use Rattle.rules.specs.History.{elapsed, earlier, receivedOf, countFrom}
+use Rattle.rules.specs.History.{countFrom}
+use Rattle.rules.specs.Times.{receivedOf, wrapped, earlier, elapsed, ageOf}
 use Rattle.rules.specs.Counts.{largest}
 use Rattle.rules.specs.Record.{kindCount, isSet, unknown, slotAt, closedSession}
 
@@ -62,9 +63,9 @@ sessionAfter s k n =
 
 -- ---- the head
 
--- where an event that is received at t stands
-abbrev pub stampIn : Head → ℕ → ℕ
-stampIn p t = t
+-- where an event that is received at t stands, in 64 bits
+unfoldable pub stampIn : Head → ℕ → ℕ
+stampIn p t = cond (isSet (p .heard)) ((p .time + wrapped t (p .time)) % 18446744073709551616) (receivedOf t)
 
 unfoldable pub agedTo : Head → ℕ → Head
 agedTo p t =
@@ -263,7 +264,7 @@ abbrev pub latestIn : Post → ℕ → Slot
 latestIn p k = getD (p .latest) k unknown
 
 abbrev pub datedIn : ℕ → ℕ → Slot → Dated
-datedIn now k l = cond (isSet (l .known)) (dated.At (receivedOf (l .time)) (messageOf k (l .raw))) dated.Nothing
+datedIn now k l = cond (isSet (l .known)) (dated.At (receivedOf (l .time)) (ageOf now (l .time)) (messageOf k (l .raw))) dated.Nothing
 
 abbrev pub partIn : ℕ → Session → SessionPart
 partIn now s =
@@ -271,6 +272,7 @@ partIn now s =
     (part.Opened
     (record {
       since = receivedOf (s .since);
+      age = ageOf now (s .since);
       protocol = sessionIn (s .first) .protocol;
       plug = sessionIn (s .first) .plug;
       status = datedIn now statusKind (keptIn s statusPlace);

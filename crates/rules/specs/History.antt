@@ -1,9 +1,9 @@
 -- A post's history: its accepted frames and ticks since its latest accepted set-up, the newest first, and what is read by looking back over it.
-use Prim.Native.Nat.{ℕ, zero, suc, _-_, _%_}
+use Prim.Native.Nat.{ℕ, zero, suc}
 use mathlib.Core.List.{List, [], _∷_}
-use mathlib.Core.Bool.{Bool, false, cond}
+use mathlib.Core.Bool.{cond}
 use mathlib.Core.Option.{Option, none, some}
-use lib.Dec.{ltb, eqb}
+use lib.Dec.{eqb}
 use Rattle.message_parts.specs.Parts.{statusKind, parametersKind, controllerKind, sessionKind, controlKind, finishedKind}
 
 -- a frame by its time, its kind and its payload number (its message is `messageOf` of the two), or a tick
@@ -96,28 +96,6 @@ opening h = oldest openingOf (sinceFinished h)
 
 unfoldable pub inSession : History → History
 inSession h = afterOldest openingOf (sinceFinished h)
-
--- ---- times
-
--- where an event that is received at t stands in the history: at t
-abbrev pub stampOf : History → ℕ → ℕ
-stampOf h t = t
-
--- a time of the history as it was received, in 32 bits
-abbrev pub receivedOf : ℕ → ℕ
-receivedOf t = t % 4294967296
-
--- the ms from one time to a later one
-abbrev pub elapsed : ℕ → ℕ → ℕ
-elapsed now from = now - from
-
--- 2: "time earlier than that post's latest accepted frame or tick"
-abbrev pub earlier : ℕ → ℕ → Bool
-earlier t latest = ltb t latest
-
-unfoldable pub earlierIn : History → ℕ → Bool
-earlierIn [] t = false
-earlierIn (e ∷ h) t = earlier t (timeOf e)
 
 -- ---- numbers in a row
 

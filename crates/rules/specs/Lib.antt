@@ -1,4 +1,5 @@
 pub mod History
+pub mod Times
 pub mod Rules
 pub mod Counts
 pub mod Record

@@ -3,6 +3,7 @@
 -- whether a session is open, since when and with which first protocol and plug, and the latest Power_Modules_Status and DC_Power_Control accepted in that
 -- session, each possibly none.
 -- With no session open all of the session's part is none." 02, Req 08: and the counts of what was accepted and found.
+-- 02, Req 09: "the record keeps times as received and ages beside them".
 use Prim.Native.Nat.{ℕ}
 use mathlib.Core.List.{List, [], _∷_, map}
 use mathlib.Core.Bool.{Bool, true, false}
@@ -26,7 +27,8 @@ use Rattle.rules.specs.declared.Dated.the-variants as dated
 use Rattle.rules.specs.declared.SessionPart.{SessionPart}
 use Rattle.rules.specs.declared.SessionPart.the-variants as part
 use Rattle.rules.specs.declared.Record.{Record}
-use Rattle.rules.specs.History.{Event, History, timeOf, newest, ofKind, statusOf, commandOf, limitsTold, controllerOf, opening, inSession, receivedOf, countFrom}
+use Rattle.rules.specs.History.{Event, History, timeOf, newest, ofKind, statusOf, commandOf, limitsTold, controllerOf, opening, inSession, countFrom}
+use Rattle.rules.specs.Times.{receivedOf, latestTime, ageOf}
 use Rattle.rules.specs.Rules.{sessionStatus, sessionControl}
 use Rattle.rules.specs.Counts.{talliesOf, countsOf}
 
@@ -35,7 +37,7 @@ use Rattle.rules.specs.Counts.{talliesOf, countsOf}
 -- a frame of the kind k, by its message
 abbrev pub datedOf : ℕ → ℕ → Option (ℕ × ℕ) → Dated
 datedOf now k none = dated.Nothing
-datedOf now k (some m) = dated.At (receivedOf (m .0)) (messageOf k (m .1))
+datedOf now k (some m) = dated.At (receivedOf (m .0)) (ageOf now (m .0)) (messageOf k (m .1))
 
 abbrev pub lastOf : History → LastTime
 lastOf [] = last.Never
@@ -47,15 +49,12 @@ partOf now (some o) s d =
     part.Opened
     (record {
       since = receivedOf (o .0);
+      age = ageOf now (o .0);
       protocol = sessionIn (o .1) .protocol;
       plug = sessionIn (o .1) .plug;
       status = datedOf now statusKind s;
       control = datedOf now controlKind d;
     })
-
-abbrev pub latestTime : History → ℕ
-latestTime [] = 0
-latestTime (e ∷ h) = timeOf e
 
 unfoldable pub recordAsOf : ℕ → PlainLimits → ℕ → History → Record
 recordAsOf c lim now h =

@@ -8,7 +8,8 @@ use Rattle.rules.specs.declared.Head.{Head}
 use Rattle.rules.specs.declared.Post.{Post}
 use Rattle.rules.specs.declared.AfterEvent.{AfterEvent}
 use Rattle.rules.specs.declared.Record.{Record}
-use Rattle.rules.specs.History.{Event, frame, tick, History, stampOf}
+use Rattle.rules.specs.History.{Event, frame, tick, History}
+use Rattle.rules.specs.Times.{stampOf, Unrolled}
 use Rattle.rules.specs.Rules.{findings01}
 use Rattle.rules.specs.Counts.{isFull}
 use Rattle.rules.specs.Record.{headOf, postOf, recordOf}
@@ -27,9 +28,9 @@ pub record After01 (c : ℕ) (lim : PlainLimits) (h : History) (e : Event) (r : 
   pub head : r .head ≡ headOf c lim (e ∷ h)
   pub post : stored (postOf c lim h) (r .head) (r .at) (r .slot) ≡ postOf c lim (e ∷ h)
 
--- of a head that stands for some history, which has room for one event more
+-- of a head that stands for some history of accepted events, which has room for one event more
 abbrev pub AfterRight : Head → (History → Event) → AfterEvent → Type 0
-AfterRight p e r = (c : ℕ) (lim : PlainLimits) (h : History) → p ≡ headOf c lim h → isFull h ≡ false → After01 c lim h (e h) r
+AfterRight p e r = (c : ℕ) (lim : PlainLimits) (h : History) → p ≡ headOf c lim h → Unrolled h → isFull h ≡ false → After01 c lim h (e h) r
 
 -- of a post that stands for some history
 abbrev pub RecordRight : Post → Record → Type 0

@@ -7,7 +7,8 @@ use lib.Dec.{ltb}
 use Rattle.message_types.specs.declared.DcPowerParameters.{DcPowerParameters}
 use Rattle.message_parts.specs.Parts.{statusIn, parametersIn, sessionIn, controlIn}
 use Rattle.rule_limits.specs.declared.PlainLimits.{PlainLimits}
-use Rattle.rules.specs.History.{Event, History, timeOf, newest, statusOf, commandOf, limitsTold, controllerOf, openingOf, finishedOf, opening, inSession, elapsed}
+use Rattle.rules.specs.History.{Event, History, timeOf, newest, statusOf, commandOf, limitsTold, controllerOf, openingOf, finishedOf, opening, inSession}
+use Rattle.rules.specs.Times.{elapsed}
 use Rattle.rule_limits.specs.Sensor.{sensorOf}
 use Rattle.rule_asks.specs.Judgements.{isAllowed, isClose, isPowered, isCarrying, isOff, lowersBadly, outside, badInsulation, differs, bit}
 use Rattle.rule_limits.specs.Limits.{capped}

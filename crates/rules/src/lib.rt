@@ -74,16 +74,17 @@ pub struct AfterEvent {
     pub findings: u32,
 }
 
-// ---- the record as it is handed out
+// ---- the record as it is handed out: each time as it was received and, beside it, its age in ms as of the post's latest event
 
 pub enum LastTime {
     Never,
     At(u32),
 }
 
+// The time of a message as it was received, and its age.
 pub enum Dated {
     Nothing,
-    At(u32, Message),
+    At(u32, u32, Message),
 }
 
 pub struct Latest {
@@ -92,6 +93,7 @@ pub struct Latest {
 
 pub struct OpenSession {
     pub since: u32,
+    pub age: u32,
     pub protocol: Protocol,
     pub plug: Plug,
     pub status: Dated,

@@ -14,18 +14,23 @@ use Rattle.message_parts.specs.Parts.{statusIn, parametersIn, sessionIn, contro
 use Rattle.message_build.specs.Built.{messageOf, builtOf}
 use Rattle.rule_limits.specs.Limits.{limitsFit}
 use Rattle.rule_asks.specs.Judgements.{lowersBadly, outside, leaking, badInsulation, differs}
+use Rattle.rules.specs.declared.Dated.{Dated}
 use Rattle.rules.specs.declared.Dated.the-variants as dated
-use Rattle.rules.specs.After.{sessionAfter, agedTo, withFrame, silentIn, lateAfter, anyFindings, unreadyIn, carryingIn, controlFindings, statusFindings, openingFindings, finishedFindings, messageFindings, counted, withCounts, afterTick, afterFrame, postRecord}
+use Rattle.rules.specs.After.{sessionAfter, stampIn, agedTo, withFrame, silentIn, lateAfter, anyFindings, unreadyIn, carryingIn, controlFindings, statusFindings, openingFindings, finishedFindings, messageFindings, counted, withCounts, afterTick, afterFrame, postRecord}
 use Rattle.watch_rules.specs.Table.{placeOf, heardOf, oneMore, feedAt, feedOf, emptyTable, isOther, setUpOf, releaseOf, lookUpOf}
-use Rattle.watch_rules.specs.Run.{runFrom, repliesFrom}
-use Rattle.watch_rules.specs.Readings.{Case, codec, answers, shows, senses, keeps, counts, turns-away, e8to13}
+use Rattle.watch_rules.specs.Run.{Request, runFrom, repliesFrom}
+use Rattle.watch_rules.specs.Readings.{Case, codec, answers, shows, senses, keeps, dates, counts, turns-away, isDated, e8to13}
+
+abbrev latestRun : List Request → ℕ → ℕ → Dated
+latestRun asked post kind = getD (lookUpOf (runFrom emptyTable asked) post .shown .latest) kind (record { message = dated.Nothing }) .message
 
 abbrev pub Runs : Case → Type 0
 Runs (codec c) = Unit {0}
 Runs (answers asked replies) = repliesFrom emptyTable asked ≡ replies
 Runs (shows asked post shown) = lookUpOf (runFrom emptyTable asked) post ≡ shown
 Runs (senses asked post sensor) = lookUpOf (runFrom emptyTable asked) post .shown .limits .sensor ≡ sensor
-Runs (keeps asked post kind latest) = getD (lookUpOf (runFrom emptyTable asked) post .shown .latest) kind (record { message = dated.Nothing }) .message ≡ latest
+Runs (keeps asked post kind latest) = latestRun asked post kind ≡ latest
+Runs (dates asked post kind d) = isDated (latestRun asked post kind) d
 Runs (counts asked post accepted tallies) =
     (lookUpOf (runFrom emptyTable asked) post .shown .accepted ≡ accepted) × (lookUpOf (runFrom emptyTable asked) post .shown .tallies ≡ tallies)
 Runs (turns-away asked n) = runFrom emptyTable asked .refused ≡ n
@@ -35,5 +40,5 @@ AllRun [] = Unit {0}
 AllRun (c ∷ cs) = Runs c × AllRun cs
 
 pub both-sides : AllRun e8to13
-unfolding placeOf heardOf oneMore counted withCounts feedAt feedOf isOther setUpOf releaseOf lookUpOf postRecord limitsFit sessionAfter agedTo withFrame silentIn lateAfter anyFindings unreadyIn carryingIn controlFindings statusFindings openingFindings finishedFindings messageFindings afterTick afterFrame lowersBadly outside leaking badInsulation differs messageOf builtOf statusIn parametersIn sessionIn controlIn rows ofKind firstAt covered unlabelled offender strayBelow judgedNumber judgeOf wholesOf pad rawsOf getBits leNumber beNumber toSigned
-both-sides = (refl, (refl, (refl, (refl, (refl, (refl, (refl, (refl, (refl, (refl, (refl, (refl, (refl, (refl, (refl, (refl, (refl, (refl, (refl, (refl, (refl, (refl, (refl, (refl, (refl, (refl, (refl, (refl, ((refl, refl), ((refl, refl), ((refl, refl), ((refl, refl), (refl, tt)))))))))))))))))))))))))))))))))
+unfolding placeOf heardOf oneMore counted withCounts feedAt feedOf isOther setUpOf releaseOf lookUpOf postRecord limitsFit sessionAfter stampIn agedTo withFrame silentIn lateAfter anyFindings unreadyIn carryingIn controlFindings statusFindings openingFindings finishedFindings messageFindings afterTick afterFrame lowersBadly outside leaking badInsulation differs messageOf builtOf statusIn parametersIn sessionIn controlIn rows ofKind firstAt covered unlabelled offender strayBelow judgedNumber judgeOf wholesOf pad rawsOf getBits leNumber beNumber toSigned
+both-sides = (refl, (refl, (refl, (refl, (refl, (refl, (refl, (refl, (refl, (refl, (refl, ((refl, refl), (refl, (refl, (refl, (refl, ((refl, refl), ((refl, refl), (refl, (refl, (refl, (refl, (refl, (refl, (refl, (refl, (refl, (refl, (refl, (refl, (refl, (refl, (refl, (refl, (refl, (refl, ((refl, refl), ((refl, refl), ((refl, refl), ((refl, refl), (refl, tt)))))))))))))))))))))))))))))))))))))))))

@@ -14,7 +14,9 @@ use Rattle.rule_limits.specs.declared.PlainLimits.{PlainLimits}
 use Rattle.rules.specs.declared.Head.{Head}
 use Rattle.rules.specs.declared.Post.{Post}
 use Rattle.rules.specs.Record.{isSet}
-use Rattle.rules.specs.History.{Event, History, earlierIn}
+use Rattle.rules.specs.History.{Event, History}
+use Rattle.rules.specs.Times.{earlierIn}
+use Rattle.rules.specs.Right.{tickAt, frameAt}
 use Rattle.rules.specs.History as history
 use Rattle.rules.specs.Rules.{findings01}
 use Rattle.rules.specs.Counts.{isFull}
@@ -72,12 +74,12 @@ module _ (rs : List Request) (i c : ℕ) (lim : PlainLimits) (h : History) (low 
       rw (holder-is (accepted rs) (run-kept rs .apart) i c low has, lt-ltb i postCount low, own, range .0)
 
   -- The same for the post that holds the channel, over its limits and its own history:
-  -- 2 where the time is earlier than its latest, else the findings of 01's rules, and 25 where the history has no room for one event more.
-  pub own-tick : (t : ℕ) → reply (run rs) (tick c t) ≡ fed (cond (earlierIn h t) (Refused Earlier) (cond (isFull h) (Refused CountFull) (Findings (findings01 lim h (history.tick t)))))
+  -- 2 where the time is earlier than its latest, else the findings of 01's rules for the event where its time puts it, and 25 where the history has no room for one event more.
+  pub own-tick : (t : ℕ) → reply (run rs) (tick c t) ≡ fed (cond (earlierIn h t) (Refused Earlier) (cond (isFull h) (Refused CountFull) (Findings (findings01 lim h (tickAt t h)))))
   own-tick t = every-answer rs (tick c t) ∙ ap fed (feed-own t ticking)
 
   pub own-frame : (t m : ℕ) (x : Bool) (bs : List ℕ) (k n : ℕ) → judgeOf m x bs ≡ judged.Frame k n
-      → reply (run rs) (frame c t m x bs) ≡ fed (cond (earlierIn h t) (Refused Earlier) (cond (isFull h) (Refused CountFull) (Findings (findings01 lim h (history.frame t k n)))))
+      → reply (run rs) (frame c t m x bs) ≡ fed (cond (earlierIn h t) (Refused Earlier) (cond (isFull h) (Refused CountFull) (Findings (findings01 lim h (frameAt t k n h)))))
   own-frame t m x bs k n e = every-answer rs (frame c t m x bs) ∙ ap fed (feed-own t (framing m x bs) ∙ rw e)
 
   -- and for a frame that its reader refuses
@@ -169,18 +171,18 @@ module _ (rs : List Request) (i : ℕ) where
       rw z (standing-release (accepted rs) i)
 
   module _ (c : ℕ) (lim : PlainLimits) (h : History) (own : standing i (accepted rs) ≡ held c lim h) (t found : ℕ) where
-    pub counted-tick : reply (run rs) (tick c t) ≡ fed (Findings found) → standing i (accepted (tick c t ∷ rs)) ≡ held c lim (history.tick t ∷ h)
+    pub counted-tick : reply (run rs) (tick c t) ≡ fed (Findings found) → standing i (accepted (tick c t ∷ rs)) ≡ held c lim (tickAt t h ∷ h)
     unfolding accepted feedSteps
     counted-tick q =
         let z : feed01 (accepted rs) c t ticking ≡ Findings found = cc (every-answer rs (tick c t)) in
-        rw (z, holder-own rs i c lim h own, own) (standing-event (accepted rs) i c lim h (history.tick t) own)
+        rw (z, holder-own rs i c lim h own, own) (standing-event (accepted rs) i c lim h (tickAt t h) own)
 
     pub counted-frame : (m : ℕ) (x : Bool) (bs : List ℕ) (k n : ℕ) → judgeOf m x bs ≡ judged.Frame k n → reply (run rs) (frame c t m x bs) ≡ fed (Findings found)
-        → standing i (accepted (frame c t m x bs ∷ rs)) ≡ held c lim (history.frame t k n ∷ h)
+        → standing i (accepted (frame c t m x bs ∷ rs)) ≡ held c lim (frameAt t k n h ∷ h)
     unfolding accepted feedSteps
     counted-frame m x bs k n e q =
         let z : feed01 (accepted rs) c t (framing m x bs) ≡ Findings found = cc (every-answer rs (frame c t m x bs)) in
-        rw (z, holder-own rs i c lim h own, own, e) (standing-event (accepted rs) i c lim h (history.frame t k n) own)
+        rw (z, holder-own rs i c lim h own, own, e) (standing-event (accepted rs) i c lim h (frameAt t k n h) own)
 
 -- ---- a request about another post
 

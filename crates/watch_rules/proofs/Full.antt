@@ -17,7 +17,9 @@ use Rattle.payload.specs.Payload.{leNumber}
 use Rattle.signal.specs.Twos.{toSigned}
 use Rattle.rule_limits.specs.declared.PlainLimits.{PlainLimits}
 use Rattle.rule_limits.specs.Limits.{limitsFit}
-use Rattle.rules.specs.History.{History, earlierIn}
+use Rattle.rules.specs.History.{History}
+use Rattle.rules.specs.Times.{earlierIn, stampOf}
+use Rattle.rules.specs.Right.{tickAt}
 use Rattle.rules.specs.History as history
 use Rattle.rules.specs.Rules.{findings01}
 use Rattle.rules.specs.Counts.{largest, isFull}
@@ -54,6 +56,10 @@ unfolding earlierIn
 in-time zero = refl
 in-time (suc n) = refl
 
+at-0 : (n : ℕ) → stampOf (ticks n) 0 ≡ 0
+at-0 zero = refl
+at-0 (suc n) = refl
+
 begun : standing 0 (accepted (ticked 0)) ≡ held 4 limits []
 unfolding accepted setUpSteps setUp01 otherHolds standing limitsFit
 begun = refl
@@ -63,8 +69,8 @@ stands zero le = begun
 stands (suc n) le =
     let own = stands n (omega arith) in
     let room : isFull (ticks n) ≡ false = lt-leb largest (length (ticks n)) (omega (arith, as-many n)) in
-    counted-tick (ticked n) 0 4 limits (ticks n) own 0 (findings01 limits (ticks n) (history.tick 0))
-    (own-tick (ticked n) 0 4 limits (ticks n) first own 0 ∙ rw (in-time n, room))
+    counted-tick (ticked n) 0 4 limits (ticks n) own 0 (findings01 limits (ticks n) (tickAt 0 (ticks n)))
+    (own-tick (ticked n) 0 4 limits (ticks n) first own 0 ∙ rw (in-time n, room)) ∙ rw (at-0 n)
 
 -- the next tick is refused with 25, and no history grows
 pub tick-25 : (n : ℕ) → n ≡ largest → (reply (run (ticked n)) (tick 4 0) ≡ fed (Refused CountFull)) × (accepted (tick 4 0 ∷ ticked n) ≡ accepted (ticked n))

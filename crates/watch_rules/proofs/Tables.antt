@@ -3,7 +3,7 @@
 use Prim.Native.Nat.{ℕ, zero, suc, _+_, _<_}
 use native.Mathlib.Nat.{zero-add}
 use native.Mathlib.Omega.{arith}
-use mathlib.Core.Path.{_≡_, refl, ap, sym, _∙_, fun-ext}
+use mathlib.Core.Path.{_≡_, refl, ap, sym, subst, _∙_, fun-ext}
 use mathlib.Core.List.{List, [], _∷_, map}
 use mathlib.Core.Bool.{Bool, true, false, cond}
 use lib.Dec.{eqb, ltb}
@@ -15,6 +15,7 @@ use Rattle.rule_limits.specs.declared.PlainLimits.{PlainLimits}
 use Rattle.rule_limits.specs.Limits.{limitsFit}
 use Rattle.rules.specs.declared.Post.{Post}
 use Rattle.rules.specs.History.{Event, History, countFrom}
+use Rattle.rules.specs.Times.{Unrolled}
 use Rattle.rules.specs.Record.{isSet, postOf}
 use Rattle.rules.specs.After.{stored, freePost, freshPost, postRecord}
 use Rattle.rules.proofs.Counted.{count-at, count-same, count-set}
@@ -28,7 +29,7 @@ use Rattle.watch_rules.specs.declared.Setting.{Setting}
 use Rattle.watch_rules.specs.declared.Setting.the-variants as setting
 use Rattle.watch_rules.specs.declared.Settled.{Settled}
 use Rattle.watch_rules.specs.Table.{postCount, isChannel, holds, placeOf, noPost, postIn, Arriving, withPost, feedAt, feedOf, emptyTable, isOther, isPost, setUpOf, releaseOf, notFound, lookUpOf}
-use Rattle.watch_rules.specs.Steps.{setUp, release, event, Steps, Standing, free, held, standing, holdsIn, findFrom, holder, otherHolds, answerIn, feed01, setUp01, isHeld, release01, shownIn, lookUp01, eventIn, eventOn, grown, Hears01, ifFound, feedSteps, setUpSteps, releaseSteps, keptPost, postsOf, Apart}
+use Rattle.watch_rules.specs.Steps.{setUp, release, event, Steps, Standing, free, held, standing, holdsIn, findFrom, holder, otherHolds, answerIn, feed01, setUp01, isHeld, release01, shownIn, lookUp01, eventIn, eventOn, grown, Hears01, ifFound, feedSteps, setUpSteps, releaseSteps, keptPost, postsOf, Apart, InTime}
 use Rattle.watch_rules.proofs.Hears.{hear-look}
 use Rattle.watch_rules.proofs.Standings.{standing-setUp, standing-setUp-other, standing-release, standing-release-other, standing-event, standing-event-other, held-on, holder-holds, alone, other-look}
 
@@ -114,9 +115,9 @@ module _ (t : Table) (s : Steps) (apart : Apart s) (same : t .posts ≡ postsOf 
     posts-grown e (Findings n) = posts-event e
     posts-grown e (Refused w) = posts-stay
 
-    heard-look : (time : ℕ) (a : Arriving) → isChannel c ≡ true → Heard01 time a (feedAt t i c time a)
+    heard-look : (time : ℕ) (a : Arriving) → Unrolled h → isChannel c ≡ true → Heard01 time a (feedAt t i c time a)
     unfolding feedAt
-    heard-look time a channel = rw (there, ap a (limits-look c lim h)) (stands (hear-look c lim h c time (a lim)))
+    heard-look time a un channel = rw (there, ap a (limits-look c lim h)) (stands (hear-look c lim h un c time (a lim)))
       where
         stands : {r : Heard} → Hears01 c lim h c time (a lim) r
             → Heard01 time a (record { table = withPost t i (stored (postOf c lim h) (r .head) (r .at) (r .slot)) (r .answer); answer = r .answer })
@@ -124,9 +125,9 @@ module _ (t : Table) (s : Steps) (apart : Apart s) (same : t .posts ≡ postsOf 
             let answer : r .answer ≡ answerIn (held c lim h) time a = heard .answer ∙ rw (channel, eq-eqb c c refl) in
             (answer, ap (set (t .posts) i) (heard .post) ∙ posts-grown (eventIn h time (a lim)) (r .answer) ∙ ap (λ (w : Answer). postsOf (ifFound w (event c (eventIn h time (a lim))) s)) answer)
 
-  pub feed-look : (c time : ℕ) (a : Arriving) → Fed01 (feedSteps s c time a) (feed01 s c time a) (feedOf t c time a)
+  pub feed-look : ((i : ℕ) → i < postCount → InTime (standing i s)) → (c time : ℕ) (a : Arriving) → Fed01 (feedSteps s c time a) (feed01 s c time a) (feedOf t c time a)
   unfolding feedOf feed01 feedSteps
-  feed-look c time a = go (isChannel c) (ltb (holder s c) postCount) refl refl
+  feed-look times c time a = go (isChannel c) (ltb (holder s c) postCount) refl refl
     where
       place : placeOf (t .posts) c ≡ holder s c
       place = ap (λ (ps : List Post). placeOf ps c) same ∙ place-look s c
@@ -137,7 +138,7 @@ module _ (t : Table) (s : Steps) (apart : Apart s) (same : t .posts ≡ postsOf 
       go true true e f =
           let h : holder s c < postCount = ltb-true (holder s c) postCount f in
           let o = held-on (standing (holder s c) s) c (holder-holds s c h) in
-          rw (e, place, f, o .2) (heard-look (holder s c) c (o .0) (o .1) h (o .2) time a e)
+          rw (e, place, f, o .2) (heard-look (holder s c) c (o .0) (o .1) h (o .2) time a (subst InTime (o .2) (times (holder s c) h)) e)
 
   posts-setUp : (i c : ℕ) (lim : PlainLimits) → set (t .posts) i (freshPost c lim) ≡ postsOf (setUp i c lim ∷ s)
   posts-setUp i c lim =

@@ -29,7 +29,8 @@ use Rattle.rules.specs.declared.Latest.{Latest}
 use Rattle.rules.specs.declared.LastTime.the-variants as last
 use Rattle.rules.specs.declared.SessionPart.the-variants as part
 use Rattle.rules.specs.declared.Record.{Record}
-use Rattle.rules.specs.History.{sinceFinished, opening, inSession, earlierIn}
+use Rattle.rules.specs.History.{sinceFinished, opening, inSession}
+use Rattle.rules.specs.Times.{earlierIn}
 use Rattle.rule_asks.specs.Judgements.{lowersBadly, outside, leaking, badInsulation, differs}
 use Rattle.rules.specs.Rules.{sessionStatus, sessionControl, limitOf, f1, f2, f3, f4, f5, f6, f7, f8, f9, f10, f11, findings01}
 use Rattle.rules.specs.Counts.{talliesOf}
@@ -43,22 +44,32 @@ use Rattle.watch_rules.specs.Steps.{standing, findFrom, holder, otherHol
 use Rattle.watch_rules.specs.Run.{Request, setUp, release, frame, tick, Reply, set, fed, accepted, refusedEver, acceptedFrom, replies01From}
 
 -- a reading of frames and messages (E1 to E7); requests to the empty table in order of arrival, with their replies;
--- such requests, and a post's record after them, or the sensor kind in it, or its latest message of a kind, or its counts; and how many of them were refused
+-- such requests, and a post's record after them, or the sensor kind in it, or its latest message of a kind, or that one's time and age, or its counts;
+-- and how many of them were refused
 pub data Case : Type 0 where
   codec : messages.Case → Case
   answers : List Request → List Reply → Case
   shows : List Request → ℕ → LookedUp → Case
   senses : List Request → ℕ → Sensor → Case
   keeps : List Request → ℕ → ℕ → Dated → Case
+  dates : List Request → ℕ → ℕ → ℕ × ℕ → Case
   counts : List Request → ℕ → ℕ → List ℕ → Case
   turns-away : List Request → ℕ → Case
+
+abbrev latestShown : List Request → ℕ → ℕ → Dated
+latestShown asked post kind = getD (lookUp01 (acceptedFrom [] asked) post .shown .latest) kind (record { message = dated.Nothing }) .message
+
+abbrev pub isDated : Dated → ℕ × ℕ → Type 0
+isDated dated.Nothing d = ⊥
+isDated (dated.At time age m) d = (time ≡ d .0) × (age ≡ d .1)
 
 abbrev pub Holds : Case → Type 0
 Holds (codec c) = messages.Holds c
 Holds (answers asked replies) = replies01From [] asked ≡ replies
 Holds (shows asked post shown) = lookUp01 (acceptedFrom [] asked) post ≡ shown
 Holds (senses asked post sensor) = lookUp01 (acceptedFrom [] asked) post .shown .limits .sensor ≡ sensor
-Holds (keeps asked post kind latest) = getD (lookUp01 (acceptedFrom [] asked) post .shown .latest) kind (record { message = dated.Nothing }) .message ≡ latest
+Holds (keeps asked post kind latest) = latestShown asked post kind ≡ latest
+Holds (dates asked post kind d) = isDated (latestShown asked post kind) d
 Holds (counts asked post accepted tallies) =
     (lookUp01 (acceptedFrom [] asked) post .shown .accepted ≡ accepted) × (lookUp01 (acceptedFrom [] asked) post .shown .tallies ≡ tallies)
 Holds (turns-away asked n) = refusedEver (reverse asked) ≡ n
@@ -157,6 +168,18 @@ e8to13 =
     -- E14: after time 100: 99 gets 2, 100 is accepted; an unknown identifier at 99 gets 2 too, the lowest number that applies, and at 100 it gets 3
     ∷ answers (set-up ∷ tick 4 100 ∷ tick 4 99 ∷ tick 4 100 ∷ frame 4 99 0x63003 true (0 ∷ []) ∷ frame 4 100 0x63003 true (0 ∷ []) ∷ [])
     (done ∷ found 0 ∷ fed (Refused Earlier) ∷ found 0 ∷ fed (Refused Earlier) ∷ fed (Refused UnknownIdentifier) ∷ [])
+    -- 02, Req 09: "after 4,294,967,290 a time of 5 is accepted, 11 ms later", and 4,294,967,290 again is earlier; the first time after a set-up may be any
+    ∷ answers (set-up ∷ tick 4 4294967290 ∷ tick 4 5 ∷ tick 4 4294967290 ∷ set-up ∷ tick 4 4294967290 ∷ []) (done ∷ found 0 ∷ found 0 ∷ fed (Refused Earlier) ∷ done ∷ found 0 ∷ [])
+    ∷ dates (set-up ∷ probes 4294967290 ∷ tick 4 5 ∷ []) 0 probesKind (4294967290, 11)
+    -- a wrapped difference of 2^31 - 1 is later, one of 2^31 earlier
+    ∷ answers (set-up ∷ tick 4 7 ∷ tick 4 2147483655 ∷ tick 4 2147483654 ∷ tick 4 6 ∷ []) (done ∷ found 0 ∷ fed (Refused Earlier) ∷ found 0 ∷ fed (Refused Earlier) ∷ [])
+    -- F1 at 500 and 501 ms across the round, F2 at 200 and 201
+    ∷ answers (set-up ∷ session 4294967290 ∷ tick 4 494 ∷ tick 4 495 ∷ []) (done ∷ found 0 ∷ found 0 ∷ found 1 ∷ [])
+    ∷ answers (set-up ∷ controller 4294967290 ∷ tick 4 194 ∷ tick 4 195 ∷ []) (done ∷ found 0 ∷ found 0 ∷ found 2 ∷ [])
+    -- "F1 and F2 read unrolled times .. and never come round": a round and 100 ms after the controller's status, and the age has stopped growing
+    ∷ answers (set-up ∷ controller 0 ∷ tick 4 2147483647 ∷ tick 4 4294967294 ∷ tick 4 100 ∷ []) (done ∷ found 0 ∷ found 2 ∷ found 2 ∷ found 2 ∷ [])
+    ∷ dates (set-up ∷ probes 0 ∷ tick 4 2147483647 ∷ tick 4 4294967294 ∷ []) 0 probesKind (0, 4294967294)
+    ∷ dates (set-up ∷ probes 0 ∷ tick 4 2147483647 ∷ tick 4 4294967294 ∷ tick 4 100 ∷ []) 0 probesKind (0, 4294967295)
     -- each post has a clock of its own, and a frame goes to the post that holds its channel: the session of post 0 opens at 501, whatever post 1 hears
     ∷ answers (set-up ∷ setUp 1 9 limits ∷ tick 9 700 ∷ session 501 ∷ tick 9 1300 ∷ tick 4 1001 ∷ tick 4 1002 ∷ []) (done ∷ done ∷ found 0 ∷ found 0 ∷ found 0 ∷ found 0 ∷ found 1 ∷ [])
     -- 11 before 12
@@ -191,7 +214,7 @@ e8to13 =
     (done ∷ fed (Refused UnknownIdentifier) ∷ fed (Refused UnknownIdentifier) ∷ fed (Refused UncoveredBit) ∷ [])
     -- the record shows each under its kind
     ∷ keeps (set-up ∷ safetyState 10 ∷ probes 20 ∷ []) 0 safetyStateKind
-    (dated.At 10
+    (dated.At 10 10
     (SafetyState
     (record {
       duty = 533;
@@ -211,7 +234,7 @@ e8to13 =
       imdfailure = false;
     })))
     ∷ keeps (set-up ∷ safetyState 10 ∷ probes 20 ∷ []) 0 probesKind
-    (dated.At 20
+    (dated.At 20 0
     (Probes
     (record {
       temperature1 = negsuc 99;
@@ -247,4 +270,4 @@ joined (c ∷ cs) rest a b = (a .0, joined cs rest (a .1) b)
 
 pub readings : All table
 unfolding standing findFrom holder otherHolds feed01 setUp01 release01 lookUp01 feedSteps setUpSteps releaseSteps limitsFit sinceFinished opening inSession earlierIn lowersBadly outside leaking badInsulation differs sessionStatus sessionControl limitOf f1 f2 f3 f4 f5 f6 f7 f8 f9 f10 f11 findings01 recordAsOf messageOf builtOf statusIn parametersIn sessionIn controlIn rows ofKind firstAt covered unlabelled offender strayBelow judgedNumber judgeOf wholesOf pad rawsOf getBits leNumber beNumber toSigned accepted talliesOf
-readings = joined messages.table e8to13 messages.readings (refl, (refl, (refl, (refl, (refl, (refl, (refl, (refl, (refl, (refl, (refl, (refl, (refl, (refl, (refl, (refl, (refl, (refl, (refl, (refl, (refl, (refl, (refl, (refl, (refl, (refl, (refl, (refl, ((refl, refl), ((refl, refl), ((refl, refl), ((refl, refl), (refl, tt)))))))))))))))))))))))))))))))))
+readings = joined messages.table e8to13 messages.readings (refl, (refl, (refl, (refl, (refl, (refl, (refl, (refl, (refl, (refl, (refl, ((refl, refl), (refl, (refl, (refl, (refl, ((refl, refl), ((refl, refl), (refl, (refl, (refl, (refl, (refl, (refl, (refl, (refl, (refl, (refl, (refl, (refl, (refl, (refl, (refl, (refl, (refl, (refl, ((refl, refl), ((refl, refl), ((refl, refl), ((refl, refl), (refl, tt)))))))))))))))))))))))))))))))))))))))))

@@ -9,7 +9,8 @@ use Rattle.refusals.specs.declared.Refusal.the-variants.{ChannelFree, Earlier, 
 use Rattle.rule_limits.specs.declared.PlainLimits.{PlainLimits}
 use Rattle.rules.specs.declared.Head.{Head}
 use Rattle.rules.specs.declared.Post.{Post}
-use Rattle.rules.specs.History.{Event, frame, tick, History, newest, sinceNewest, stampOf, earlierIn, countFrom}
+use Rattle.rules.specs.History.{Event, frame, tick, History, newest, sinceNewest, countFrom}
+use Rattle.rules.specs.Times.{earlierIn, stampOf, Unrolled}
 use Rattle.rules.specs.Rules.{findings01}
 use Rattle.rules.specs.Counts.{isFull}
 use Rattle.rules.specs.Record.{recordOf, headOf, postOf}
@@ -184,10 +185,16 @@ abbrev pub InRange : Standing → Type 0
 InRange free = Unit {0}
 InRange (held c lim h) = (isChannel c ≡ true) × (limitsFit lim ≡ true)
 
+-- a post's times are those of events that were accepted one after the other
+abbrev pub InTime : Standing → Type 0
+InTime free = Unit {0}
+InTime (held c lim h) = Unrolled h
+
 -- the table t stands for the accepted steps s
 pub record Kept (t : Table) (s : Steps) : Type 0 where
   pub apart : Apart s
   pub ranges : (i : ℕ) → i < postCount → InRange (standing i s)
+  pub times : (i : ℕ) → i < postCount → InTime (standing i s)
   pub posts : t .posts ≡ postsOf s
 
 -- ---- a post hears right
@@ -202,7 +209,7 @@ pub record Hears01 (d : ℕ) (lim : PlainLimits) (h : History) (c t : ℕ) (a : 
   pub post : stored (postOf d lim h) (r .head) (r .at) (r .slot) ≡ postOf d lim (grown (r .answer) (eventIn h t a) h)
 
 abbrev pub HearRight : Head → ℕ → ℕ → Arrival → Heard → Type 0
-HearRight p c t a r = (d : ℕ) (lim : PlainLimits) (h : History) → p ≡ headOf d lim h → Hears01 d lim h c t a r
+HearRight p c t a r = (d : ℕ) (lim : PlainLimits) (h : History) → p ≡ headOf d lim h → Unrolled h → Hears01 d lim h c t a r
 
 -- ---- an operation is right
 

@@ -15,7 +15,7 @@ use Rattle.refusals.specs.declared.Refusal.the-variants.{ShortBuffer}
 use Rattle.page_rows.specs.Table.{lengthOf, bigOf}
 use Rattle.page_rows.proofs.Rules.{short-length}
 use Rattle.rules.specs.declared.Slot.{Slot}
-use Rattle.rules.specs.History.{receivedOf}
+use Rattle.rules.specs.Times.{receivedOf}
 use Rattle.rules.specs.Record.{isSet}
 use Rattle.plain_words.specs.Words.{answers, refuses, outcomeWord}
 use Rattle.lent_latest.specs.Latest.{hasRoom, keptOutcome, timeLeft, bytesLeft}

@@ -8,7 +8,7 @@ use Rattle.message_types.specs.Labels.{protocolNumber, plugNumber}
 use Rattle.message_parts.specs.Parts.{sessionIn}
 use Rattle.rules.specs.declared.Head.{Head}
 use Rattle.rules.specs.declared.Post.{Post}
-use Rattle.rules.specs.History.{receivedOf}
+use Rattle.rules.specs.Times.{receivedOf}
 use Rattle.rules.specs.Record.{isSet}
 use Rattle.rule_limits.specs.Sensor.{sensorNumber, sensorOf}
 use Rattle.rules.specs.After.{postRecord}
