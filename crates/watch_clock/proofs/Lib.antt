@@ -1,0 +1,3 @@
+pub mod Later
+pub mod Rising
+pub mod Delayed
