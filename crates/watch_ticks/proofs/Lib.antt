@@ -1,0 +1,4 @@
+pub mod Frames
+pub mod Marked
+pub mod Gaps
+pub mod Silence

@@ -1,0 +1,4 @@
+pub mod Marks
+pub mod Gaps
+pub mod Silence
+pub mod Answers

@@ -1,0 +1,44 @@
+-- 02, Req 12: a silence of the power modules while ticks come often enough.
+use Prim.Native.Nat.{ℕ, _+_, _≤_, _<_}
+use mathlib.Core.Path.{_≡_}
+use mathlib.Core.List.{List, [], _∷_}
+use mathlib.Core.Bool.{true}
+use mathlib.Core.Option.{Option, some}
+use Rattle.rule_limits.specs.declared.PlainLimits.{PlainLimits}
+use Rattle.rules.specs.History.{Event, frame, tick, History, timeOf, opening, inSession}
+use Rattle.rules.specs.Rules.{laterTime, sessionStatus, f1}
+
+-- "ticks come at most 100 ms apart"
+abbrev pub apart : ℕ
+apart = 100
+
+-- from the time `from` on, "the first within 100 ms of" it, "and the last within 100 ms of" the time `to`
+abbrev pub Ticked : ℕ → ℕ → History → Type 0
+Ticked from to [] = to ≤ from + apart
+Ticked from to (frame t k raw ∷ h) = Ticked from to h
+Ticked from to (tick t ∷ h) = (to ≤ t + apart) × Ticked from t h
+
+-- since when the power modules of a session that opened at o are silent, "counted as F1 counts it": since the later of the opening and their latest status in it
+abbrev pub quietFrom : ℕ → History → ℕ
+quietFrom o h = laterTime o (sessionStatus h)
+
+-- an event after h ends a silence since b that is "longer than W + 100", or finds it still going on: the next Power_Modules_Status of the session that opened at o,
+-- or the session's last event, or any in between; and ticks came often enough since the opening
+pub record Silent (lim : PlainLimits) (o : ℕ × ℕ) (b : ℕ) (h : History) (e : Event) : Type 0 where
+  pub opened : opening h ≡ some o
+  pub since : quietFrom (o .0) h ≡ b
+  pub ticked : Ticked (o .0) (timeOf e) (inSession h)
+  pub long : b + lim .silence + apart < timeOf e
+
+-- an event after h has F1 for that silence, "after the silence passed W" and "no more than 100 ms after" that
+pub record Told (lim : PlainLimits) (o : ℕ × ℕ) (b : ℕ) (h : History) (e : Event) : Type 0 where
+  pub opened : opening h ≡ some o
+  pub since : quietFrom (o .0) h ≡ b
+  pub finds : f1 lim h e ≡ true
+  pub passed : b + lim .silence < timeOf e
+  pub soon : timeOf e ≤ b + lim .silence + apart
+
+-- of some event of a history, over what came before it
+pub data Some (P : History → Event → Type 0) : History → Type 0 where
+  here : {e : Event} {h : History} → P h e → Some P (e ∷ h)
+  there : {e : Event} {h : History} → Some P h → Some P (e ∷ h)
