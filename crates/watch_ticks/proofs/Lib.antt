@@ -1,4 +1,7 @@
 pub mod Frames
 pub mod Marked
 pub mod Gaps
+pub mod Alike
+pub mod Unticked
 pub mod Silence
+pub mod Answers

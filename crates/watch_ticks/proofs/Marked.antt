@@ -9,10 +9,9 @@ use lib.ListN.{length}
 use Rattle.rule_limits.specs.declared.PlainLimits.{PlainLimits}
 use Rattle.rule_asks.specs.Judgements.{bit}
 use Rattle.rules.specs.History.{Event, frame, tick, History}
-use Rattle.rules.specs.Rules.{Rule, rules01, found, bitsFrom, findings01}
+use Rattle.rules.specs.Rules.{Rule, found}
 use Rattle.rules.specs.Counts.{timesFound}
-use Rattle.watch_ticks.specs.Marks.{Mark, kept, extra, whole, without, extras, extrasFound, keptOf, judged, frames, ReadsFrames, Every}
-use Rattle.watch_ticks.proofs.Frames.{read-frames}
+use Rattle.watch_ticks.specs.Marks.{Mark, kept, extra, whole, without, extras, extrasFound, keptOf, foundOf, frames, ReadsFrames, Every}
 
 pub same-frames : (m : List Mark) → frames (whole m) ≡ frames (without m)
 same-frames [] = refl
@@ -24,19 +23,15 @@ module _ (lim : PlainLimits) where
   rule-without : (f : Rule) → ReadsFrames f → (m : List Mark) (e : Event) → f lim (whole m) e ≡ f lim (without m) e
   rule-without f reads m e = sym (reads lim (whole m) e) ∙ ap (λ (h : History). f lim h e) (same-frames m) ∙ reads lim (without m) e
 
-  pub found-without : (rs : List Rule) → Every ReadsFrames rs → (m : List Mark) (e : Event) → found rs lim (whole m) e ≡ found rs lim (without m) e
+  found-without : (rs : List Rule) → Every ReadsFrames rs → (m : List Mark) (e : Event) → found rs lim (whole m) e ≡ found rs lim (without m) e
   found-without [] reads m e = refl
   found-without (f ∷ rs) reads m e = ap₂ _∷_ (rule-without f (reads .0) m e) (found-without rs (reads .1) m e)
 
-  findings-without : (m : List Mark) (e : Event) → findings01 lim (whole m) e ≡ findings01 lim (without m) e
-  unfolding findings01
-  findings-without m e = ap (bitsFrom 1) (found-without rules01 read-frames m e)
-
-  -- each kept event keeps its findings
-  pub kept-judged : (m : List Mark) → keptOf m (judged lim (whole m)) ≡ judged lim (without m)
-  kept-judged [] = refl
-  kept-judged (kept e ∷ m) = ap₂ _∷_ (findings-without m e) (kept-judged m)
-  kept-judged (extra t ∷ m) = kept-judged m
+  -- each kept event keeps what it has
+  pub kept-found : (rs : List Rule) → Every ReadsFrames rs → (m : List Mark) → keptOf m (foundOf rs lim (whole m)) ≡ foundOf rs lim (without m)
+  kept-found rs reads [] = refl
+  kept-found rs reads (kept e ∷ m) = ap₂ _∷_ (found-without rs reads m e) (kept-found rs reads m)
+  kept-found rs reads (extra t ∷ m) = kept-found rs reads m
 
   -- a tally is more by the put-in ticks of which its rule finds something
   pub times-put : (f : Rule) → ReadsFrames f → (m : List Mark) → timesFound f lim (whole m) ≡ timesFound f lim (without m) + extrasFound f lim m

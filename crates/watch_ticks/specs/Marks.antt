@@ -3,11 +3,12 @@
 use Prim.Native.Nat.{ℕ, suc, _+_}
 use mathlib.Core.Path.{_≡_}
 use mathlib.Core.List.{List, [], _∷_, map}
+use mathlib.Core.Bool.{Bool}
 use mathlib.Core.Option.{Option, none}
 use Rattle.rule_limits.specs.declared.PlainLimits.{PlainLimits}
 use Rattle.rule_asks.specs.Judgements.{bit}
 use Rattle.rules.specs.History.{Event, frame, tick, History}
-use Rattle.rules.specs.Rules.{Rule, findings01}
+use Rattle.rules.specs.Rules.{Rule, found, findings01}
 
 -- newest first, as in a history; a kept event may be a tick too
 pub data Mark : Type 0 where
@@ -36,6 +37,9 @@ extrasFound f lim [] = 0
 extrasFound f lim (kept e ∷ m) = extrasFound f lim m
 extrasFound f lim (extra t ∷ m) = bit (f lim (whole m) (tick t)) 1 + extrasFound f lim m
 
+abbrev pub extrasBy : List Rule → PlainLimits → List Mark → List ℕ
+extrasBy rs lim m = map (λ (f : Rule). extrasFound f lim m) rs
+
 -- of a list as long as the whole one, what stands at the places of the kept events
 abbrev pub keptOf : {A : Type 0} → List Mark → List A → List A
 keptOf [] l = []
@@ -44,7 +48,11 @@ keptOf (kept e ∷ m) (x ∷ l) = x ∷ keptOf m l
 keptOf (extra t ∷ m) [] = []
 keptOf (extra t ∷ m) (x ∷ l) = keptOf m l
 
--- the findings of each event of a history, over what came before it
+-- what rules find of each event of a history, over what came before it; and 01's findings
+abbrev pub foundOf : List Rule → PlainLimits → History → List (List Bool)
+foundOf rs lim [] = []
+foundOf rs lim (e ∷ h) = found rs lim h e ∷ foundOf rs lim h
+
 abbrev pub judged : PlainLimits → History → List ℕ
 judged lim [] = []
 judged lim (e ∷ h) = findings01 lim h e ∷ judged lim h
