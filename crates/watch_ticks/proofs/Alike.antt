@@ -27,7 +27,7 @@ unfolding findings01
 judged-found lim [] = refl
 judged-found lim (e ∷ h) = ap (_∷_ (findings01 lim h e)) (judged-found lim h)
 
-kept-map : {A B : Type 0} (f : A → B) (m : List Mark) (l : List A) → keptOf m (map f l) ≡ map f (keptOf m l)
+pub kept-map : {A B : Type 0} (f : A → B) (m : List Mark) (l : List A) → keptOf m (map f l) ≡ map f (keptOf m l)
 kept-map f [] l = refl
 kept-map f (kept e ∷ m) [] = refl
 kept-map f (kept e ∷ m) (x ∷ l) = ap (_∷_ (f x)) (kept-map f m l)

@@ -5,3 +5,4 @@ pub mod Alike
 pub mod Unticked
 pub mod Silence
 pub mod Answers
+pub mod Runs
