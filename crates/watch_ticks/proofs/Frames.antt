@@ -81,16 +81,37 @@ controller-frames h = newest-frames controllerOf (λ t. refl) h
 -- each of the rules
 pub read-frames : Every ReadsFrames rules01
 unfolding f1 f2 f3 f4 f5 f6 f7 f8 f9 f10 f11
-read-frames =
-    (λ lim h e. rw (opening-frames h, status-frames h),
-    (λ lim h e. rw (controller-frames h),
-    (λ lim h e. rw (opening-frames h),
-    (λ lim h e. rw (opening-frames h),
-    (λ lim h e. rw (opening-frames h, status-frames h),
-    (λ lim h e. refl,
-    (λ lim h e. rw (limit-frames (lim .voltage) (λ p. p .voltage) h),
-    (λ lim h e. rw (opening-frames h, limit-frames (lim .charge) (λ p. p .charge) h, limit-frames (lim .discharge) (λ p. p .discharge) h),
-    (λ lim h e. rw (opening-frames h, control-frames h),
-    (λ lim h e. rw (opening-frames h),
-    (λ lim h e. rw (opening-frames h),
-    tt)))))))))))
+read-frames = (
+  λ lim h e. rw (opening-frames h, status-frames h),
+  (
+    λ lim h e. rw (controller-frames h),
+    (
+      λ lim h e. rw (opening-frames h),
+      (
+        λ lim h e. rw (opening-frames h),
+        (
+          λ lim h e. rw (opening-frames h, status-frames h),
+          (
+            λ lim h e. refl,
+            (
+              λ lim h e. rw (limit-frames (lim .voltage) (λ p. p .voltage) h),
+              (
+                λ lim h e. rw (opening-frames h, limit-frames (lim .charge) (λ p. p .charge) h, limit-frames (lim .discharge) (λ p. p .discharge) h),
+                (
+                  λ lim h e. rw (opening-frames h, control-frames h),
+                  (
+                    λ lim h e. rw (opening-frames h),
+                    (
+                      λ lim h e. rw (opening-frames h),
+                      tt,
+                    ),
+                  ),
+                ),
+              ),
+            ),
+          ),
+        ),
+      ),
+    ),
+  ),
+)

@@ -6,3 +6,5 @@ pub mod Unticked
 pub mod Silence
 pub mod Answers
 pub mod Runs
+pub mod Night
+pub mod Needed

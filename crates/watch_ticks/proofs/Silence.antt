@@ -120,10 +120,17 @@ module _ (lim : PlainLimits) (o : ℕ × ℕ) where
       by-event (tick t) h brings (stays was in-session) = at-tick t h brings was in-session
       by-event (frame t k raw) h brings (stays was in-session) = at-frame t k raw h brings was in-session
 
+  -- the event that ends a silence comes late enough for a tick before it, or has F1 itself
+  silence-ends : (h : History) (e : Event) → Rising h → Silent lim o (quietFrom (o .0) h) h e → Some (Told lim o (quietFrom (o .0) h)) (e ∷ h)
+  silence-ends h e up s = go (ltb (quietFrom (o .0) h + lim .silence + apart) (timeOf e)) refl
+    where
+      go : (far : Bool) → ltb (quietFrom (o .0) h + lim .silence + apart) (timeOf e) ≡ far → Some (Told lim o (quietFrom (o .0) h)) (e ∷ h)
+      go true q = there (silence-found h (timeOf e) up (s .opened) (s .ticked) (ltb-true _ _ q))
+      go false q = here (record { opened = s .opened; since = refl; finds = f1-quiet lim h o e (s .opened) (s .long); passed = s .long; soon = ltb-false _ _ q })
+
   -- 02, Req 12: "any silence of the power modules, counted as F1 counts it, longer than W + 100 has F1 on some event no more than 100 ms after the silence passed W"
   pub silence-told : (b : ℕ) (h : History) → Unrolled h → Some (Silent lim o b) h → Some (Told lim o b) h
   silence-told b (e ∷ h) un (here s) =
-      there
-      (subst (λ (n : ℕ). Some (Told lim o n) h) (s .since)
-      (silence-found h (timeOf e) (rising h (un .2)) (s .opened) (s .ticked) (omega (arith, s .since, s .long))))
+      let own : Silent lim o (quietFrom (o .0) h) h e = subst (λ (n : ℕ). Silent lim o n h e) (sym (s .since)) s in
+      subst (λ (n : ℕ). Some (Told lim o n) (e ∷ h)) (s .since) (silence-ends h e (rising h (un .2)) own)
   silence-told b (e ∷ h) un (there more) = there (silence-told b h (un .2) more)

@@ -12,23 +12,26 @@ use Rattle.rules.specs.Rules.{laterTime, sessionStatus, f1}
 abbrev pub apart : ℕ
 apart = 100
 
--- from the time `from` on, "the first within 100 ms of" it, "and the last within 100 ms of" the time `to`
+-- from the time `from` to the time `to` ticks come at most `most` ms apart, the first within `most` ms of the one and the last within `most` ms of the other
+abbrev pub TickedWithin : ℕ → ℕ → ℕ → History → Type 0
+TickedWithin most from to [] = to ≤ from + most
+TickedWithin most from to (frame t k raw ∷ h) = TickedWithin most from to h
+TickedWithin most from to (tick t ∷ h) = (to ≤ t + most) × TickedWithin most from t h
+
 abbrev pub Ticked : ℕ → ℕ → History → Type 0
-Ticked from to [] = to ≤ from + apart
-Ticked from to (frame t k raw ∷ h) = Ticked from to h
-Ticked from to (tick t ∷ h) = (to ≤ t + apart) × Ticked from t h
+Ticked from to h = TickedWithin apart from to h
 
 -- since when the power modules of a session that opened at o are silent, "counted as F1 counts it": since the later of the opening and their latest status in it
 abbrev pub quietFrom : ℕ → History → ℕ
 quietFrom o h = laterTime o (sessionStatus h)
 
--- an event after h ends a silence since b that is "longer than W + 100", or finds it still going on: the next Power_Modules_Status of the session that opened at o,
--- or the session's last event, or any in between; and ticks came often enough since the opening
+-- An event after h ends a silence since b: the next Power_Modules_Status of the session that opened at o, or the session's last event, or any in between; and ticks came
+-- often enough since the opening. 02 speaks of a silence "longer than W + 100": it need but be longer than W, since the event that ends it is judged too.
 pub record Silent (lim : PlainLimits) (o : ℕ × ℕ) (b : ℕ) (h : History) (e : Event) : Type 0 where
   pub opened : opening h ≡ some o
   pub since : quietFrom (o .0) h ≡ b
   pub ticked : Ticked (o .0) (timeOf e) (inSession h)
-  pub long : b + lim .silence + apart < timeOf e
+  pub long : b + lim .silence < timeOf e
 
 -- an event after h has F1 for that silence, "after the silence passed W" and "no more than 100 ms after" that
 pub record Told (lim : PlainLimits) (o : ℕ × ℕ) (b : ℕ) (h : History) (e : Event) : Type 0 where
