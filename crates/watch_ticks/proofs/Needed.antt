@@ -1,4 +1,4 @@
--- Each premise of the two theorems is needed: with it dropped, or 1 ms off, the rest holds of these lists and the theorem's claim does not. Closed by computing.
+-- Each premise of the two theorems is needed: with it dropped, or 1 ms off, the rest holds of these lists and the theorem's claim does not.
 use Prim.Native.Nat.{ℕ, _+_, _<_}
 use native.Mathlib.Omega.{arith}
 use borrow.Author.Tests.{lt-ltb, le-leb}

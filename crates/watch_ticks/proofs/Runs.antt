@@ -1,4 +1,5 @@
--- 02, Req 12, of the operations' own answers: of two runs of requests in which a post's accepted events differ in ticks alone, and of a run in which a post ticks often enough.
+-- 02, Req 12, of the operations' own answers: of two runs of requests in which a post's accepted events differ in ticks alone, and of a run in which a post
+-- ticks often enough.
 use Prim.Native.Nat.{ℕ, _+_, _%_, _<_}
 use native.Mathlib.Omega.{arith}
 use mathlib.Core.Path.{_≡_, refl, sym, ap, subst, _∙_}

@@ -128,7 +128,8 @@ module _ (lim : PlainLimits) (o : ℕ × ℕ) where
       go true q = there (silence-found h (timeOf e) up (s .opened) (s .ticked) (ltb-true _ _ q))
       go false q = here (record { opened = s .opened; since = refl; finds = f1-quiet lim h o e (s .opened) (s .long); passed = s .long; soon = ltb-false _ _ q })
 
-  -- 02, Req 12: "any silence of the power modules, counted as F1 counts it, longer than W + 100 has F1 on some event no more than 100 ms after the silence passed W"
+  -- 02, Req 12: "any silence of the power modules, counted as F1 counts it, longer than W + 100 has F1 on some event no more than 100 ms after the silence
+  -- passed W"
   pub silence-told : (b : ℕ) (h : History) → Unrolled h → Some (Silent lim o b) h → Some (Told lim o b) h
   silence-told b (e ∷ h) un (here s) =
       let own : Silent lim o (quietFrom (o .0) h) h e = subst (λ (n : ℕ). Silent lim o n h e) (sym (s .since)) s in

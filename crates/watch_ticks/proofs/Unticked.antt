@@ -1,5 +1,5 @@
--- 02, Req 12: "the record differs only in its latest time, ages and tallies". What it says of messages and of the session is read off the kept events as they were received,
--- whatever the gaps between them.
+-- 02, Req 12: "the record differs only in its latest time, ages and tallies". What it says of messages and of the session is read off the kept events as they
+-- were received, whatever the gaps between them.
 use Prim.Native.Nat.{ℕ}
 use mathlib.Core.Path.{_≡_, refl, sym, ap, ap₂, _∙_}
 use mathlib.Core.List.{List, [], _∷_, map}

@@ -21,12 +21,13 @@ TickedWithin most from to (tick t ∷ h) = (to ≤ t + most) × TickedWithin mos
 abbrev pub Ticked : ℕ → ℕ → History → Type 0
 Ticked from to h = TickedWithin apart from to h
 
--- since when the power modules of a session that opened at o are silent, "counted as F1 counts it": since the later of the opening and their latest status in it
+-- since when the power modules of a session that opened at o are silent, "counted as F1 counts it": the later of the opening and their latest status in it
 abbrev pub quietFrom : ℕ → History → ℕ
 quietFrom o h = laterTime o (sessionStatus h)
 
--- An event after h ends a silence since b: the next Power_Modules_Status of the session that opened at o, or the session's last event, or any in between; and ticks came
--- often enough since the opening. 02 speaks of a silence "longer than W + 100": it need but be longer than W, since the event that ends it is judged too.
+-- An event after h ends a silence since b: the next Power_Modules_Status of the session that opened at o, or the session's last event, or any in between;
+-- and ticks came often enough since the opening.
+-- 02 speaks of a silence "longer than W + 100": it need but be longer than W, since the event that ends it is judged too.
 pub record Silent (lim : PlainLimits) (o : ℕ × ℕ) (b : ℕ) (h : History) (e : Event) : Type 0 where
   pub opened : opening h ≡ some o
   pub since : quietFrom (o .0) h ≡ b
