@@ -1,5 +1,5 @@
--- 02, Req 12: ticks put in or taken out, with the same unrolled gaps between the kept events: every kept event keeps its findings, and the counts differ by what
--- those ticks were and found. Over any rules that read frames alone and find the same where all is as much later.
+-- 02, Req 12: ticks put in or taken out, with the same unrolled gaps between the kept events: every kept event keeps its findings, and the counts
+-- differ by what those ticks were and found. Over any rules that read frames alone and find the same where all is as much later.
 use Prim.Native.Nat.{ℕ, _+_}
 use native.Mathlib.Omega.{arith}
 use mathlib.Core.Path.{_≡_, refl, sym, ap, ap₂, _∙_}

@@ -1,5 +1,5 @@
--- 02, Req 12: "in a list of one post's accepted events, put in or take out ticks". Such a list with marks: which of its ticks are put in, which events are kept.
--- What is put in on one side is what is taken out on the other, so that two marked lists with the same kept events say both.
+-- 02, Req 12: "in a list of one post's accepted events, put in or take out ticks". Such a list with marks: which of its ticks are put in,
+-- and which events are kept. What is put in on one side is what is taken out on the other, so that two marked lists with the same kept events say both.
 use Prim.Native.Nat.{ℕ, suc, _+_}
 use mathlib.Core.Path.{_≡_}
 use mathlib.Core.List.{List, [], _∷_, map}

@@ -1,5 +1,5 @@
--- 02, Req 12: "the record differs only in its latest time, ages and tallies". A record but for these: nothing stands for the latest time, 0 for each age and for
--- the count of what was accepted, and no tallies. The times of messages, as they were received, stay.
+-- 02, Req 12: "the record differs only in its latest time, ages and tallies". A record but for these: nothing stands for the latest time,
+-- 0 for each age and for the count of what was accepted, and no tallies. The times of messages, as they were received, stay.
 use Prim.Native.Nat.{ℕ, _+_}
 use mathlib.Core.List.{List, [], _∷_, map}
 use Rattle.rules.specs.declared.LastTime.the-variants as last
