@@ -68,6 +68,14 @@ mod tally_coverage;
 #[cfg(test)]
 mod tally_readings;
 mod tally_slips;
+#[cfg(test)]
+mod tick_histories;
+#[cfg(test)]
+mod tick_kept;
+#[cfg(test)]
+mod tick_silences;
+#[cfg(test)]
+mod tick_slips;
 
 use std::ffi::OsString;
 use std::io::{self, BufWriter, Write};
