@@ -39,7 +39,7 @@ fn tick_until(rng: &mut Rng, events: &mut Vec<Event>, next: &mut Option<u64>, un
     }
 }
 
-/// How many events came in a silence longer than W + 100 or ended it, and how many found it untold: F1 came late, or not
+/// How many events came in a silence longer than W + 100 or ended it, and how many found it untold: F1 came late or not
 /// at all.
 #[derive(Default)]
 struct Silences {

@@ -5,6 +5,7 @@ use borrow.Author.Tests.{ltb-true}
 use mathlib.Core.Path.{_≡_, refl, ap, sym, _∙_}
 use mathlib.Core.Bool.{Bool, true, false}
 use mathlib.Core.List.{List, [], _∷_, map}
+use lib.ListN.{length}
 use mathlib.Core.Option.{none, some}
 use Rattle.page_rows.specs.Table.{rows, ofKind, firstAt, covered}
 use Rattle.page_read.specs.Judge.{unlabelled, strayBelow, judgedNumber, judgeOf}
@@ -18,19 +19,23 @@ use Rattle.rule_limits.specs.Limits.{limitsFit}
 use Rattle.rule_asks.specs.Judgements.{lowersBadly, outside, leaking, badInsulation, differs}
 use Rattle.rules.specs.History.{History, sinceFinished, opening, inSession}
 use Rattle.rules.specs.History as history
-use Rattle.rules.specs.Times.{earlierIn}
+use Rattle.rules.specs.Times.{earlierIn, Unrolled}
 use Rattle.rules.specs.Rules.{sessionStatus, sessionControl, limitOf, f1, f2, f3, f4, f5, f6, f7, f8, f9, f10, f11, rules01, findings01}
-use Rattle.watch_rules.specs.declared.Answer.{Answer}
+use Rattle.rules.specs.Counts.{talliesOf}
+use Rattle.rules.specs.Record.{recordOf}
 use Rattle.watch_rules.specs.declared.Answer.the-variants.{Findings}
 use Rattle.watch_rules.specs.Table.{postCount, lookUpOf}
 use Rattle.watch_rules.specs.Steps.{held, standing, findFrom, holder, otherHolds, feed01, setUp01, feedSteps, setUpSteps}
 use Rattle.watch_rules.specs.Run.{Request, setUp, frame, tick, run, accepted}
-use Rattle.watch_ticks.specs.Marks.{Mark, kept, extra, whole, without, extras, extrasBy, keptOf, judged}
-use Rattle.watch_ticks.specs.Gaps.{whatOf, gaps, asReceived}
+use Rattle.watch_ticks.specs.Marks.{Mark, kept, extra, whole, extrasBy, keptOf, judged}
+use Rattle.watch_ticks.specs.Gaps.{Alike}
 use Rattle.watch_ticks.specs.Unticked.{unticked, plus}
-use Rattle.watch_ticks.specs.Silence.{quietFrom, Silent, Told, Some}
+use Rattle.watch_ticks.specs.Silence.{Silent, Told, Some}
 use Rattle.watch_ticks.specs.Silence as event
 use Rattle.watch_ticks.specs.Answers.{answersTo, SomeAnswer, HasF1}
+use Rattle.watch_ticks.proofs.Alike.{kept-findings, tallies-alike, accepted-alike}
+use Rattle.watch_ticks.proofs.Unticked.{record-alike}
+use Rattle.watch_ticks.proofs.Silence.{silence-told}
 use Rattle.watch_ticks.proofs.Answers.{answers-judged}
 use Rattle.watch_ticks.proofs.Runs.{answers-alike, counts-alike, shown-alike, silence-answered}
 
@@ -141,3 +146,31 @@ silence-heard = silence-answered limits opened 1000 quiet 0 4 since first (silen
 
 pub answered-quiet : answersTo 0 quiet ≡ Findings 0 ∷ Findings 1 ∷ Findings 1 ∷ Findings 0 ∷ Findings 0 ∷ []
 answered-quiet = answers-judged quiet 0 4 limits since first (silent-there .0) ∙ ap (map Findings) (silent-there .4)
+
+-- ---- the same over the histories themselves
+
+in-time : Unrolled (whole more) × Unrolled (whole fewer) × Unrolled since
+unfolding earlierIn
+in-time = (
+  (refl, refl, (refl, refl, (refl, refl, (refl, refl, (refl, refl, (refl, refl, (refl, refl, tt))))))),
+  (refl, refl, (refl, refl, (refl, refl, (refl, refl, tt)))),
+  (refl, refl, (refl, refl, (refl, refl, (refl, refl, (refl, refl, tt))))),
+)
+
+alike-there : Alike more fewer
+alike-there = record { one = in-time .0; other = in-time .1; same = refl; between = refl }
+
+pub findings-there : keptOf more (judged limits (whole more)) ≡ keptOf fewer (judged limits (whole fewer))
+findings-there = kept-findings limits more fewer alike-there
+
+pub accepted-there : length (whole more) + 0 ≡ length (whole fewer) + 3
+accepted-there = accepted-alike limits more fewer alike-there
+
+pub tallies-there : plus (talliesOf limits (whole more)) (extrasBy rules01 limits fewer) ≡ plus (talliesOf limits (whole fewer)) (extrasBy rules01 limits more)
+tallies-there = tallies-alike limits more fewer alike-there
+
+pub record-there : unticked (recordOf 4 limits (whole more)) ≡ unticked (recordOf 4 limits (whole fewer))
+record-there = record-alike more fewer refl 4 limits
+
+pub told-there : Some (Told limits opened 1000) since
+told-there = silence-told limits opened 1000 since (in-time .2) (event.there (event.here silence))
