@@ -1,3 +1,6 @@
 pub mod Later
 pub mod Rising
 pub mod Delayed
+pub mod Wrapped
+pub mod Differences
+pub mod Moved

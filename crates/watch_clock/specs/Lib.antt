@@ -1,1 +1,3 @@
 pub mod Later
+pub mod Differences
+pub mod Moved
