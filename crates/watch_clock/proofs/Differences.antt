@@ -2,8 +2,7 @@
 use Prim.Native.Nat.{ℕ, _+_, _-_, _<_}
 use native.Mathlib.Omega.{arith}
 use mathlib.Core.Path.{_≡_, refl, sym, ap, ap₂, _∙_}
-use mathlib.Core.List.{List, [], _∷_, map}
-use mathlib.Core.Option.{Option, none, some}
+use mathlib.Core.List.{[], _∷_, map}
 use Rattle.rule_limits.specs.declared.PlainLimits.{PlainLimits}
 use Rattle.rules.specs.History.{Event, frame, tick, History, timeOf}
 use Rattle.rules.specs.Times.{receivedOf, wrapped, stampOf, latestTime, Unrolled}
@@ -66,7 +65,7 @@ before-same (e ∷ h) (f ∷ g) t s what apart rest =
     let first : wrapped (receivedOf t) (receivedOf (timeOf e)) ≡ wrapped (receivedOf s) (receivedOf (timeOf f)) = cc in
     let others : differences (received (e ∷ h)) ≡ differences (received (f ∷ g)) = cc in
     let same : wrapped (receivedOf s) (timeOf f) ≡ wrapped (receivedOf t) (timeOf e) =
-        sym (wrapped-from (receivedOf s) (timeOf f)) ∙ sym first ∙ wrapped-from (receivedOf t) (timeOf e) in
+    sym (wrapped-from (receivedOf s) (timeOf f)) ∙ sym first ∙ wrapped-from (receivedOf t) (timeOf e) in
     rw same (on-both (timeOf e) (timeOf f) (wrapped (receivedOf t) (timeOf e)) (e ∷ h) (f ∷ g) (rest others))
 
 pub same-but-later : (h g : History) → Unrolled h → Unrolled g → InStep h g → delayed (latestTime g) h ≡ delayed (latestTime h) g

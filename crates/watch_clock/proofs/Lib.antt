@@ -4,3 +4,6 @@ pub mod Delayed
 pub mod Wrapped
 pub mod Differences
 pub mod Moved
+pub mod MovedAnswer
+pub mod MovedSteps
+pub mod MovedRun

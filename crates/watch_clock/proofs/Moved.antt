@@ -3,16 +3,15 @@ use Prim.Native.Nat.{ℕ, suc, _+_}
 use native.Mathlib.Omega.{arith}
 use mathlib.Core.Path.{_≡_, refl, sym, ap, ap₂, _∙_}
 use mathlib.Core.List.{List, [], _∷_, map}
-use mathlib.Core.Bool.{false}
 use lib.Dec.{leb}
 use lib.ListN.{length}
 use Rattle.rule_limits.specs.declared.PlainLimits.{PlainLimits}
 use Rattle.rules.specs.History.{Event, frame, tick, History, timeOf}
-use Rattle.rules.specs.Times.{receivedOf, wrapped, earlierIn, stampOf, latestTime, Unrolled}
+use Rattle.rules.specs.Times.{receivedOf, earlierIn, stampOf, Unrolled}
 use Rattle.rules.specs.Rules.{findings01}
 use Rattle.rules.specs.Counts.{largest, isFull}
 use Rattle.rules.specs.Record.{recordOf}
-use Rattle.rules.proofs.Unrolled.{received-stamp, stamp-low, early-low, unrolled-next}
+use Rattle.rules.proofs.Unrolled.{received-stamp, early-low, unrolled-next}
 use Rattle.watch_clock.specs.Later.{retime, still}
 use Rattle.watch_clock.specs.Differences.{differencesTo, differences, received, saidBy, said, InStep}
 use Rattle.watch_clock.specs.Moved.{onClock, moved}
