@@ -21,7 +21,7 @@ sum-next : (h : History) (t : ℕ) → latestTime h ≡ firstOf (received h) + t
 sum-next [] t before = omega arith
 sum-next (e ∷ h) t before = omega (arith, before, wrapped-from (receivedOf t) (timeOf e))
 
--- "the unrolled time of an accepted list is the first time plus the sum of its wrapped differences": of its latest event, and so of each, as the latest of those up to it
+-- "unrolled times, the sum of accepted differences": the latest time is the first one and that sum, and so is each, as the latest of those up to it
 pub time-sum : (h : History) → Unrolled h → latestTime h ≡ firstOf (received h) + total (differences (received h))
 time-sum [] un = refl
 time-sum (e ∷ h) un = un .0 ∙ sum-next h (timeOf e) (time-sum h (un .2))

@@ -1,9 +1,14 @@
 pub mod Later
 pub mod Rising
 pub mod Delayed
+pub mod Still
 pub mod Wrapped
 pub mod Differences
 pub mod Moved
 pub mod MovedAnswer
 pub mod MovedSteps
 pub mod MovedRun
+pub mod AfterGap
+pub mod Regular
+pub mod Night
+pub mod Hourly

@@ -1,4 +1,5 @@
--- 02, Req 09: requests in which each channel's clock is moved by a number of its own get the same replies, and look-ups show the same but for times as received.
+-- 02, Req 09: requests in which each channel's clock is moved by a number of its own get the same replies,
+-- and look-ups show the same but for times as received.
 use Prim.Native.Nat.{ℕ}
 use mathlib.Core.Path.{_≡_, refl, sym, ap, ap₂, _∙_}
 use mathlib.Core.List.{List, [], _∷_}

@@ -20,7 +20,7 @@ wrapped-low t s = omega arith
 pub wrapped-adds : (t s : ℕ) → receivedOf (s + wrapped t s) ≡ receivedOf t
 wrapped-adds t s = omega arith
 
-wrapped-sum : (s n : ℕ) → n < 4294967296 → wrapped (s + n) s ≡ n
+pub wrapped-sum : (s n : ℕ) → n < 4294967296 → wrapped (s + n) s ≡ n
 wrapped-sum s n low = omega (arith, low)
 
 pub wrapped-only : (t s n : ℕ) → n < 4294967296 → receivedOf (s + n) ≡ receivedOf t → wrapped t s ≡ n
