@@ -9,13 +9,11 @@ use lib.Dec.{ltb, leb}
 use borrow.Author.Tests.{lt-ltb, lt-leb}
 use Rattle.rule_limits.specs.declared.PlainLimits.{PlainLimits}
 use Rattle.rule_asks.specs.Judgements.{bit}
-use Rattle.rules.specs.declared.Dated.the-variants as dated
 use Rattle.message_parts.specs.Parts.{controllerKind}
 use Rattle.rules.specs.History.{Event, tick, History, timeOf, newest, controllerOf, opening}
 use Rattle.rules.specs.Times.{receivedOf, wrapped, earlierIn, stampOf, latestTime, elapsed}
 use Rattle.rules.specs.Rules.{ask, isOpen, sessionStatus, laterTime, f1, f2, findings01}
 use Rattle.rules.proofs.Unasked.{only-f1-f2}
-use Rattle.watch_rules.specs.declared.Setting.the-variants as setting
 use Rattle.watch_clock.specs.Later.{Rising, NoneAfter, FoundBy}
 use Rattle.watch_clock.proofs.Later.{kind-timely}
 use Rattle.watch_clock.proofs.Wrapped.{wrapped-to, wrapped-sum}

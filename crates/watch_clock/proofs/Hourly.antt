@@ -21,7 +21,8 @@ use Rattle.watch_rules.specs.Steps.{InTime}
 use Rattle.watch_rules.specs.Run.{Request, fed, reply, run}
 use Rattle.watch_rules.proofs.Demand.{run-kept}
 use Rattle.watch_clock.specs.Regular.{tickTime, tickAfter, tickedOn}
-use Rattle.watch_clock.proofs.Regular.{noLatest, reply-ticked, record-ticked, age-ticked, session-ticked}
+use Rattle.watch_clock.proofs.Regular.{noLatest, age-ticked, session-ticked}
+use Rattle.watch_clock.proofs.RegularRun.{reply-ticked, record-ticked}
 use Rattle.watch_clock.proofs.Night.{limits, charging, before, first, own-charging}
 
 abbrev hour : ℕ
@@ -48,7 +49,7 @@ hours n = tickedOn 4 hour 4294967290 n charging
 -- every tick is accepted, and has F1 and F2
 pub hundred-days : (n : ℕ) → n < 2400 → reply (run (hours n)) (tickAfter 4 hour 4294967290 n) ≡ fed (Findings 3)
 hundred-days n low =
-    reply-ticked hour (omega arith) status opened unrolled charging 0 4 limits first own-charging (omega arith) (omega arith) n (omega (arith, low))
+    reply-ticked hour (omega arith) status opened charging 0 4 limits first own-charging (omega arith) (omega arith) n (omega (arith, low))
     ∙ ap (λ (x : ℕ). fed (Findings x)) both-found
 
 -- the last of them stands two rounds and more after the controller's status; 50,065,402 was received
@@ -62,7 +63,7 @@ controllerShown n = getD (lookUpOf (run (hours n)) 0 .shown .latest) controllerK
 pub age-hourly : (n : ℕ) → n ≤ 2400 → controllerShown n .message ≡ dated.At 4294967290 (min (n * 3600000) 4294967295) (messageOf controllerKind 7)
 age-hourly n low =
     ap (λ (l : LookedUp). getD (l .shown .latest) controllerKind noLatest .message)
-    (record-ticked hour (omega arith) status opened unrolled charging 0 4 limits first own-charging (omega arith) (omega arith) n (omega (arith, low)))
+    (record-ticked hour (omega arith) status opened charging 0 4 limits first own-charging (omega arith) (omega arith) n (omega (arith, low)))
     ∙ age-ticked hour (omega arith) status opened unrolled 4 limits controllerKind (omega arith) (4294967290, 7) refl n
     ∙ ap (λ (x : ℕ). dated.At 4294967290 (min x 4294967295) (messageOf controllerKind 7)) (off (n * 3600000))
   where
@@ -82,5 +83,5 @@ pub session-stops : lookUpOf (run (hours 2400)) 0 .shown .session
 unfolding opening sinceFinished sessionStatus sessionControl inSession
 session-stops =
     ap (λ (l : LookedUp). l .shown .session)
-    (record-ticked hour (omega arith) status opened unrolled charging 0 4 limits first own-charging (omega arith) (omega arith) 2400 (omega arith))
+    (record-ticked hour (omega arith) status opened charging 0 4 limits first own-charging (omega arith) (omega arith) 2400 (omega arith))
     ∙ session-ticked hour (omega arith) status opened unrolled 4 limits 2400

@@ -10,11 +10,9 @@ use Rattle.rules.specs.History.{History}
 use Rattle.rules.specs.Times.{earlierIn, Unrolled}
 use Rattle.rules.proofs.Unrolled.{unrolled-next}
 use Rattle.watch_rules.specs.declared.Answer.the-variants.{Refused}
-use Rattle.watch_rules.specs.declared.Setting.the-variants as setting
 use Rattle.watch_rules.specs.declared.Arrival.{Arrival}
 use Rattle.watch_rules.specs.declared.Arrival.the-variants.{Tick, Frame, Unread}
 use Rattle.watch_rules.specs.Table.{Arriving}
-use Rattle.watch_rules.specs.Steps as step
 use Rattle.watch_rules.specs.Steps.{held, counted01, found01, answerIn, eventIn}
 use Rattle.watch_rules.specs.Run.{frame, tick}
 use Rattle.watch_clock.specs.Moved.{onClock, moved}

@@ -3,10 +3,7 @@
 use Prim.Native.Nat.{ℕ}
 use mathlib.Core.Path.{_≡_, refl, sym, ap, ap₂, _∙_}
 use mathlib.Core.List.{List, [], _∷_}
-use Rattle.rules.specs.History as history
-use Rattle.watch_rules.specs.declared.Setting.the-variants as setting
 use Rattle.watch_rules.specs.Table.{emptyTable, lookUpOf}
-use Rattle.watch_rules.specs.Steps as step
 use Rattle.watch_rules.specs.Run.{Request, setUp, release, frame, tick, reply, run, accepted, isArrival, repliesFrom, replies01From}
 use Rattle.watch_rules.proofs.Standings.{standing-none}
 use Rattle.watch_rules.proofs.Handed.{next-refused}

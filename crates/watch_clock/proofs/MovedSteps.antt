@@ -7,7 +7,6 @@ use mathlib.Core.Bool.{Bool, true, false}
 use lib.Dec.{eqb, ltb}
 use borrow.Author.Tests.{eqb-true, eqb-false, eq-eqb, ltb-true}
 use Rattle.rule_limits.specs.declared.PlainLimits.{PlainLimits}
-use Rattle.rules.specs.History as history
 use Rattle.rules.specs.History.{Event, History}
 use Rattle.rules.specs.Times.{Unrolled}
 use Rattle.watch_rules.specs.declared.Answer.{Answer}

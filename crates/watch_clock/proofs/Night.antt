@@ -18,7 +18,6 @@ use Rattle.message_parts.specs.Parts.{statusIn, parametersIn, sessionIn, contro
 use Rattle.rule_limits.specs.declared.PlainLimits.{PlainLimits}
 use Rattle.rule_limits.specs.Limits.{limitsFit}
 use Rattle.rule_asks.specs.Judgements.{lowersBadly, outside, leaking, badInsulation, differs}
-use Rattle.rules.specs.declared.Dated.the-variants as dated
 use Rattle.rules.specs.History as history
 use Rattle.rules.specs.History.{Event, History, sinceFinished, opening, inSession}
 use Rattle.rules.specs.Times.{receivedOf, earlierIn, stampOf, latestTime, Unrolled}
@@ -33,7 +32,7 @@ use Rattle.watch_clock.specs.Differences.{received, differences, total, 
 use Rattle.watch_clock.specs.Moved.{moved, movedRequests, stillShown}
 use Rattle.watch_clock.proofs.Rising.{rising, none-after, opening-by}
 use Rattle.watch_clock.proofs.Delayed.{findings-delayed, record-delayed}
-use Rattle.watch_clock.proofs.Still.{still-only}
+use Rattle.watch_clock.proofs.AllButTimes.{still-only}
 use Rattle.watch_clock.proofs.Differences.{time-sum, time-received, findings-by-differences, record-by-differences, same-by-first}
 use Rattle.watch_clock.proofs.Moved.{earlier-moved, unrolled-moved, findings-moved, record-moved}
 use Rattle.watch_clock.proofs.MovedRun.{reply-moved, look-up-moved, refused-moved, replies-moved}

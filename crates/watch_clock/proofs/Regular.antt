@@ -1,62 +1,30 @@
--- 02, Req 09: a post that is ticked every hour is never refused for its clock's rounds, and F1 and F2 stay right. The same of any time between ticks.
-use Prim.Native.Nat.{ℕ, zero, suc, _+_, _*_, _<_, _≤_}
+-- 02, Req 09: one post that is ticked regularly, after less than 2^31 ms each: its ticks are in time, F1 and F2 stay right, and ages stop at the largest.
+use Prim.Native.Nat.{ℕ, zero, suc, _+_, _*_, _<_}
 use native.Mathlib.Nat.{suc-mul}
 use native.Mathlib.Omega.{arith}
 use mathlib.Core.Path.{_≡_, refl, sym, ap, ap₂, _∙_}
-use mathlib.Core.List.{List, [], _∷_}
+use mathlib.Core.List.{_∷_}
 use mathlib.Core.Bool.{false}
-use mathlib.Core.Option.{Option, none, some}
+use mathlib.Core.Option.{Option, some}
 use lib.ListN.{length, getD}
-use borrow.Author.Tests.{lt-ltb, lt-leb}
 use Rattle.message_build.specs.Built.{messageOf}
 use Rattle.rule_limits.specs.declared.PlainLimits.{PlainLimits}
 use Rattle.rule_asks.specs.Judgements.{bit}
 use Rattle.rules.specs.declared.Latest.{Latest}
 use Rattle.rules.specs.declared.Dated.the-variants as dated
 use Rattle.message_parts.specs.Parts.{statusKind, controllerKind, controlKind}
-use Rattle.rules.specs.History.{Event, tick, History, timeOf, first, newest, oldest, onlyIf, afterOldest, ofKind, controllerOf, openingOf, finishedOf, sinceNewest, sinceFinished, opening, inSession}
+use Rattle.rules.specs.History.{Event, tick, History, timeOf, newest, ofKind, controllerOf, opening, inSession}
 use Rattle.rules.specs.Times.{receivedOf, earlierIn, stampOf, latestTime, ageOf, Unrolled}
 use Rattle.rules.specs.Rules.{isOpen, sessionStatus, sessionControl, findings01}
-use Rattle.rules.specs.Counts.{largest, isFull}
 use Rattle.rules.specs.Record.{kindCount, datedOf, partOf, recordAsOf, recordOf}
 use Rattle.rules.proofs.Counted.{count-at}
 use Rattle.rules.proofs.Unrolled.{unrolled-next}
-use Rattle.watch_rules.specs.declared.Answer.the-variants.{Findings}
-use Rattle.watch_rules.specs.declared.Setting.the-variants as setting
-use Rattle.watch_rules.specs.Table.{postCount, lookUpOf}
-use Rattle.watch_rules.specs.Steps.{held, standing, lookUp01}
-use Rattle.watch_rules.specs.Run.{Request, fed, reply, run, accepted}
-use Rattle.watch_rules.proofs.Demand.{own-tick, counted-tick, every-record}
-use Rattle.watch_clock.specs.Regular.{tickTime, ticked, tickAfter, tickedOn}
+use Rattle.watch_clock.specs.Regular.{tickTime, ticked}
 use Rattle.watch_clock.proofs.Rising.{rising}
 use Rattle.watch_clock.proofs.AfterGap.{stamp-after, not-earlier, findings-after}
+use Rattle.watch_clock.proofs.PastTicks.{opening-tick, in-session-tick}
 
--- ---- a tick leaves what a look back finds
-
-first-none : (o : Option (ℕ × ℕ)) → first o none ≡ o
-first-none none = refl
-first-none (some a) = refl
-
-opening-tick : (t : ℕ) (h : History) → opening (tick t ∷ h) ≡ opening h
-unfolding opening sinceFinished
-opening-tick t h = first-none (oldest openingOf (sinceNewest finishedOf h))
-
-none-after-none : (h : History) → oldest openingOf h ≡ none → afterOldest openingOf h ≡ []
-none-after-none [] q = refl
-none-after-none (e ∷ h) q = go (oldest openingOf h) q
-  where
-    go : (o : Option (ℕ × ℕ)) → first o (openingOf e) ≡ none → onlyIf o (e ∷ afterOldest openingOf h) ≡ []
-    go none r = refl
-    go (some a) r = absurd (let z : _≡_ {A = ℕ} 0 1 = cc in let y : ⊥ = omega (arith, z) in y)
-
-in-session-tick : (k t : ℕ) (h : History) → newest (ofKind k) (inSession (tick t ∷ h)) ≡ newest (ofKind k) (inSession h)
-unfolding inSession sinceFinished
-in-session-tick k t h = go (oldest openingOf (sinceNewest finishedOf h)) refl
-  where
-    go : (o : Option (ℕ × ℕ)) → oldest openingOf (sinceNewest finishedOf h) ≡ o
-        → newest (ofKind k) (onlyIf o (tick t ∷ afterOldest openingOf (sinceNewest finishedOf h))) ≡ newest (ofKind k) (afterOldest openingOf (sinceNewest finishedOf h))
-    go none q = rw (none-after-none (sinceNewest finishedOf h) q)
-    go (some a) q = refl
+-- ---- what a look back past the ticks finds
 
 module _ (every t : ℕ) (h : History) where
   newest-ticked : (k n : ℕ) → newest (ofKind k) (ticked every t n h) ≡ newest (ofKind k) h
@@ -79,7 +47,7 @@ module _ (every t : ℕ) (h : History) where
   unfolding sessionControl
   control-ticked n = in-session-ticked controlKind n
 
-  length-ticked : (n : ℕ) → length (ticked every t n h) ≡ n + length h
+  pub length-ticked : (n : ℕ) → length (ticked every t n h) ≡ n + length h
   length-ticked zero = omega arith
   length-ticked (suc n) = omega (arith, length-ticked n)
 
@@ -147,39 +115,3 @@ module _ (every : ℕ) (half : every < 2147483648) (e : Event) (h : History) (un
   unfolding recordAsOf
   session-ticked c lim n =
       rw (latest-ticked n, opening-ticked every (timeOf e) (e ∷ h) n, status-ticked every (timeOf e) (e ∷ h) n, control-ticked every (timeOf e) (e ∷ h) n)
-
-  -- ---- over the public operations
-
-  module _ (rs : List Request) (i c : ℕ) (lim : PlainLimits) (low : i < postCount) (own : standing i (accepted rs) ≡ held c lim (e ∷ h))
-      (silent : lim .silence < every) (late : 200 < every) where
-    abbrev bits : ℕ
-    bits = bit (isOpen (opening (e ∷ h))) 1 + bit (isOpen (newest controllerOf (e ∷ h))) 2
-
-    room-for : (n : ℕ) → n + length (e ∷ h) < largest → isFull (after n) ≡ false
-    room-for n room = lt-leb largest (length (after n)) (omega (arith, room, length-ticked every (timeOf e) (e ∷ h) n))
-
-    reply-next : (n : ℕ) → n + length (e ∷ h) < largest → standing i (accepted (tickedOn c every (timeOf e) n rs)) ≡ held c lim (after n)
-        → reply (run (tickedOn c every (timeOf e) n rs)) (tickAfter c every (timeOf e) n) ≡ fed (Findings bits)
-    reply-next n room stands =
-        own-tick (tickedOn c every (timeOf e) n rs) i c lim (after n) low stands (receivedOf (tickTime every (timeOf e) (suc n)))
-        ∙ rw (tick-in-time n, room-for n room, tick-stands n, findings-ticked lim silent late n)
-
-    -- the post's history is that with all the ticks
-    pub standing-ticked : (n : ℕ) → n + length (e ∷ h) ≤ largest → standing i (accepted (tickedOn c every (timeOf e) n rs)) ≡ held c lim (after n)
-    standing-ticked zero room = own
-    standing-ticked (suc n) room =
-        let before : standing i (accepted (tickedOn c every (timeOf e) n rs)) ≡ held c lim (after n) = standing-ticked n (omega (arith, room)) in
-        counted-tick (tickedOn c every (timeOf e) n rs) i c lim (after n) before (receivedOf (tickTime every (timeOf e) (suc n))) bits
-        (reply-next n (omega (arith, room)) before)
-        ∙ ap (λ (t : ℕ). held c lim (tick t ∷ after n)) (tick-stands n)
-
-    -- none is refused while the post's count has room, and each has the findings
-    pub reply-ticked : (n : ℕ) → n + length (e ∷ h) < largest
-        → reply (run (tickedOn c every (timeOf e) n rs)) (tickAfter c every (timeOf e) n) ≡ fed (Findings bits)
-    reply-ticked n room = reply-next n room (standing-ticked n (omega (arith, room)))
-
-    pub record-ticked : (n : ℕ) → n + length (e ∷ h) ≤ largest
-        → lookUpOf (run (tickedOn c every (timeOf e) n rs)) i ≡ record { answer = setting.Done; shown = recordOf c lim (after n) }
-    unfolding lookUp01
-    record-ticked n room =
-        every-record (tickedOn c every (timeOf e) n rs) i ∙ rw (lt-ltb i postCount low, standing-ticked n room)
