@@ -23,10 +23,11 @@ use Rattle.rules.specs.History.{Event, History, sinceFinished, opening, inSessi
 use Rattle.rules.specs.Times.{receivedOf, earlierIn, stampOf, latestTime, Unrolled}
 use Rattle.rules.specs.Rules.{sessionStatus, sessionControl, limitOf, f1, f2, f3, f4, f5, f6, f7, f8, f9, f10, f11, findings01}
 use Rattle.rules.specs.Record.{recordOf}
+use Rattle.watch_rules.specs.declared.Answer.the-variants.{Findings}
 use Rattle.watch_rules.specs.Table.{postCount, emptyTable, lookUpOf}
 use Rattle.watch_rules.specs.Steps.{held, standing, findFrom, holder, otherHolds, feed01, setUp01, release01, lookUp01, feedSteps, setUpSteps, releaseSteps, InTime}
-use Rattle.watch_rules.specs.Run.{Request, setUp, frame, tick, reply, run, accepted, repliesFrom}
-use Rattle.watch_rules.proofs.Demand.{run-kept}
+use Rattle.watch_rules.specs.Run.{Request, setUp, frame, tick, fed, reply, run, accepted, repliesFrom}
+use Rattle.watch_rules.proofs.Demand.{run-kept, own-tick}
 use Rattle.watch_clock.specs.Later.{delayed, Rising, FoundBy, still}
 use Rattle.watch_clock.specs.Differences.{received, differences, total, firstOf, InStep}
 use Rattle.watch_clock.specs.Moved.{moved, movedRequests, stillShown}
@@ -69,8 +70,9 @@ from0 = history.tick 491 ∷ beforeFrom0
 
 computed : (standing 0 (accepted night) ≡ held 4 limits heard) × (standing 0 (accepted charging) ≡ held 4 limits before) × (findings01 limits beforeFrom0 (history.tick 491) ≡ 2)
     × (earlierIn before 195 ≡ false) × (earlierIn before 4294967289 ≡ true)
+    × (earlierIn heard 206 ≡ false) × (findings01 limits heard (history.tick 4294967502) ≡ 3)
 unfolding standing findFrom holder otherHolds feed01 setUp01 release01 lookUp01 feedSteps setUpSteps releaseSteps limitsFit accepted sinceFinished opening inSession earlierIn lowersBadly outside leaking badInsulation differs sessionStatus sessionControl limitOf f1 f2 f3 f4 f5 f6 f7 f8 f9 f10 f11 findings01 rows ofKind firstAt covered unlabelled strayBelow judgedNumber judgeOf wholesOf pad rawsOf getBits leNumber toSigned statusIn parametersIn sessionIn controlIn
-computed = (refl, refl, refl, refl, refl)
+computed = (refl, refl, refl, refl, refl, refl, refl)
 
 pub first : 0 < postCount
 first = ltb-true 0 postCount refl
@@ -163,9 +165,12 @@ movedNight =
 moved-night : movedRequests by night ≡ movedNight
 moved-night = refl
 
--- 11 ms later the session has been silent for 502 ms
-pub reply-300 : reply (run movedNight) (tick 4 506) ≡ reply (run night) (tick 4 206)
-reply-300 = reply-moved by night (tick 4 206)
+-- 11 ms after the tick the session has been silent for 502 ms, by either clock: F1 beside F2
+pub reply-night : reply (run night) (tick 4 206) ≡ fed (Findings 3)
+reply-night = own-tick night 0 4 limits heard first (computed .0) 206 ∙ rw (computed .5, computed .6)
+
+pub reply-300 : reply (run movedNight) (tick 4 506) ≡ fed (Findings 3)
+reply-300 = reply-moved by night (tick 4 206) ∙ reply-night
 
 pub look-up-300 : stillShown (lookUpOf (run movedNight) 0) ≡ stillShown (lookUpOf (run night) 0)
 look-up-300 = look-up-moved by night 0
