@@ -9,6 +9,7 @@ use Rattle.rules.specs.declared.LastTime.the-variants as last
 use Rattle.rules.specs.declared.Dated.{Dated}
 use Rattle.rules.specs.declared.Dated.the-variants as dated
 use Rattle.rules.specs.declared.Latest.{Latest}
+use Rattle.rules.specs.declared.OpenSession.{OpenSession}
 use Rattle.rules.specs.declared.SessionPart.{SessionPart}
 use Rattle.rules.specs.declared.SessionPart.the-variants as part
 use Rattle.rules.specs.declared.Record.{Record}
@@ -79,11 +80,12 @@ stillDated (dated.At t age m) = dated.At 0 age m
 abbrev pub stillLatest : Latest → Latest
 stillLatest l = record { message = stillDated (l .message) }
 
+abbrev pub stillOpen : OpenSession → OpenSession
+stillOpen s = record { since = 0; age = s .age; protocol = s .protocol; plug = s .plug; status = stillDated (s .status); control = stillDated (s .control) }
+
 abbrev pub stillPart : SessionPart → SessionPart
 stillPart part.Closed = part.Closed
-stillPart (part.Opened s) =
-    part.Opened
-    (record { since = 0; age = s .age; protocol = s .protocol; plug = s .plug; status = stillDated (s .status); control = stillDated (s .control) })
+stillPart (part.Opened s) = part.Opened (stillOpen s)
 
 unfoldable pub still : Record → Record
 still r =
@@ -96,3 +98,20 @@ still r =
       accepted = r .accepted;
       tallies = r .tallies;
     }
+
+-- ---- what is left out: its times as received
+
+abbrev pub lastTimeIn : LastTime → ℕ
+lastTimeIn last.Never = 0
+lastTimeIn (last.At t) = t
+
+abbrev pub datedTime : Dated → ℕ
+datedTime dated.Nothing = 0
+datedTime (dated.At t age m) = t
+
+abbrev pub partTimes : SessionPart → ℕ × ℕ × ℕ
+partTimes part.Closed = (0, 0, 0)
+partTimes (part.Opened s) = (s .since, datedTime (s .status), datedTime (s .control))
+
+abbrev pub timesIn : Record → ℕ × List ℕ × (ℕ × ℕ × ℕ)
+timesIn r = (lastTimeIn (r .last), map (λ (l : Latest). datedTime (l .message)) (r .latest), partTimes (r .session))
