@@ -40,10 +40,10 @@ delayed-more : (a d : ℕ) (h : History) → delayed (a + d) h ≡ delayed d (de
 delayed-more a d [] = refl
 delayed-more a d (e ∷ h) = ap₂ _∷_ (delay-more a d e) (delayed-more a d h)
 
-on-both : (a b d : ℕ) (h g : History) → delayed b h ≡ delayed a g → delayed (b + d) h ≡ delayed (a + d) g
+pub on-both : (a b d : ℕ) (h g : History) → delayed b h ≡ delayed a g → delayed (b + d) h ≡ delayed (a + d) g
 on-both a b d h g same = delayed-more b d h ∙ ap (delayed d) same ∙ sym (delayed-more a d g)
 
-crossed : (e f : Event) → saidBy e ≡ saidBy f → delay (timeOf f) e ≡ delay (timeOf e) f
+pub crossed : (e f : Event) → saidBy e ≡ saidBy f → delay (timeOf f) e ≡ delay (timeOf e) f
 crossed (frame t k raw) (frame s j raw2) q =
     let z : t + s ≡ s + t = omega arith in
     let w : _≡_ {A = ℕ × ℕ} (k, raw) (j, raw2) = cc in

@@ -4,10 +4,9 @@ use Prim.Native.Nat.{ℕ, _+_}
 use native.Mathlib.Omega.{arith}
 use mathlib.Core.Path.{_≡_, refl, sym, ap, ap₂, _∙_}
 use mathlib.Core.List.{List, [], _∷_, map}
-use mathlib.Core.Bool.{Bool}
 use lib.ListN.{length, length-map}
 use Rattle.rule_limits.specs.declared.PlainLimits.{PlainLimits}
-use Rattle.rules.specs.History.{Event, History}
+use Rattle.rules.specs.History.{History}
 use Rattle.rules.specs.Times.{latestTime}
 use Rattle.rules.specs.Rules.{Rule, rules01, bitsFrom, findings01}
 use Rattle.rules.specs.Counts.{timesFound, talliesBy, talliesOf}

@@ -16,8 +16,8 @@ use Rattle.watch_rules.specs.declared.Setting.{Setting}
 use Rattle.watch_rules.specs.declared.Setting.the-variants as setting
 use Rattle.watch_rules.specs.declared.Arrival.{Arrival}
 use Rattle.watch_rules.specs.declared.Arrival.the-variants.{Tick, Frame, Unread}
-use Rattle.watch_rules.specs.Table.{postCount, isChannel, Arriving, framing, ticking}
-use Rattle.watch_rules.specs.Steps.{event, Steps, Standing, free, held, standing, holdsIn, holder, answerIn, counted01, found01, feed01, eventIn, feedSteps, InRange}
+use Rattle.watch_rules.specs.Table.{postCount, Arriving, framing, ticking}
+use Rattle.watch_rules.specs.Steps.{Standing, free, held, standing, holdsIn, holder, answerIn, counted01, found01, feed01, eventIn, feedSteps, InRange}
 use Rattle.watch_rules.specs.Run.{Request, setUp, release, frame, tick, Reply, set, fed, reply, run, reply01, accepted, isRefusal, concerns}
 use Rattle.watch_rules.proofs.Standings.{standing-event, held-on, holder-is}
 use Rattle.watch_rules.proofs.Demand.{run-kept, every-answer, refused-nothing, others-standing, counted-none, counted-setUp, counted-release}

@@ -1,7 +1,7 @@
 -- What is looked for in a history and is no tick is found without its ticks too: so each of 01's rules reads the frames alone.
 use Prim.Native.Nat.{ℕ}
 use mathlib.Core.Path.{_≡_, refl, sym, ap, _∙_}
-use mathlib.Core.List.{List, [], _∷_, map}
+use mathlib.Core.List.{[], _∷_}
 use mathlib.Core.Option.{Option, none, some}
 use Rattle.message_types.specs.declared.DcPowerParameters.{DcPowerParameters}
 use Rattle.rules.specs.History.{Event, frame, tick, History, first, newest, oldest, unless, onlyIf, sinceNewest, afterOldest, statusOf, commandOf, limitsTold, controllerOf, openingOf, finishedOf, sinceFinished, opening, inSession}

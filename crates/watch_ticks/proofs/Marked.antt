@@ -1,9 +1,9 @@
 -- Ticks put in, and nothing else changed: every kept event has the findings that it has without them, and the counts are more by what those ticks found.
 -- Over any rules that read frames alone.
-use Prim.Native.Nat.{ℕ, suc, _+_}
+use Prim.Native.Nat.{_+_}
 use native.Mathlib.Omega.{arith}
 use mathlib.Core.Path.{_≡_, refl, sym, ap, ap₂, _∙_}
-use mathlib.Core.List.{List, [], _∷_, map}
+use mathlib.Core.List.{List, [], _∷_}
 use mathlib.Core.Bool.{Bool}
 use lib.ListN.{length}
 use Rattle.rule_limits.specs.declared.PlainLimits.{PlainLimits}

@@ -4,8 +4,8 @@ use native.Mathlib.Omega.{arith}
 use borrow.Author.Tests.{lt-ltb, le-leb}
 use mathlib.Core.Path.{_≡_, refl, ap, sym, _∙_}
 use mathlib.Core.Bool.{Bool, true, false, _&&_, _||_, true≢false}
-use mathlib.Core.List.{List, [], _∷_, map}
-use mathlib.Core.Option.{none, some}
+use mathlib.Core.List.{List, [], _∷_}
+use mathlib.Core.Option.{some}
 use lib.Dec.{ltb, leb}
 use Rattle.message_parts.specs.Parts.{statusKind, sessionKind, finishedKind}
 use Rattle.rule_limits.specs.declared.PlainLimits.{PlainLimits}
@@ -14,10 +14,11 @@ use Rattle.rules.specs.declared.SessionPart.the-variants as part
 use Rattle.rules.specs.declared.Record.{Record}
 use Rattle.rules.specs.History.{Event, frame, tick, History, timeOf, sinceFinished, opening, inSession}
 use Rattle.rules.specs.Times.{earlierIn, elapsed, latestTime, Unrolled}
-use Rattle.rules.specs.Rules.{sessionStatus, sessionControl, limitOf, f1, f2, f3, f4, f5, f6, f7, f8, f9, f10, f11, findings01, Rule}
+use Rattle.rules.specs.Rules.{sessionStatus, sessionControl, f1, f2, f3, f4, f5, f6, f7, f8, f9, f10, f11, findings01, Rule}
 use Rattle.rules.specs.Record.{recordAsOf, recordOf}
+use Rattle.watch_clock.specs.Differences.{said}
 use Rattle.watch_ticks.specs.Marks.{Mark, kept, extra, whole, without, keptOf, foundOf, judged}
-use Rattle.watch_ticks.specs.Gaps.{whatOf, gaps}
+use Rattle.watch_ticks.specs.Gaps.{gaps}
 use Rattle.watch_ticks.specs.Unticked.{unticked}
 use Rattle.watch_ticks.specs.Silence.{apart, TickedWithin, quietFrom, Told, Some, here, there}
 
@@ -135,7 +136,7 @@ past = kept (tick 1101) ∷ kept (session 1000) ∷ []
 differ : (m n : List Mark) (k l : List ℕ) → keptOf m (judged limits (whole m)) ≡ k → keptOf n (judged limits (whole n)) ≡ l → (k ≡ l → ⊥) → Differ m n
 differ m n k l p q other same = other (sym p ∙ same ∙ q)
 
-pub gaps-needed : Unrolled (whole on) × Unrolled (whole past) × (map whatOf (without on) ≡ map whatOf (without past)) × Differ on past
+pub gaps-needed : Unrolled (whole on) × Unrolled (whole past) × (said (without on) ≡ said (without past)) × Differ on past
 unfolding sinceFinished opening inSession sessionStatus sessionControl f1 f2 f3 f4 f5 f6 f7 f8 f9 f10 f11 findings01 earlierIn
 gaps-needed =
     ((refl, refl, (refl, refl, tt)), (refl, refl, (refl, refl, tt)), refl, differ on past (0 ∷ 0 ∷ []) (1 ∷ 0 ∷ []) refl refl (λ q. zero-one (ap head q)))
@@ -156,7 +157,7 @@ refused = kept (tick 501) ∷ kept (tick 0) ∷ kept (session 1000) ∷ []
 abbrev taken : List Mark
 taken = kept (tick 1501) ∷ kept (tick 1000) ∷ kept (session 1000) ∷ []
 
-pub whole-needed : Unrolled (whole taken) × (map whatOf (without refused) ≡ map whatOf (without taken)) × (gaps (without refused) ≡ gaps (without taken)) × Differ refused taken
+pub whole-needed : Unrolled (whole taken) × (said (without refused) ≡ said (without taken)) × (gaps (without refused) ≡ gaps (without taken)) × Differ refused taken
 unfolding sinceFinished opening inSession sessionStatus sessionControl f1 f2 f3 f4 f5 f6 f7 f8 f9 f10 f11 findings01 earlierIn
 whole-needed =
     ((refl, refl, (refl, refl, (refl, refl, tt))), refl, refl, differ refused taken (0 ∷ 0 ∷ 0 ∷ []) (1 ∷ 0 ∷ 0 ∷ []) refl refl (λ q. zero-one (ap head q)))
@@ -184,7 +185,7 @@ abbrev sinceIn : SessionPart → ℕ
 sinceIn part.Closed = 0
 sinceIn (part.Opened s) = s .since
 
-pub received-needed : (map whatOf (session 1000 ∷ []) ≡ map whatOf (session 1001 ∷ [])) × (gaps (session 1000 ∷ []) ≡ gaps (session 1001 ∷ []))
+pub received-needed : (said (session 1000 ∷ []) ≡ said (session 1001 ∷ [])) × (gaps (session 1000 ∷ []) ≡ gaps (session 1001 ∷ []))
     × (unticked (recordOf 4 limits (session 1000 ∷ [])) ≡ unticked (recordOf 4 limits (session 1001 ∷ [])) → ⊥)
 unfolding sinceFinished opening inSession sessionStatus sessionControl recordAsOf unticked
 received-needed = (refl, refl, λ q. let z : _≡_ {A = ℕ} 1000 1001 = ap (λ (r : Record). sinceIn (r .session)) q in omega (arith, z))

@@ -14,13 +14,13 @@ use Rattle.rules.specs.Record.{recordAsOf, recordOf}
 use Rattle.watch_rules.specs.declared.Answer.{Answer}
 use Rattle.watch_rules.specs.declared.Answer.the-variants.{Findings}
 use Rattle.watch_rules.specs.declared.Setting.the-variants as setting
-use Rattle.watch_rules.specs.declared.LookedUp.{LookedUp}
 use Rattle.watch_rules.specs.Table.{postCount, lookUpOf}
-use Rattle.watch_rules.specs.Steps.{Standing, held, standing, InTime, lookUp01}
+use Rattle.watch_rules.specs.Steps.{held, standing, InTime, lookUp01}
 use Rattle.watch_rules.specs.Run.{Request, run, accepted}
 use Rattle.watch_rules.proofs.Demand.{run-kept, every-record}
+use Rattle.watch_clock.specs.Differences.{said}
 use Rattle.watch_ticks.specs.Marks.{Mark, whole, without, extras, extrasBy, keptOf, judged}
-use Rattle.watch_ticks.specs.Gaps.{whatOf, gaps, asReceived, Alike}
+use Rattle.watch_ticks.specs.Gaps.{gaps, asReceived, Alike}
 use Rattle.watch_ticks.specs.Unticked.{unticked, plus}
 use Rattle.watch_ticks.specs.Silence.{Silent, Told, Some}
 use Rattle.watch_ticks.specs.Silence as some
@@ -43,7 +43,7 @@ module _ (rs : List Request) (i c : ℕ) (lim : PlainLimits) (h : History) (low 
 
 module _ (rs qs : List Request) (i c : ℕ) (lim : PlainLimits) (m n : List Mark) (low : i < postCount)
     (one : standing i (accepted rs) ≡ held c lim (whole m)) (other : standing i (accepted qs) ≡ held c lim (whole n)) where
-  module _ (same : map whatOf (without m) ≡ map whatOf (without n)) (between : gaps (without m) ≡ gaps (without n)) where
+  module _ (same : said (without m) ≡ said (without n)) (between : gaps (without m) ≡ gaps (without n)) where
     alike : Alike m n
     alike = record { one = in-time rs i c lim (whole m) low one; other = in-time qs i c lim (whole n) low other; same = same; between = between }
 

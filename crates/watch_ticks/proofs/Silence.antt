@@ -2,14 +2,14 @@
 use Prim.Native.Nat.{ℕ, _+_, _-_, _<_, _≤_, max}
 use native.Mathlib.Omega.{arith}
 use mathlib.Core.Path.{_≡_, refl, sym, ap, subst, _∙_}
-use mathlib.Core.List.{List, [], _∷_}
+use mathlib.Core.List.{[], _∷_}
 use mathlib.Core.Bool.{Bool, true, false}
 use mathlib.Core.Option.{Option, none, some}
 use lib.Dec.{ltb}
 use borrow.Author.Tests.{lt-ltb, ltb-true, ltb-false}
 use Rattle.message_parts.specs.Parts.{statusKind}
 use Rattle.rule_limits.specs.declared.PlainLimits.{PlainLimits}
-use Rattle.rules.specs.History.{Event, frame, tick, History, first, oldest, afterOldest, timeOf, statusOf, openingOf, finishedOf, sinceFinished, opening, inSession}
+use Rattle.rules.specs.History.{Event, frame, tick, History, first, timeOf, statusOf, openingOf, finishedOf, sinceFinished, opening, inSession}
 use Rattle.rules.specs.Times.{Unrolled}
 use Rattle.rules.specs.Rules.{sessionStatus, laterTime, f1}
 use Rattle.watch_clock.specs.Later.{Timely, Rising, NoneAfter}

@@ -1,7 +1,7 @@
 -- 02, Req 12: "the record differs only in its latest time, ages and tallies". What it says of messages and of the session is read off the kept events as they
 -- were received, whatever the gaps between them.
 use Prim.Native.Nat.{ℕ}
-use mathlib.Core.Path.{_≡_, refl, sym, ap, ap₂, _∙_}
+use mathlib.Core.Path.{_≡_, refl, sym, ap, _∙_}
 use mathlib.Core.List.{List, [], _∷_, map}
 use mathlib.Core.Option.{Option, none, some}
 use Rattle.message_parts.specs.Parts.{statusKind, controlKind, sessionIn}
@@ -15,7 +15,7 @@ use Rattle.rules.specs.declared.Latest.{Latest}
 use Rattle.rules.specs.declared.SessionPart.{SessionPart}
 use Rattle.rules.specs.declared.SessionPart.the-variants as part
 use Rattle.rules.specs.declared.Record.{Record}
-use Rattle.rules.specs.History.{Event, History, newest, ofKind, opening, countFrom}
+use Rattle.rules.specs.History.{History, newest, ofKind, opening, countFrom}
 use Rattle.rules.specs.Times.{receivedOf, latestTime}
 use Rattle.rules.specs.Rules.{sessionStatus, sessionControl}
 use Rattle.rules.specs.Record.{kindCount, datedOf, partOf, recordAsOf, recordOf}

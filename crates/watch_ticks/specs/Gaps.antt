@@ -1,17 +1,12 @@
 -- 02, Req 12: "such that both lists are accepted whole, with the same unrolled gaps between kept events".
 use Prim.Native.Nat.{ℕ}
 use mathlib.Core.Path.{_≡_}
-use mathlib.Core.List.{List, [], _∷_, map}
-use mathlib.Core.Option.{Option, none, some}
-use Rattle.rules.specs.History.{Event, frame, tick, History, timeOf}
+use mathlib.Core.List.{List, [], _∷_}
+use Rattle.rules.specs.History.{Event, History, timeOf}
 use Rattle.rules.specs.Times.{receivedOf, elapsed, Unrolled}
 use Rattle.watch_clock.specs.Later.{retime}
+use Rattle.watch_clock.specs.Differences.{said}
 use Rattle.watch_ticks.specs.Marks.{Mark, whole, without}
-
--- what an event is, apart from its time: a frame's kind and payload number, or a tick
-abbrev pub whatOf : Event → Option (ℕ × ℕ)
-whatOf (frame t k raw) = some (k, raw)
-whatOf (tick t) = none
 
 -- the ms from each event to the next, in unrolled times; of the first event none
 abbrev pub sinceLast : History → ℕ → ℕ
@@ -31,5 +26,5 @@ asReceived e = retime receivedOf e
 pub record Alike (m n : List Mark) : Type 0 where
   pub one : Unrolled (whole m)
   pub other : Unrolled (whole n)
-  pub same : map whatOf (without m) ≡ map whatOf (without n)
+  pub same : said (without m) ≡ said (without n)
   pub between : gaps (without m) ≡ gaps (without n)

@@ -1,9 +1,9 @@
 -- 02, Req 12: a silence of the power modules while ticks come often enough.
 use Prim.Native.Nat.{ℕ, _+_, _≤_, _<_}
 use mathlib.Core.Path.{_≡_}
-use mathlib.Core.List.{List, [], _∷_}
+use mathlib.Core.List.{[], _∷_}
 use mathlib.Core.Bool.{true}
-use mathlib.Core.Option.{Option, some}
+use mathlib.Core.Option.{some}
 use Rattle.rule_limits.specs.declared.PlainLimits.{PlainLimits}
 use Rattle.rules.specs.History.{Event, frame, tick, History, timeOf, opening, inSession}
 use Rattle.rules.specs.Rules.{laterTime, sessionStatus, f1}
