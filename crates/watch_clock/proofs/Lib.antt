@@ -1,0 +1,16 @@
+pub mod AllButTimes
+pub mod Later
+pub mod Rising
+pub mod Delayed
+pub mod Wrapped
+pub mod Differences
+pub mod Moved
+pub mod MovedAnswer
+pub mod MovedSteps
+pub mod MovedRun
+pub mod AfterGap
+pub mod PastTicks
+pub mod Regular
+pub mod RegularRun
+pub mod Night
+pub mod Hourly

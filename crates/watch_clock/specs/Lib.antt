@@ -1,0 +1,4 @@
+pub mod Later
+pub mod Differences
+pub mod Moved
+pub mod Regular
