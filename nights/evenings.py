@@ -1,5 +1,6 @@
 """The nights: what happens, and what is said of it."""
 
+from coming_round import coming_round
 from pages import *
 from safety import safety
 from says import told
@@ -353,4 +354,4 @@ def damaged():
     return night
 
 
-NIGHTS = (clean, march, faults, sensor, damaged, safety)
+NIGHTS = (clean, march, faults, sensor, damaged, safety, coming_round)

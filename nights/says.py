@@ -29,6 +29,9 @@ SAYS_02 = {
     "R4": "4 when too short",
     "R15": "15 when too long",
     "F9 yes/no": "For a yes/no sensor F9's insulation test is raw 0 and nothing else",
+    "F1 unrolled": "F1 and F2 read unrolled times, the sum of accepted differences, and never come round",
+    "F2 unrolled": "F1 and F2 read unrolled times, the sum of accepted differences, and never come round",
+    "R2 wrapped": "a time is earlier than the latest when the wrapped difference is 2^31 or more",
 }
 
 

@@ -2,6 +2,14 @@
 
 from pages import *
 
+# after so many ms the gateway's clock starts over
+ROUND = 2**32
+
+
+def shown(time):
+    """What the gateway's clock shows."""
+    return time % ROUND
+
 
 class Night:
     def __init__(self, name, *title):
@@ -38,11 +46,11 @@ class Post:
 
     def frame(self, after, identifier, payload, *comments, form="x"):
         time = self.time + after
-        self.night.at(time, f"frame {self.channel} {time} {identifier} {form} {payload}", *comments)
+        self.night.at(time, f"frame {self.channel} {shown(time)} {identifier} {form} {payload}", *comments)
 
     def tick(self, after, *comments):
         time = self.time + after
-        self.night.at(time, f"tick {self.channel} {time}", *comments)
+        self.night.at(time, f"tick {self.channel} {shown(time)}", *comments)
 
     def record(self, after=-1):
         self.night.at(self.time + after, f"record {self.number}")

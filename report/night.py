@@ -1,5 +1,5 @@
 """A night: each record of the log with its line of the replay, one after the other, and what that makes of each post."""
-from . import messages
+from . import clock, messages
 from .curves import Reading, Readings
 from .faults import Fault
 from .groups import Block, Lane
@@ -37,8 +37,13 @@ class Post:
         self.accepted = self.refused = 0
         self.first = self.last = None
 
-    def accept(self, count, raw, answer):
-        time, _, part, held = raw
+    def accept(self, count, raw, answer, now):
+        """Its unrolled time; the first is that which the night's clock, at `now`, is closest to."""
+        received, _, part, held = raw
+        if self.last is not None:
+            time = clock.later(self.last, received)
+        else:
+            time = received if now is None else clock.near(now, received)
         self.accepted += 1
         if self.first is None:
             self.first = time
@@ -53,6 +58,7 @@ class Post:
             self.read(time, messages.status_in(held))
         elif part in messages.OTHERS:
             self.hear(time, messages.read(Raw(*raw).record()))
+        return time
 
     def hear(self, time, message):
         if isinstance(message, messages.NewSession) and not self.session:
@@ -84,7 +90,7 @@ class Post:
 
 class Night:
     """`begin` and `end` are the first and the last accepted time, none where nothing was accepted; `refused` is the set-up that ended the replay, if one
-    did."""
+    did. Times are unrolled, post by post, as the watch counts them."""
 
     def __init__(self, name, set_ups, refused=None):
         self.name, self.refused, self.ending, self.records = name, refused, None, 0
@@ -126,10 +132,9 @@ class Night:
                 post.refused += 1
             return
         try:
-            post.accept(count, raw, answer)
+            time = post.accept(count, raw, answer, self.now)
         except ValueError as error:
             raise Fault(f'line {count}: accepted, but it is {error}') from error
-        time = raw[0]
         if self.begin is None:
             self.begin = self.end = time
         elif time > self.end:

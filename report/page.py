@@ -22,7 +22,7 @@ def page(night, sources):
             '<meta name="color-scheme" content="light dark">', tag('title', text(f'{title}: {span(night)}')),
             tag('style', '\n', STYLE.read_text(encoding='utf-8'))]
     told = warning(*refusal(night, sources[0])) if night.refused else replayed(night)
-    parts = [tag('h1', text(title)), *told, footer(sources)]
+    parts = [tag('h1', text(title)), *told, footer(night, sources)]
     body = tag('body', tag('main', *(f'\n{part}' for part in parts), '\n'))
     return '<!DOCTYPE html>\n' + tag('html', '\n', tag('head', *(f'\n{part}' for part in head), '\n'), '\n', body, '\n', lang='en') + '\n'
 
@@ -110,5 +110,14 @@ def rules(night):
     return [tag('section', tag('h2', text('Rules')), tables.rules(night), id='rules')] if night.found() else []
 
 
-def footer(sources):
-    return tag('footer', tag('p', text(f'From {", ".join(sources)}. Times are those of the recorder\'s clock: hours, minutes, seconds and milliseconds.')))
+def footer(night, sources):
+    words = f'From {", ".join(sources)}. Times are those of the recorder\'s clock: hours, minutes, seconds and milliseconds.'
+    return tag('footer', tag('p', text(' '.join([words, *rounds(night)]))))
+
+
+def rounds(night):
+    """How often the clock came round, if it did."""
+    count = 0 if night.begin is None else night.end // clock.ROUND - night.begin // clock.ROUND
+    if count:
+        often = 'once' if count == 1 else f'{count:,} times'
+        yield f'The clock came round {often} in this night: behind {clock.told(clock.ROUND - 1)} it shows {clock.told(0)} again, and the axes go on.'

@@ -3,7 +3,7 @@
 pub enum Clock {
     /// From the first line that has a stamp, whether the line is left out or not: so the map changes no time.
     First(Option<u64>),
-    /// Modulo 2^32.
+    /// What a clock of 32 bits shows, which comes round: modulo 2^32.
     Wrap,
 }
 
@@ -27,6 +27,10 @@ impl Clock {
             }
         }
     }
+}
+
+pub fn no_clock(name: &str) -> String {
+    format!("--clock {name}: neither first nor wrap")
 }
 
 #[cfg(test)]

@@ -10,5 +10,6 @@ mod log;
 mod numbers;
 pub mod program;
 mod stamp;
+mod stamps;
 pub mod to_candump;
 pub mod to_log;

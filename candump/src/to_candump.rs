@@ -1,26 +1,29 @@
 //! log2candump: a night log becomes lines of `candump -L`, piece by piece.
 
 use crate::arguments::Call;
+use crate::clock::no_clock;
 use crate::files::{self, Output};
 use crate::frame;
 use crate::interfaces::Interfaces;
 use crate::log::{self, Ending, Record};
 use crate::program::{Done, Program};
 use crate::stamp;
+use crate::stamps::Stamps;
 
 pub const PROGRAM: Program = Program {
     name: "log2candump",
     usage: include_str!("log2candump.txt"),
-    options: &["--map", "--start"],
+    options: &["--map", "--clock", "--start"],
     filters: &[],
     run,
 };
 
 fn run(call: &Call) -> Result<Done, String> {
     let interfaces = Interfaces::asked(call)?;
-    let start = start(call)?;
+    let clock = call.value("--clock").map_or("first".into(), |name| name.to_string_lossy());
+    let stamps = Stamps::named(&clock, start(call)?).ok_or_else(|| no_clock(&clock))?;
     let (mut input, output) = files::open(&call.input, &call.output)?;
-    let mut lines = Lines { log: input.name.clone(), output, interfaces, start, records: 0, ticks: 0, left_out: 0 };
+    let mut lines = Lines { log: input.name.clone(), output, interfaces, stamps, records: 0, ticks: 0, left_out: 0 };
     // A piece's last record may be cut; it is whole in the next, unless the log is cut there.
     let mut rest = Vec::new();
     let mut at = 0;
@@ -61,7 +64,7 @@ struct Lines {
     log: String,
     output: Output,
     interfaces: Interfaces,
-    start: u64,
+    stamps: Stamps,
     records: u64,
     ticks: u64,
     left_out: u64,
@@ -70,14 +73,15 @@ struct Lines {
 impl Lines {
     fn write(&mut self, record: &Record) -> Result<(), String> {
         self.records += 1;
+        // A tick moves the clock, too.
+        let stamp = self.stamps.of(record.time).ok_or_else(|| format!("no stamp for time {}", record.time));
         let Some(frame) = &record.frame else {
             self.ticks += 1;
             return Ok(());
         };
-        match self.interfaces.interface(record.channel) {
-            Ok(interface) => {
-                let stamp = stamp::write(self.start + u64::from(record.time));
-                let frame = frame::write(frame);
+        match stamp.and_then(|stamp| Ok((stamp, self.interfaces.interface(record.channel)?))) {
+            Ok((stamp, interface)) => {
+                let (stamp, frame) = (stamp::write(stamp), frame::write(frame));
                 self.output.write(&[stamp.as_bytes(), b" ", &interface, b" ", frame.as_bytes(), b"\n"].concat())
             }
             Err(words) => {

@@ -1,7 +1,7 @@
 //! candump2log: a recording of `candump -L` becomes a night log, or the desk's lines of one, line by line.
 
 use crate::arguments::Call;
-use crate::clock::Clock;
+use crate::clock::{no_clock, Clock};
 use crate::fields::{fields, Fault, Field};
 use crate::files;
 use crate::frame;
@@ -24,7 +24,7 @@ fn run(call: &Call) -> Result<Done, String> {
     // Lines go to a log that outlives this run: the next one has to count from the same moment.
     let usual = if as_lines { "wrap" } else { "first" };
     let clock = call.value("--clock").map_or(usual.into(), |name| name.to_string_lossy());
-    let clock = Clock::named(&clock).ok_or_else(|| format!("--clock {clock}: neither first nor wrap"))?;
+    let clock = Clock::named(&clock).ok_or_else(|| no_clock(&clock))?;
     let (mut input, mut output) = files::open(&call.input, &call.output)?;
     let mut recorder = Recorder { clock, interfaces };
     let (mut lines, mut left_out) = (0u64, 0u64);

@@ -210,6 +210,8 @@ mod tests {
                         Some(("log", _)) => lines == 1 && bytes <= 40,
                         Some(("label", _)) => lines <= 2 && bytes <= 60,
                         Some(("sensor" | "safety", _)) => lines <= 5,
+                        // Two steps of less than 2^31 ms are less than a round.
+                        Some(("clock", _)) => lines <= 6,
                         Some(("replay", _)) => lines <= 3 && bytes <= 100,
                         // A batch of the largest size cannot be made smaller.
                         Some(("batch", _)) => lines <= 4,

@@ -4,6 +4,7 @@ use std::collections::{BTreeMap, BTreeSet};
 use std::fmt;
 
 use crate::batch_coverage;
+use crate::clock_coverage;
 use crate::posts::Table;
 use crate::recordings_coverage;
 use crate::replay_coverage;
@@ -41,6 +42,7 @@ pub struct Coverage {
     since: Since,
     replays: BTreeMap<String, u64>,
     batches: BTreeMap<String, u64>,
+    clocks: BTreeMap<String, u64>,
     recordings: BTreeMap<String, u64>,
     findings: [u64; 11],
     clean: u64,
@@ -75,6 +77,9 @@ impl Coverage {
         }
         for shown in batch_coverage::shown(step, answer) {
             *self.batches.entry(shown).or_default() += 1;
+        }
+        for shown in clock_coverage::shown(table, step, answer) {
+            *self.clocks.entry(shown).or_default() += 1;
         }
         for shown in recordings_coverage::shown(step, answer) {
             *self.recordings.entry(shown).or_default() += 1;
@@ -122,6 +127,7 @@ impl Coverage {
         missing.extend(tally_coverage::wanted().filter(|shown| !self.counts.contains_key(shown)));
         missing.extend(replay_coverage::wanted().filter(|shown| !self.replays.contains_key(shown)));
         missing.extend(batch_coverage::wanted().filter(|shown| !self.batches.contains_key(shown)));
+        missing.extend(clock_coverage::wanted().filter(|shown| !self.clocks.contains_key(shown)));
         missing.extend(recordings_coverage::wanted().filter(|shown| !self.recordings.contains_key(shown)));
         missing.extend((self.no_step == 0).then(|| "?".to_string()));
         missing.extend((self.no_message == 0).then(|| "X".to_string()));
@@ -171,6 +177,10 @@ impl fmt::Display for Coverage {
         write!(out, "\nbatches: ")?;
         for shown in batch_coverage::wanted() {
             write!(out, " {} {},", shown.trim_start_matches("batch "), self.batches.get(&shown).unwrap_or(&0))?;
+        }
+        write!(out, "\nclocks:  ")?;
+        for shown in clock_coverage::wanted() {
+            write!(out, " {shown} {},", self.clocks.get(&shown).unwrap_or(&0))?;
         }
         write!(out, "\ncompared:")?;
         for shown in recordings_coverage::wanted() {

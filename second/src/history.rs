@@ -5,10 +5,10 @@
 use crate::codec::Message;
 use crate::pages::Kind;
 
-/// An accepted frame, or an accepted tick where there is no message.
+/// An accepted frame, or an accepted tick where there is no message. Its time is the unrolled one.
 #[derive(Clone, Copy, Debug)]
 pub struct Event {
-    pub time: u32,
+    pub time: u64,
     pub message: Option<Message>,
 }
 
@@ -44,7 +44,7 @@ pub fn session(past: &[Event]) -> Option<&[Event]> {
     Some(&since[opening..])
 }
 
-/// 01: "its latest accepted time"; times never run back, so the last event has it.
-pub fn latest_time(past: &[Event]) -> Option<u32> {
+/// 01: "its latest accepted time"; unrolled times never run back, so the last event has it.
+pub fn latest_time(past: &[Event]) -> Option<u64> {
     past.last().map(|event| event.time)
 }

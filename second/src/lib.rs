@@ -7,6 +7,11 @@ mod batch_coverage;
 mod batch_readings;
 mod batch_slips;
 mod check;
+mod clock;
+mod clock_coverage;
+#[cfg(test)]
+mod clock_readings;
+mod clock_slips;
 mod codec;
 mod compare;
 mod coverage;
@@ -124,7 +129,7 @@ fn script(seed: u64, steps: usize, explain: bool) -> Result<ExitCode, String> {
 
 fn compare_over_seeds(call: Compare) -> Result<ExitCode, String> {
     let mut seeds = call.seeds;
-    let mut fresh = Rng::new(clock());
+    let mut fresh = Rng::new(now());
     seeds.extend((0..call.fresh).map(|_| fresh.next() >> 32));
     let extras = Extras { explain: call.explain };
     let plan = Plan { seeds, steps: call.steps, extras, shrink_for: Duration::from_secs(300) };
@@ -191,7 +196,7 @@ fn println_to(out: &mut dyn Write, line: &str) -> Result<(), String> {
 }
 
 /// Fresh seeds differ from run to run; each one used is printed.
-fn clock() -> u64 {
+fn now() -> u64 {
     let since = SystemTime::now().duration_since(UNIX_EPOCH);
     since.map_or(0, |since| since.as_nanos() as u64) ^ u64::from(std::process::id()) << 40
 }

@@ -1,5 +1,6 @@
 //! The table of posts: set-up, release, and which post a frame or tick goes to.
 
+use crate::clock::unrolled;
 use crate::codec::{self, Reader, Refusal};
 use crate::history::{latest_time, Event};
 use crate::rules::{findings, Limits, Rule, MEASURING, RULES, YES_NO};
@@ -40,7 +41,7 @@ pub enum Request {
         post: u32,
         outcome: Result<(), Refusal>,
     },
-    /// A frame or tick, with the place of the post that holds its channel.
+    /// A frame or tick, with the place of the post that holds its channel, and its time as received.
     Arrival {
         place: Option<usize>,
         time: u32,
@@ -48,8 +49,8 @@ pub enum Request {
     },
 }
 
-/// The latest time that an arrival for the post at that place may not be earlier than.
-pub type Clock = fn(&[Option<Post>], usize) -> Option<u32>;
+/// The unrolled time of an arrival for the post at that place, received at that time; none where it is earlier than the latest.
+pub type Clock = fn(&[Option<Post>], usize, u32) -> Option<u64>;
 
 /// The limits that a set-up puts in force on the post that stands there, if one does; none where one is outside its
 /// range.
@@ -121,11 +122,8 @@ impl Table {
 
     fn hear(&mut self, arrival: &Arrival) -> Result<u32, Refusal> {
         let place = self.holder(arrival.channel).ok_or(Refusal::Number(1))?;
-        let earliest = (self.clock)(&self.posts, place);
+        let time = (self.clock)(&self.posts, place, arrival.time).ok_or(Refusal::Number(2))?;
         let post = self.posts[place].as_mut().ok_or(Refusal::Number(1))?;
-        if earliest.is_some_and(|earliest| arrival.time < earliest) {
-            return Err(Refusal::Number(2));
-        }
         let message = match &arrival.frame {
             Some(frame) => Some((self.reader)(frame.id, frame.extended, frame.bytes)?),
             None => None,
@@ -133,7 +131,7 @@ impl Table {
         if post.history.len() >= self.largest as usize {
             return Err(FULL);
         }
-        let event = Event { time: arrival.time, message };
+        let event = Event { time, message };
         let found = findings(&self.rules, &post.limits, &post.history, &event);
         post.history.push(event);
         Ok(found)
@@ -170,6 +168,11 @@ pub fn in_range(_: Option<&Post>, limits: Limits) -> Option<Limits> {
 }
 
 /// 01: "earlier than that post's latest accepted frame or tick"; the other posts' clocks say nothing.
-fn own_clock(posts: &[Option<Post>], place: usize) -> Option<u32> {
+fn own_clock(posts: &[Option<Post>], place: usize, received: u32) -> Option<u64> {
+    unrolled(own_latest(posts, place), received)
+}
+
+/// The latest time of the post at that place.
+pub fn own_latest(posts: &[Option<Post>], place: usize) -> Option<u64> {
     latest_time(&posts[place].as_ref()?.history)
 }

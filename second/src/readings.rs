@@ -244,7 +244,7 @@ fn w5_repeats_restart_nothing() {
          frame 4 501 6b001 x 0301 => A513
          frame 4 501 6b001 x 0201 => A1
          frame 4 501 6b001 x 0200 => A513
-         record 0 => K ch=4 volt=5000 chg=1000 dis=500 w=500 sensor=0 last=501 open=1 since=0 first=2,1 spms=- sdpc=- n=5 tally=3,0,0,0,0,0,0,0,0,3,0 latest=6b001x:2,0@501",
+         record 0 => K ch=4 volt=5000 chg=1000 dis=500 w=500 sensor=0 last=501 open=1 since=0+501 first=2,1 spms=- sdpc=- n=5 tally=3,0,0,0,0,0,0,0,0,3,0 latest=6b001x:2,0@501+0",
     ));
 }
 
@@ -332,11 +332,11 @@ fn w11_after_the_session() {
         "frame 4 10 6b001 x 0201 => A0
          frame 4 20 63000 x a00f83ff41000164 => A0
          frame 4 30 6b003 x 00000000000001 => A0
-         record 0 => K ch=4 volt=5000 chg=1000 dis=500 w=500 sensor=0 last=30 open=1 since=10 first=2,1 spms=63000x:4000,-125,25,-40,1,200@20 sdpc=6b003x:0,0,0,1,0,0,0,0@30 n=3 tally=0,0,0,0,0,0,0,0,0,0,0 latest=63000x:4000,-125,25,-40,1,200@20;6b001x:2,1@10;6b003x:0,0,0,1,0,0,0,0@30
+         record 0 => K ch=4 volt=5000 chg=1000 dis=500 w=500 sensor=0 last=30 open=1 since=10+20 first=2,1 spms=63000x:4000,-125,25,-40,1,200@20+10 sdpc=6b003x:0,0,0,1,0,0,0,0@30+0 n=3 tally=0,0,0,0,0,0,0,0,0,0,0 latest=63000x:4000,-125,25,-40,1,200@20+10;6b001x:2,1@10+20;6b003x:0,0,0,1,0,0,0,0@30+0
          frame 4 40 6b004 x 00 => A0
-         record 0 => K ch=4 volt=5000 chg=1000 dis=500 w=500 sensor=0 last=40 open=0 since=- first=- spms=- sdpc=- n=4 tally=0,0,0,0,0,0,0,0,0,0,0 latest=63000x:4000,-125,25,-40,1,200@20;6b001x:2,1@10;6b003x:0,0,0,1,0,0,0,0@30;6b004x:0@40
+         record 0 => K ch=4 volt=5000 chg=1000 dis=500 w=500 sensor=0 last=40 open=0 since=- first=- spms=- sdpc=- n=4 tally=0,0,0,0,0,0,0,0,0,0,0 latest=63000x:4000,-125,25,-40,1,200@20+20;6b001x:2,1@10+30;6b003x:0,0,0,1,0,0,0,0@30+10;6b004x:0@40+0
          frame 4 50 6b004 x 01 => A1024
-         record 0 => K ch=4 volt=5000 chg=1000 dis=500 w=500 sensor=0 last=50 open=0 since=- first=- spms=- sdpc=- n=5 tally=0,0,0,0,0,0,0,0,0,0,1 latest=63000x:4000,-125,25,-40,1,200@20;6b001x:2,1@10;6b003x:0,0,0,1,0,0,0,0@30;6b004x:1@50",
+         record 0 => K ch=4 volt=5000 chg=1000 dis=500 w=500 sensor=0 last=50 open=0 since=- first=- spms=- sdpc=- n=5 tally=0,0,0,0,0,0,0,0,0,0,1 latest=63000x:4000,-125,25,-40,1,200@20+30;6b001x:2,1@10+40;6b003x:0,0,0,1,0,0,0,0@30+20;6b004x:1@50+0",
     ));
 }
 

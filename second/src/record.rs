@@ -1,5 +1,6 @@
 //! A post's record as one line: 01's "A post's record is", each part looked up in the list of its events.
 
+use crate::clock::{age, as_received};
 use crate::codec::Message;
 use crate::fields::form;
 use crate::history::{latest, latest_time, session, Event};
@@ -7,15 +8,30 @@ use crate::pages::{Kind, Page, PAGES};
 use crate::posts::Post;
 use crate::tallies::Counts;
 
-/// The latest messages with standard identifiers first, then extended ones, each ascending.
-pub fn line(post: &Post, counts: &Counts) -> String {
-    line_by(post, counts, |page| (page.extended, page.id))
+/// How a record is shown.
+pub struct Form {
+    /// The order of the latest messages.
+    pub order: fn(&Page) -> (bool, u32),
+    /// `T`, for the latest accepted time and the kept one, both unrolled.
+    pub kept: fn(u64, u64) -> String,
 }
 
-/// With the latest messages in that order.
-pub fn line_by(post: &Post, counts: &Counts, order: fn(&Page) -> (bool, u32)) -> String {
+/// Standard identifiers first, then extended ones, each ascending; 02: "the record keeps times as received and ages beside
+/// them".
+pub const FORM: Form = Form {
+    order: |page| (page.extended, page.id),
+    kept: |latest, kept| format!("{}+{}", as_received(kept), age(latest, kept)),
+};
+
+pub fn line(post: &Post, counts: &Counts) -> String {
+    line_in(&FORM, post, counts)
+}
+
+pub fn line_in(form: &Form, post: &Post, counts: &Counts) -> String {
     let past = &post.history;
     let session = session(past);
+    let kept = |event: &Event| (form.kept)(latest_time(past).unwrap_or(event.time), event.time);
+    let stamped = |event: &Event| event.message.map(|known| format!("{}@{}", message(&known), kept(event)));
     let in_session = |kind| session.and_then(|session| latest(session, kind)).and_then(stamped);
     let limits = &post.limits;
     let parts = [
@@ -25,15 +41,15 @@ pub fn line_by(post: &Post, counts: &Counts, order: fn(&Page) -> (bool, u32)) ->
         format!("dis={}", limits.discharge),
         format!("w={}", limits.silence),
         format!("sensor={}", limits.sensor),
-        format!("last={}", or_none(latest_time(past).map(|time| time.to_string()))),
+        format!("last={}", or_none(latest_time(past).map(|time| as_received(time).to_string()))),
         format!("open={}", u8::from(session.is_some())),
-        format!("since={}", or_none(session.map(|session| session[0].time.to_string()))),
+        format!("since={}", or_none(session.map(|session| kept(&session[0])))),
         format!("first={}", or_none(session.and_then(|session| session[0].message).map(|first| values(&first)))),
         format!("spms={}", or_none(in_session(Kind::PowerModulesStatus))),
         format!("sdpc={}", or_none(in_session(Kind::DcPowerControl))),
         format!("n={}", counts.accepted),
         format!("tally={}", counts.tallies.map(|tally| tally.to_string()).join(",")),
-        format!("latest={}", or_none(each_latest(past, order))),
+        format!("latest={}", or_none(each_latest(past, form.order, stamped))),
     ];
     parts.join(" ")
 }
@@ -49,11 +65,11 @@ fn values(message: &Message) -> String {
     values.join(",")
 }
 
-fn stamped(event: &Event) -> Option<String> {
-    event.message.map(|known| format!("{}@{}", message(&known), event.time))
-}
-
-fn each_latest(past: &[Event], order: fn(&Page) -> (bool, u32)) -> Option<String> {
+fn each_latest(
+    past: &[Event],
+    order: fn(&Page) -> (bool, u32),
+    stamped: impl Fn(&Event) -> Option<String>,
+) -> Option<String> {
     let mut pages = PAGES.each_ref();
     pages.sort_by_key(|page| order(page));
     let all: Vec<String> = pages.iter().filter_map(|page| latest(past, page.kind)).filter_map(stamped).collect();

@@ -29,13 +29,13 @@ pub fn findings(rules: &[Rule], limits: &Limits, past: &[Event], event: &Event) 
 }
 
 /// 001: "within 200 ms".
-const CONTROLLER_LIMIT: u32 = 200;
+pub const CONTROLLER_LIMIT: u64 = 200;
 
 fn f1(limits: &Limits, past: &[Event], event: &Event) -> bool {
     session(past).is_some_and(|session| {
         let status = latest(session, Kind::PowerModulesStatus).map(|status| status.time);
         let later = status.unwrap_or(0).max(session[0].time);
-        event.time - later > limits.silence
+        event.time - later > u64::from(limits.silence)
     })
 }
 

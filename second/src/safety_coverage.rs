@@ -112,10 +112,10 @@ mod tests {
             ("duty 1001", "A 1000", &["duty limited A"]),
             (
                 "record 0",
-                "K ch=4 latest=8s:-1,0,0,8191,0,0,0,0,0,0,0,0@9;6b000x:7@9",
+                "K ch=4 latest=8s:-1,0,0,8191,0,0,0,0,0,0,0,0@9+0;6b000x:7@9+0",
                 &["temperature below 0 shown", "probe not used shown", "record with both forms"],
             ),
-            ("record 0", "K ch=4 latest=8s:0,0,0,0,0,0,0,0,0,0,0,0@8191", &[]),
+            ("record 0", "K ch=4 latest=8s:0,0,0,0,0,0,0,0,0,0,0,0@8191+8191", &[]),
         ] {
             let mut shown = shown(step.as_bytes(), answer.as_bytes());
             shown.sort_by_key(|shown| wanted.iter().position(|wanted| wanted == shown));

@@ -4,7 +4,7 @@ use crate::codec::{self, Message, Places, Reader, Refusal};
 use crate::desk::Desk;
 use crate::history::{session, Event};
 use crate::pages::{self, Kind, Order, Page, Signal};
-use crate::record;
+use crate::record::{self, Form, FORM};
 use crate::rules::{Limits, RULES};
 use crate::service::{self, Probe};
 
@@ -33,7 +33,12 @@ pub fn put_into(desk: &mut Desk, name: &str) -> Option<()> {
         CONTACTORS => desk.table.rules[2] = f3_by_the_safety_controller,
         PROBE => desk.prober = |raw| if raw == -1 { Probe::NotUsed } else { service::probe(raw) },
         LIMIT => desk.limiter = |raw| raw,
-        LATEST => desk.recorder = |post, counts| record::line_by(post, counts, |page| (!page.extended, page.id)),
+        LATEST => {
+            desk.recorder = |post, counts| {
+                let form = Form { order: |page| (!page.extended, page.id), ..FORM };
+                record::line_in(&form, post, counts)
+            }
+        }
         _ => {
             desk.reader = WRONG_READERS.iter().find(|(known, _)| *known == name)?.1;
             desk.table.reader = desk.reader;

@@ -1,9 +1,10 @@
 //! What a step shows of the two kinds of sensors (Req 03).
 
+use crate::clock::unrolled;
 use crate::codec;
 use crate::desk;
 use crate::fields::{bytes, extended, identifier, natural};
-use crate::history::Event;
+use crate::history::{latest_time, Event};
 use crate::posts::{in_range, Post, Table};
 use crate::rules::{poor_measure, under_power, Limits, MEASURING, YES_NO};
 
@@ -22,7 +23,9 @@ pub fn shown(table: &Table, step: &[u8], answer: &[u8]) -> Option<&'static str> 
         [b"setup", ref numbers @ ..] => by_set_up(table, desk::set_up(numbers)?, answer),
         [b"frame", channel, time, id, form, payload] => {
             let message = codec::read(identifier(id)?, extended(form)?, &bytes(payload)?).ok();
-            by_event(table.on(natural(channel)?)?, &Event { time: natural(time)?, message }, answer)
+            let post = table.on(natural(channel)?)?;
+            let time = unrolled(latest_time(&post.history), natural(time)?)?;
+            by_event(post, &Event { time, message }, answer)
         }
         _ => None,
     }

@@ -1,9 +1,12 @@
 //! Making a script that shows something shorter, while it still shows it.
 
+use crate::clock;
 use crate::recordings_shrink;
 use crate::replay_shrink;
 
 pub type Line = Vec<u8>;
+
+const ROUND: i64 = clock::ROUND as i64;
 
 /// `shows` tells whether a script still shows it. The given script must.
 pub fn shrink(mut script: Vec<Line>, shows: &mut dyn FnMut(&[Line]) -> bool) -> Vec<Line> {
@@ -59,14 +62,15 @@ fn rename_channels(script: &mut Vec<Line>, shows: &mut dyn FnMut(&[Line]) -> boo
 
 /// The time before each frame or tick shorter, with all that follows coming earlier by the same.
 fn close_gaps(script: &mut Vec<Line>, shows: &mut dyn FnMut(&[Line]) -> bool) {
-    let mut before = 0;
+    let mut before = None;
     for at in 0..script.len() {
         let Some(now) = time(&script[at]) else {
             continue;
         };
-        let gap = now - before;
+        let gap = before.map_or(now, |before: i64| (now - before).rem_euclid(ROUND));
         // A time that runs back may be what is shown; it has no gap to close.
-        for smaller in simpler_numbers(gap.max(0)) {
+        let runs_back = before.is_some() && gap >= ROUND / 2;
+        for smaller in simpler_numbers(if runs_back { 0 } else { gap }) {
             let by = gap - smaller;
             let (head, tail) = script.split_at(at);
             let closed: Vec<Line> = head.iter().cloned().chain(tail.iter().map(|line| earlier(line, by))).collect();
@@ -75,7 +79,7 @@ fn close_gaps(script: &mut Vec<Line>, shows: &mut dyn FnMut(&[Line]) -> bool) {
                 break;
             }
         }
-        before = time(&script[at]).unwrap_or(before);
+        before = time(&script[at]);
     }
 }
 
@@ -109,12 +113,13 @@ fn on_channel(line: &[u8], old: i64, new: i64) -> Line {
     fields.join(&b' ')
 }
 
+/// On a clock that comes round.
 fn earlier(line: &[u8], by: i64) -> Line {
     let Some(time) = time(line) else {
         return line.to_vec();
     };
     let mut fields = fields(line);
-    fields[2] = (time - by).to_string().into_bytes();
+    fields[2] = (time - by).rem_euclid(ROUND).to_string().into_bytes();
     fields.join(&b' ')
 }
 
@@ -274,5 +279,17 @@ mod tests {
             times.windows(2).any(|pair| pair[1] - pair[0] == 801)
         });
         assert_eq!(short, script("tick 0 0\ntick 0 801"));
+    }
+
+    #[test]
+    fn times_keep_their_distance_across_the_round() {
+        let times = |lines: &[Line]| lines.iter().filter_map(|line| time(line)).collect::<Vec<i64>>();
+        let long = script("tick 4 4294967000\ntick 4 4294967290\ntick 4 511");
+        let apart = |pair: &[i64]| (pair[1] - pair[0]).rem_euclid(ROUND) == 517;
+        let short = shrink(long.clone(), &mut |lines| times(lines).windows(2).any(apart));
+        assert_eq!(short, script("tick 0 0\ntick 0 517"));
+        let short = shrink(long, &mut |lines| times(lines).windows(2).any(|pair| apart(pair) && pair[1] < pair[0]));
+        assert_eq!(times(&short).len(), 2);
+        assert!(apart(&times(&short)) && times(&short)[1] < 517);
     }
 }

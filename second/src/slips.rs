@@ -1,6 +1,8 @@
 //! Wrong readings of 01 and 02, kept to show that a comparison finds them.
 
 use crate::batch_slips;
+use crate::clock::unrolled;
+use crate::clock_slips;
 use crate::codec::Message;
 use crate::desk::Desk;
 use crate::history::{latest, latest_message, latest_time, session, Event};
@@ -41,7 +43,7 @@ const SHARED_CLOCK: &str = "clock";
 pub fn names() -> Vec<&'static str> {
     let rules = WRONG_RULES.iter().map(|(name, ..)| *name);
     let early = log_slips::names().chain(label_slips::names()).chain(sensor_slips::names());
-    let early = early.chain(tally_slips::names());
+    let early = early.chain(tally_slips::names()).chain(clock_slips::names());
     let later = safety_slips::names().chain(replay_slips::names()).chain(batch_slips::names());
     let later = later.chain(recordings_slips::names());
     rules.chain([SHARED_CLOCK]).chain(early).chain(later).collect()
@@ -60,6 +62,7 @@ pub fn desk(name: &str) -> Option<Desk> {
             label_slips::put_into,
             sensor_slips::put_into,
             tally_slips::put_into,
+            clock_slips::put_into,
             safety_slips::put_into,
             replay_slips::put_into,
             batch_slips::put_into,
@@ -73,14 +76,14 @@ pub fn desk(name: &str) -> Option<Desk> {
 fn f1_restarted_by_repeats(limits: &Limits, past: &[Event], event: &Event) -> bool {
     session(past).is_some_and(|session| {
         let either = |seen: &&Event| seen.is(Kind::PowerModulesStatus) || seen.is(Kind::NewChargeSession);
-        session.iter().rev().find(either).is_some_and(|seen| event.time - seen.time > limits.silence)
+        session.iter().rev().find(either).is_some_and(|seen| event.time - seen.time > u64::from(limits.silence))
     })
 }
 
 fn f1_at_w_itself(limits: &Limits, past: &[Event], event: &Event) -> bool {
     session(past).is_some_and(|session| {
         let seen = latest(session, Kind::PowerModulesStatus).unwrap_or(&session[0]);
-        event.time - seen.time >= limits.silence
+        event.time - seen.time >= u64::from(limits.silence)
     })
 }
 
@@ -172,6 +175,6 @@ fn f11_never(_: &Limits, _: &[Event], _: &Event) -> bool {
 }
 
 /// One clock for all posts, so that a later frame of one gets another's next one refused with 2.
-fn shared_clock(posts: &[Option<Post>], _: usize) -> Option<u32> {
-    posts.iter().flatten().filter_map(|post| latest_time(&post.history)).max()
+fn shared_clock(posts: &[Option<Post>], _: usize, received: u32) -> Option<u64> {
+    unrolled(posts.iter().flatten().filter_map(|post| latest_time(&post.history)).max(), received)
 }

@@ -30,7 +30,7 @@ fn each_finding_has_a_tally_of_its_own() {
          tick 4 201 => A2
          frame 4 202 6b004 x 00 => A1026
          record 0 => K ch=4 volt=5000 chg=1000 dis=500 w=500 sensor=0 last=202 open=0 since=- first=- spms=- sdpc=- n=5 \
-         tally=0,2,1,1,0,0,0,0,0,0,2 latest=6b000x:1@0;6b003x:4000,0,0,8,0,0,1,0@0;6b004x:0@202",
+         tally=0,2,1,1,0,0,0,0,0,0,2 latest=6b000x:1@0+202;6b003x:4000,0,0,8,0,0,1,0@0+202;6b004x:0@202+0",
     );
 }
 
@@ -131,7 +131,7 @@ fn the_refused_count_stays_past_set_up_and_release() {
 /// No step on one post changes another's counts.
 #[test]
 fn posts_have_counts_of_their_own() {
-    let one = record(1, "0,0,0,0,0,0,0,0,0,0,1", "0").replace("latest=-", "latest=6b004x:0@0");
+    let one = record(1, "0,0,0,0,0,0,0,0,0,0,1", "0").replace("latest=-", "latest=6b004x:0@0+0");
     holds_on_a_post(&format!(
         "setup 1 5 5000 1000 500 500 => A
          frame 4 0 6b004 x 00 => A1024

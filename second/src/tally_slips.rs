@@ -1,6 +1,7 @@
 //! Wrong readings of Req 08.
 
 use crate::batch::{self, Batcher};
+use crate::clock::unrolled;
 use crate::codec::Refusal;
 use crate::desk::Desk;
 use crate::history::{latest_time, Event};
@@ -54,9 +55,11 @@ pub fn put_into(desk: &mut Desk, name: &str) -> Option<()> {
 fn counted_after_a_refused_frame(table: &Table, place: usize, post: &Post) -> Counts {
     let mut right = counts(table, place, post);
     let raised: Vec<u32> = refused_since_set_up(table, place)
-        .map(|(accepted, time)| (&post.history[..accepted], Event { time, message: None }))
-        .filter(|(past, event)| latest_time(past).is_none_or(|latest| latest <= event.time))
-        .map(|(past, event)| findings(&RULES, &post.limits, past, &event))
+        .filter_map(|(accepted, received)| {
+            let past = &post.history[..accepted];
+            let time = unrolled(latest_time(past), received)?;
+            Some(findings(&RULES, &post.limits, past, &Event { time, message: None }))
+        })
         .collect();
     for (tally, more) in right.tallies.iter_mut().zip(tallied(raised.into_iter())) {
         *tally += more;

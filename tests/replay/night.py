@@ -85,6 +85,20 @@ def nights():
         held(posts, log, 'END', second(posts, log)[0], posts.stem)
 
 
+def rounds():
+    """02, Req 09: both posts ticked every hour for a hundred days, a controller that speaks and is late once an hour: three rounds and no refusal."""
+    hour = 3600 * 1000
+    times = [2**32 - 5 * hour + n * hour for n in range(24 * 100)]
+    steps = [step for time in times for step in (f'tick 2 {time % 2**32}', f'frame 2 {time % 2**32} 6b000 x 01', f'tick 2 {(time + 200) % 2**32}',
+                                                 f'tick 31 {(time + 7) % 2**32}', f'tick 2 {(time + 201) % 2**32}')]
+    log = b''.join(map(record, steps))
+    want, ending = second(POSTS, log)
+    same(ending, 'END', 'a hundred days: the second program')
+    late = ['A2', 'A2', 'A0', 'A0', 'A2']
+    same([line.split(' ')[2] for line in want], ['A0', 'A0', *late[2:], *late * (len(times) - 1)], 'a hundred days: the answers')
+    held(POSTS, log, 'END', want, 'a hundred days')
+
+
 def cuts():
     """02: a log may be cut anywhere; the records wholly before the cut have their lines."""
     bytes_ = [record(step) for step in some_steps(1, 30)]
@@ -197,6 +211,6 @@ def memory():
 
 with tempfile.TemporaryDirectory() as room:
     os.chdir(room)
-    for part in (nights, cuts, pieces, setups, files, changes, progress, memory):
+    for part in (nights, rounds, cuts, pieces, setups, files, changes, progress, memory):
         part()
 print('tests/replay: ok')

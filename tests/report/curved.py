@@ -14,7 +14,7 @@ def curves(page, told, whole=True):
     if sorted(drawings) != sorted(post for post, statuses in told.statuses.items() if statuses):
         faults.append(f'curves of posts {sorted(drawings)}')
     for post, svg in drawings.items():
-        place = axis(svg)
+        place = axis(svg, min(told.times))
         for name, column in PANELS.items():
             panel = svg.one('g', name)
             of = height(panel, name)

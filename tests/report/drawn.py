@@ -4,7 +4,7 @@ from collections import Counter
 
 from said import SENTENCES
 from tabled import TIME
-from told import Finding, clock, ms
+from told import ROUND, Finding, clock, ms
 
 # what lengths are rounded to
 NEAR = 0.2
@@ -15,9 +15,13 @@ REFUSED = re.compile(rf'({TIME}), record (\d+)\nR(\d+) (.*)\n(.*)')
 SEVERAL_REFUSED = re.compile(r'(\d+) records from (\d+) to (\d+)\nR(\d+) (.*)')
 
 
-def axis(svg):
-    """The place of a time, by the first and the last label of the time axis."""
-    labels = [(ms(label.text()), float(label['x'])) for label in svg.all('text', 'tick') if label['text-anchor'] == 'middle']
+def axis(svg, begin=0):
+    """The place of a time, by the first and the last label of the time axis, which begins there. Labels are as received, and rise but for the round."""
+    labels = []
+    for label in svg.all('text', 'tick'):
+        if label['text-anchor'] == 'middle':
+            before = labels[-1][0] if labels else begin
+            labels.append((before + (ms(label.text()) - before) % ROUND, float(label['x'])))
     (first, left), (last, right) = labels[0], labels[-1]
     return lambda time: left + (right - left) * (time - first) / (last - first)
 
@@ -41,7 +45,7 @@ def findings(page, told, names, rows):
     faults, shown = [], Counter()
     for post in told.channels:
         row = page.by_id(f'row-post-{post}')
-        place = axis(page.one('svg', 'night'))
+        place = axis(page.one('svg', 'night'), min(told.times))
         for mark in row.all('a', 'finding'):
             title = mark.one('title').text()
             alike = rows.get((mark['href'] or '').removeprefix('#'), [])
@@ -56,7 +60,7 @@ def findings(page, told, names, rows):
             else:
                 sound = False
             sound = sound and int(of) == post and alike[0].number == int(number) and name == names.get(int(number)) and sentence == SENTENCES.get(int(number))
-            if not sound or not near(span(mark), (place(alike[0].time), place(alike[-1].time))):
+            if not sound or not near(span(mark), (place(told.at[alike[0].count]), place(told.at[alike[-1].count]))):
                 faults.append(f'mark {title!r} to {mark["href"]}')
             shown.update(alike)
     return faults + [f'{finding} is drawn {shown[finding]} times' for finding in told.findings if shown[finding] != 1]
@@ -76,7 +80,7 @@ def lanes(page, names, words):
 
 
 def sessions(page, told):
-    faults, place = [], axis(page.one('svg', 'night'))
+    faults, place = [], axis(page.one('svg', 'night'), min(told.times))
     for post, sessions in told.sessions.items():
         bars = list(page.by_id(f'row-post-{post}').all('rect', 'session'))
         if len(bars) != len(sessions):
@@ -94,8 +98,8 @@ def refusals(page, told, words):
     if not told.refusals:
         return []
     faults, shown = [], Counter()
-    place, row = axis(page.one('svg', 'night')), page.by_id('row-refused')
     first_time = min(told.times)
+    place, row = axis(page.one('svg', 'night'), first_time), page.by_id('row-refused')
     by_count = {refusal.count: refusal for refusal in told.refusals}
     for mark in row.all('a', 'refusal'):
         title = mark.one('title').text()
@@ -111,7 +115,8 @@ def refusals(page, told, words):
         else:
             alike, number, why, sound = [], 0, '', False
         left = float(re.match(r'M(-?[\d.]+) ', mark.one('path')['d'])[1]) + 4
-        if not (sound and alike[0].number == int(number) and why == words.get(int(number)) and near([left], [place(alike[0].came or first_time)])):
+        sound = sound and alike[0].number == int(number) and why == words.get(int(number))
+        if not sound or not near([left], [place(first_time if alike[0].came is None else alike[0].came)]):
             faults.append(f'cross {title!r}')
         shown.update(each for each in alike if each)
     return faults + [f'{refusal} is drawn {shown[refusal]} times' for refusal in told.refusals if shown[refusal] != 1]

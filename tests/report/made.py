@@ -25,7 +25,7 @@ class Nights(unittest.TestCase):
     maxDiff = 1000
 
     def test_the_same_answers(self):
-        for name in ('clean', 'faults'):
+        for name in ('clean', 'faults', 'round'):
             self.assertEqual(replayed(name), script(name))
 
     def test_march(self):

@@ -2,8 +2,11 @@
 import struct
 from typing import NamedTuple, Optional
 
+ROUND = 2**32
+
 
 class Finding(NamedTuple):
+    """`time` is as received."""
     post: int
     number: int
     time: int
@@ -11,7 +14,7 @@ class Finding(NamedTuple):
 
 
 class Refusal(NamedTuple):
-    """`came` is the latest accepted time before it."""
+    """`time` is as received, `came` the latest accepted time before it, unrolled."""
     number: int
     count: int
     channel: int
@@ -27,13 +30,16 @@ def set_ups(posts):
 
 
 class Told:
+    """`times`, and those of sessions and statuses, are unrolled: of each post by its own differences, and its first is the closest to the time before.
+    `at` has those of the accepted records by their count."""
+
     def __init__(self, posts, heard, lines):
         self.channels = {int(line.split(' ')[1]): int(line.split(' ')[2]) for line in set_ups(posts)}
         self.records, self.accepted = len(lines), {post: 0 for post in self.channels}
         self.findings, self.refusals = [], []
         self.sessions = {post: [] for post in self.channels}
         self.statuses = {post: [] for post in self.channels}
-        self.times = []
+        self.times, self.at, self.latest = [], {}, {}
         for count, (line, step) in enumerate(zip(lines, heard, strict=True), 1):
             self.take(count, line.split(' '), step.split(' '), step)
 
@@ -45,10 +51,19 @@ class Told:
             return
         post, found = int(post), int(answer[1:])
         self.accepted[post] += 1
-        self.times.append(time)
         self.findings += [Finding(post, k, time, count) for k in range(1, found.bit_length() + 1) if found >> (k - 1) & 1]
+        at = self.latest[post] = self.at[count] = self.unrolled(post, time)
+        self.times.append(at)
         if step[0] == 'frame':
-            self.frame(post, time, *step[3:])
+            self.frame(post, at, *step[3:])
+
+    def unrolled(self, post, time):
+        """Of all times with these low 32 bits."""
+        if post in self.latest:
+            turns = (self.latest[post] - time + ROUND - 1) // ROUND
+            return time + turns * ROUND
+        before = self.times[-1] if self.times else time
+        return min((time + (before // ROUND + turn) * ROUND for turn in (-1, 0, 1)), key=lambda each: abs(each - before))
 
     def frame(self, post, time, identifier, form, payload):
         sessions = self.sessions[post]
@@ -63,7 +78,8 @@ class Told:
 
 
 def clock(time):
-    seconds, ms = divmod(time, 1000)
+    """As it was received."""
+    seconds, ms = divmod(time % ROUND, 1000)
     return f'{seconds // 3600}:{seconds % 3600 // 60:02}:{seconds % 60:02}.{ms:03}'
 
 

@@ -1,6 +1,7 @@
 //! Seeded desk scripts that go to the edges of 01, of the log, of its replay and of two of them compared.
 
 mod batches;
+mod clocks;
 mod logs;
 mod malformed;
 mod messages;
@@ -10,6 +11,8 @@ mod setups;
 mod sketch;
 mod stateless;
 mod traffic;
+
+use std::collections::VecDeque;
 
 use crate::desk::is_step;
 use crate::posts::POSTS;
@@ -51,14 +54,16 @@ struct Generator {
     busy: usize,
     /// How many of a thousand steps set up or release: scripts with long histories and with short ones.
     restless: u64,
-    /// The next line, where one has to follow at once.
-    following: Option<String>,
+    /// The next lines, where some have to follow at once.
+    following: VecDeque<String>,
     extras: Extras,
 }
 
 #[derive(Clone, Copy)]
 enum Sort {
     Traffic,
+    LongSilence,
+    Round,
     Refused,
     Record,
     RefusedCount,
@@ -84,22 +89,24 @@ impl Generator {
     fn new(seed: u64, extras: Extras) -> Generator {
         let mut rng = Rng::new(seed);
         let restless = rng.pick(&[6, 15, 40]);
-        Generator { rng, posts: Default::default(), busy: 0, restless, following: None, extras }
+        Generator { rng, posts: Default::default(), busy: 0, restless, following: VecDeque::new(), extras }
     }
 
     fn line(&mut self) -> Vec<u8> {
-        if let Some(line) = self.following.take() {
+        if let Some(line) = self.following.pop_front() {
             return line.into_bytes();
         }
         match self.sort() {
             Sort::Traffic => self.traffic().into_bytes(),
+            Sort::LongSilence => self.long_silence().into_bytes(),
+            Sort::Round => self.round().into_bytes(),
             Sort::Refused => self.refused().into_bytes(),
             Sort::Record => self.record().into_bytes(),
             Sort::RefusedCount => b"refused".to_vec(),
             Sort::SetUp => {
                 let line = self.set_up();
                 // Now and then the record at once, before anything comes to the post.
-                self.following = self.rng.chance(20).then(|| format!("record {}", self.busy));
+                self.following.extend(self.rng.chance(20).then(|| format!("record {}", self.busy)));
                 line.into_bytes()
             }
             Sort::RefusedSetUp => self.refused_set_up().into_bytes(),
@@ -129,6 +136,8 @@ impl Generator {
         let explain = if self.extras.explain { 15 } else { 0 };
         self.rng.weighted(&[
             (620, Sort::Traffic),
+            (10, Sort::LongSilence),
+            (25, Sort::Round),
             (60, Sort::Refused),
             (60, Sort::Record),
             (40, Sort::RefusedCount),

@@ -2,6 +2,7 @@
 
 use super::sketch::Sketch;
 use super::Generator;
+use crate::clock::EARLIER;
 use crate::posts::{CHANNELS, POSTS};
 use crate::rules::Limits;
 
@@ -114,12 +115,13 @@ impl Generator {
         self.rng.pick(choices)
     }
 
-    /// Starts small, at 0, or close to the largest time.
+    /// Starts small, at 0, close to the largest time, or close to half of it.
     fn sketch(&mut self, post: usize, channel: u32, limits: [u64; 5]) {
         let now = match self.rng.below(10) {
             0 | 1 => 0,
-            2 | 3 => u32::MAX - self.rng.below(3000) as u32,
+            2 | 3 => u32::MAX - self.rng.below(1000) as u32,
             4 => u32::MAX,
+            5 => EARLIER as u32 - 1 + self.rng.below(3) as u32,
             _ => self.rng.below(100_000) as u32,
         };
         let [volt, charge, discharge, silence, sensor] = limits.map(|limit| limit as u32);

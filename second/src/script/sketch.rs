@@ -5,10 +5,13 @@ use crate::rules::Limits;
 pub struct Sketch {
     pub channel: u32,
     pub limits: Limits,
-    pub now: u32,
-    pub status_at: Option<u32>,
+    /// Unrolled, as the other times are.
+    pub now: u64,
+    /// Whether its clock runs: the first time may be any.
+    pub begun: bool,
+    pub status_at: Option<u64>,
     /// The later of the opening and the latest Power_Modules_Status of the session.
-    pub heard_at: u32,
+    pub heard_at: u64,
     pub open: bool,
     pub first: [i64; 2],
     /// Maximum_Voltage, Maximum_Charge_Current and Maximum_Discharge_Current as last sent.
@@ -17,7 +20,9 @@ pub struct Sketch {
 
 impl Sketch {
     pub fn new(channel: u32, limits: Limits, now: u32) -> Sketch {
-        Sketch { channel, limits, now, status_at: None, heard_at: now, open: false, first: [0, 0], received: [0; 3] }
+        let now = u64::from(now);
+        let (status_at, heard_at) = (None, now);
+        Sketch { channel, limits, now, begun: false, status_at, heard_at, open: false, first: [0, 0], received: [0; 3] }
     }
 
     /// Numbers at which a limit could stand, rightly or by a slip.

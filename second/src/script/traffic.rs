@@ -3,10 +3,12 @@
 use super::messages::{aimed, any, some_page, uncovered, unlabelled, wrong_length};
 use super::sketch::Sketch;
 use super::Generator;
+use crate::clock::as_received;
 use crate::codec::Message;
 use crate::fields::{form, hex};
 use crate::pages::{Kind, Page};
 use crate::rng::Rng;
+use crate::rules::CONTROLLER_LIMIT;
 
 /// Weights of what arrives while a session is open, and while none is; `None` is a tick.
 const OPEN: [(u64, Option<Kind>); 13] = [
@@ -45,6 +47,9 @@ const CLOSED: [(u64, Option<Kind>); 13] = [
 const STRANGERS: [u32; 14] =
     [0, 5, 9, 0x106, 2047, 0x63002, 0x63003, 0x63201, 0x6b006, 0x6b100, 0x6b104, 0x8000_0006, 0x8006_3000, u32::MAX];
 
+/// Half the range of a time: so much earlier is also so much later, and is refused.
+const HALF: u32 = 1 << 31;
+
 impl Generator {
     pub fn traffic(&mut self) -> String {
         let alive: Vec<usize> = (0..self.posts.len()).filter(|&place| self.posts[place].is_some()).collect();
@@ -61,8 +66,8 @@ impl Generator {
         let message = kind.map(|kind| aimed(rng, kind, post));
         note(post, time, message.as_ref());
         match message {
-            Some(message) => of_page(post.channel, time, message.kind.page(), &message.bytes()),
-            None => format!("tick {} {time}", post.channel),
+            Some(message) => of_page(post.channel, as_received(time), message.kind.page(), &message.bytes()),
+            None => tick(post.channel, time),
         }
     }
 
@@ -71,21 +76,21 @@ impl Generator {
         let Some(post) = &self.posts[self.busy] else {
             return self.astray();
         };
-        let (channel, now) = (post.channel, post.now);
+        let (channel, now, begun) = (post.channel, as_received(post.now), post.begun);
         let rng = &mut self.rng;
-        let time = if rng.chance(10) { now.saturating_sub(1) } else { now };
+        let time = if rng.chance(10) { now.wrapping_sub(1) } else { now };
         let page = some_page(rng);
         let bytes = any(rng, page).bytes();
         match rng.below(11) {
             0 => self.astray(),
-            1 => self.early(channel, now),
+            1 if begun => self.early(channel, now),
             2 => frame(channel, time, (rng.pick(&STRANGERS), rng.chance(60)), &bytes),
             3 => frame(channel, time, (page.id ^ 1 << rng.below(32), page.extended), &bytes),
             4 => frame(channel, time, (page.id, !page.extended), &bytes),
             5 => of_page(channel, time, page, &[]),
             refused => {
                 let (page, bytes) = match refused {
-                    6 | 7 => wrong_length(rng),
+                    1 | 6 | 7 => wrong_length(rng),
                     8 => uncovered(rng),
                     _ => unlabelled(rng),
                 };
@@ -97,7 +102,8 @@ impl Generator {
     /// A time before the post's clock, alone or with an identifier that would be refused as well.
     fn early(&mut self, channel: u32, now: u32) -> String {
         let rng = &mut self.rng;
-        let time = rng.pick(&[now.saturating_sub(1), now / 2, 0]);
+        let by = rng.pick(&[1, 1, 2, 1000, 1 << 30, HALF - 1, HALF, HALF]);
+        let time = now.wrapping_sub(by);
         let page = some_page(rng);
         let bytes = any(rng, page).bytes();
         match rng.below(4) {
@@ -121,21 +127,21 @@ impl Generator {
 }
 
 /// When the next event arrives: in step, at once, or just around one of the two limits of silence.
-fn moment(rng: &mut Rng, post: &Sketch) -> u32 {
-    let around = rng.pick(&[-1, 0, 1, 1]);
+fn moment(rng: &mut Rng, post: &Sketch) -> u64 {
+    // A limit that is passed by one ms at most.
+    let around = rng.pick(&[0, 1, 2, 2]);
     let aim = match rng.below(100) {
-        0..=24 => i64::from(post.now),
-        25..=54 => i64::from(post.now) + rng.pick(&[1, 10, 50, 99, 100, 100]),
-        55..=74 => i64::from(post.status_at.unwrap_or(post.now)) + 200 + around,
-        75..=97 => i64::from(post.heard_at) + i64::from(post.limits.silence) + around,
-        _ => i64::from(post.now) + rng.between(0, 70_000),
+        0..=24 => post.now,
+        25..=54 => post.now + rng.pick(&[1, 10, 50, 99, 100, 100]),
+        55..=74 => post.status_at.unwrap_or(post.now) + CONTROLLER_LIMIT - 1 + around,
+        75..=97 => post.heard_at + u64::from(post.limits.silence) - 1 + around,
+        _ => post.now + rng.below(70_001),
     };
-    let late_enough = aim.max(i64::from(post.now));
-    u32::try_from(late_enough).unwrap_or(u32::MAX)
+    aim.max(post.now)
 }
 
-fn note(post: &mut Sketch, time: u32, message: Option<&Message>) {
-    post.now = time;
+pub fn note(post: &mut Sketch, time: u64, message: Option<&Message>) {
+    (post.now, post.begun) = (time, true);
     let Some(message) = message else {
         return;
     };
@@ -153,7 +159,11 @@ fn note(post: &mut Sketch, time: u32, message: Option<&Message>) {
     }
 }
 
-fn of_page(channel: u32, time: u32, page: &Page, bytes: &[u8]) -> String {
+pub fn tick(channel: u32, time: u64) -> String {
+    format!("tick {channel} {}", as_received(time))
+}
+
+pub fn of_page(channel: u32, time: u32, page: &Page, bytes: &[u8]) -> String {
     frame(channel, time, (page.id, page.extended), bytes)
 }
 
