@@ -7,7 +7,7 @@ static POST *NAMED(holder)(TABLE *t, uint32_t channel) {
     return NULL;
 }
 
-static uint32_t NAMED(always)(const POST *p, uint32_t time) {
+static uint32_t NAMED(always)(const POST *p, uint64_t time) {
     uint32_t f = 0;
     const SESSION *s = &HEAD(p).session;
     if (SET(s->opened)) {
@@ -64,19 +64,21 @@ uint32_t NAMED(frame)(rokemaipu_table *memory, uint32_t channel, uint32_t time, 
     TABLE *t = (TABLE *)memory;
     POST *p = NAMED(holder)(t, channel);
     if (!p) return NAMED(refuse)(t, R(1));
-    if (SET(HEAD(p).heard) && time < HEAD(p).time) return NAMED(refuse)(t, R(2));
+    uint32_t later = time - (uint32_t)HEAD(p).time;
+    if (SET(HEAD(p).heard) && later >> 31) return NAMED(refuse)(t, R(2));
     uint64_t r;
     uint32_t kind = judge(id, extended, bytes, n, &r);
     if (kind >= ROKEMAIPU_REFUSED) return NAMED(refuse)(t, kind);
     if (HEAD(p).counts[0] == UINT32_MAX) return NAMED(refuse)(t, R(25));
-    uint32_t f = NAMED(always)(p, time) | NAMED(found)(p, kind, r);
-    SLOT slot = {true, time, r};
+    uint64_t now = SET(HEAD(p).heard) ? HEAD(p).time + later : time;
+    uint32_t f = NAMED(always)(p, now) | NAMED(found)(p, kind, r);
+    SLOT slot = {true, now, r};
     SESSION *s = &HEAD(p).session;
-    HEAD(p).heard = true, HEAD(p).time = time, p->latest[kind] = slot;
+    HEAD(p).heard = true, HEAD(p).time = now, p->latest[kind] = slot;
     KEEP_IN_HEAD(p, kind, slot);
     if (kind == 0 && SET(s->opened)) STATUS(s) = slot;
     if (kind == 5 && SET(s->opened)) CONTROL(s) = slot;
-    if (kind == 3 && !SET(s->opened)) *s = (SESSION){.opened = true, .since = time, .first = r};
+    if (kind == 3 && !SET(s->opened)) *s = (SESSION){.opened = true, .since = now, .first = r};
     if (kind == 6) *s = (SESSION){0};
     return NAMED(count)(p, f);
 }
@@ -85,8 +87,10 @@ uint32_t NAMED(tick)(rokemaipu_table *memory, uint32_t channel, uint32_t time) {
     TABLE *t = (TABLE *)memory;
     POST *p = NAMED(holder)(t, channel);
     if (!p) return NAMED(refuse)(t, R(1));
-    if (SET(HEAD(p).heard) && time < HEAD(p).time) return NAMED(refuse)(t, R(2));
+    uint32_t later = time - (uint32_t)HEAD(p).time;
+    if (SET(HEAD(p).heard) && later >> 31) return NAMED(refuse)(t, R(2));
     if (HEAD(p).counts[0] == UINT32_MAX) return NAMED(refuse)(t, R(25));
-    HEAD(p).heard = true, HEAD(p).time = time;
-    return NAMED(count)(p, NAMED(always)(p, time));
+    uint64_t now = SET(HEAD(p).heard) ? HEAD(p).time + later : time;
+    HEAD(p).heard = true, HEAD(p).time = now;
+    return NAMED(count)(p, NAMED(always)(p, now));
 }

@@ -34,7 +34,7 @@
 extern "C" {
 #endif
 
-#define ROKEMAIPU_VERSION 101 /* 1.01: whatever compiles with one 1.xx compiles with each later one */
+#define ROKEMAIPU_VERSION 102 /* 1.02: whatever compiles with one 1.xx compiles with each later one */
 
 #define ROKEMAIPU_POSTS 8
 #define ROKEMAIPU_KINDS 12
@@ -63,7 +63,7 @@ static inline uint32_t rokemaipu_start_bit(uint32_t answer) { return answer < RO
 /* Refusals, by their numbers. */
 enum rokemaipu_refused {
     ROKEMAIPU_R1_CHANNEL_FREE = 1,       /* channel above 31, or held by no post */
-    ROKEMAIPU_R2_EARLIER = 2,            /* time earlier than that post's latest accepted frame or tick */
+    ROKEMAIPU_R2_EARLIER = 2,            /* time earlier than that post's latest accepted frame or tick: 2^31 ms and more after it, by a clock that comes round */
     ROKEMAIPU_R3_UNKNOWN_IDENTIFIER = 3, /* identifier not in the table, in the frame's form; or a number that is no kind */
     ROKEMAIPU_R4_TOO_SHORT = 4,          /* frame shorter than the table's length */
     ROKEMAIPU_R5_NO_LABEL = 5,           /* a label signal holds a number without a label */
@@ -159,18 +159,26 @@ enum rokemaipu_number {
     ROKEMAIPU_SILENCE = 4,
     ROKEMAIPU_SENSOR = 5,
     ROKEMAIPU_HEARD = 6,     /* 1 where a frame or tick was accepted since set-up, else 0 */
-    ROKEMAIPU_TIME = 7,      /* the latest accepted one's time, 0 where none was */
-    ROKEMAIPU_OPENED = 8,    /* 1 where a session is open, else 0, and 0 in the three that follow */
-    ROKEMAIPU_SINCE = 9,
+    ROKEMAIPU_TIME = 7,      /* the latest accepted one's time, as received, 0 where none was */
+    ROKEMAIPU_OPENED = 8,    /* 1 where a session is open, else 0, and 0 in those that follow */
+    ROKEMAIPU_SINCE = 9,     /* the opening's time, as received */
     ROKEMAIPU_PROTOCOL = 10, /* the first protocol's number and the first plug's, as the page of New_Charge_Session has them */
     ROKEMAIPU_PLUG = 11,
-    ROKEMAIPU_NUMBERS = 12   /* how many they are */
+    ROKEMAIPU_SINCE_AGE = 12, /* the opening's age in ms; 0 where no session is open */
+    ROKEMAIPU_NUMBERS = 13    /* how many they are */
 };
 
 /* A post's counts since set-up, in the order in which they are looked up. Place k, 1 to 11, has the accepted frames and ticks that had finding k. */
 enum rokemaipu_count {
     ROKEMAIPU_ACCEPTED = 0, /* the accepted frames and ticks */
     ROKEMAIPU_COUNTS = 12   /* how many they are */
+};
+
+/* A kept frame's times, in the order in which they are looked up. */
+enum rokemaipu_when {
+    ROKEMAIPU_WHEN = 0,     /* its time, as received */
+    ROKEMAIPU_WHEN_AGE = 1, /* its age in ms, as of the post's latest accepted frame or tick; it stops growing at 4,294,967,295 */
+    ROKEMAIPU_TIMES = 2     /* how many they are */
 };
 
 /* What stands at a byte of a log. */
@@ -195,12 +203,15 @@ enum rokemaipu_entry {
 
 /* ---- the table that you lend: read it as you like, change it through the functions below ----
  *
+ * Times are in ms and do not come round, as those that are received do: a post's first accepted frame or tick stands at its own time, each later one so
+ * many ms later. The low 32 bits are the time as received.
+ *
  * A frame's payload stands in it as a number, byte 0 lowest, as it came; a safety controller's with byte 0 highest. Flags are 0 or 1, and there is
  * no padding: two tables can be compared byte by byte. */
 
 typedef struct rokemaipu_slot { /* 24 bytes: the latest frame of a kind, all 0 where none was accepted */
     uint64_t known;
-    uint64_t time; /* ms, as received */
+    uint64_t time;
     uint64_t raw;
 } rokemaipu_slot;
 
@@ -250,7 +261,7 @@ typedef struct rokemaipu_table { /* 3,976 bytes; zeroed memory is the empty tabl
 
 /* The table's layout as one word: its bytes in the low 32 bits, then its posts and its kinds of messages with 8 bits each, then the number of the
  * layout, which is another one wherever a place in the table means something else. */
-#define ROKEMAIPU_LAYOUT ((uint64_t)sizeof(rokemaipu_table) + ((uint64_t)ROKEMAIPU_POSTS << 32) + ((uint64_t)ROKEMAIPU_KINDS << 40) + ((uint64_t)2 << 48))
+#define ROKEMAIPU_LAYOUT ((uint64_t)sizeof(rokemaipu_table) + ((uint64_t)ROKEMAIPU_POSTS << 32) + ((uint64_t)ROKEMAIPU_KINDS << 40) + ((uint64_t)3 << 48))
 
 /* Answers the layout that the library has. Compare it with ROKEMAIPU_LAYOUT before the first call: with another one, no table of this
  * header may be lent. */
@@ -289,14 +300,14 @@ uint32_t rokemaipu_counts(const rokemaipu_table *t, uint32_t post, uint32_t *cou
  * batch only its records. The answer is a count, never a refusal; it stays at 4,294,967,295 once there. */
 uint32_t rokemaipu_refused(const rokemaipu_table *t);
 
-/* Looks up the latest frame of a kind that the post accepted since set-up: puts its time into time[0] and its bytes, as they came, into
- * buffer from index 0 on. Answers its number of bytes; 0 where there is none, and then nothing is written, whatever is lent. Refuses
- * with 9, 14, with 3 for a kind above 11, then with 8 where time has no place or buffer is shorter than the frame. */
-uint32_t rokemaipu_latest(const rokemaipu_table *t, uint32_t post, uint32_t kind, uint32_t *time, size_t places, uint8_t *buffer, size_t room);
+/* Looks up the latest frame of a kind that the post accepted since set-up: puts its time as received and its age into the first ROKEMAIPU_TIMES places of
+ * times, and its bytes, as they came, into buffer from index 0 on. Answers its number of bytes; 0 where there is none, and then nothing is written,
+ * whatever is lent. Refuses with 9, 14, with 3 for a kind above 11, then with 8 where times has fewer places or buffer is shorter than the frame. */
+uint32_t rokemaipu_latest(const rokemaipu_table *t, uint32_t post, uint32_t kind, uint32_t *times, size_t places, uint8_t *buffer, size_t room);
 
 /* Looks up likewise, by a number of rokemaipu_kept, the latest frame that was accepted in the open session. Answers as rokemaipu_latest does: 0
  * also where no session is open. Refuses with 9, 14, with 3 for a number above 1, then with 8. */
-uint32_t rokemaipu_in_session(const rokemaipu_table *t, uint32_t post, uint32_t part, uint32_t *time, size_t places, uint8_t *buffer, size_t room);
+uint32_t rokemaipu_in_session(const rokemaipu_table *t, uint32_t post, uint32_t part, uint32_t *times, size_t places, uint8_t *buffer, size_t room);
 
 /* ---- frames ---- */
 

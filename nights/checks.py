@@ -3,6 +3,8 @@
 import re
 import subprocess
 
+from ages import Times, changed
+
 ANNOUNCED = re.compile(r"# (F[0-9]+|R[0-9]+(?::[0-9]+)?)(?: from here for ([0-9]+) events)?: ")
 
 
@@ -83,28 +85,57 @@ def check_the_check(name, text, answers):
     return faults
 
 
-def check_counts(name, text, answers):
-    """02: "Every operation keeps them equal to the count over that post's history": what a record and `refused` say is
-    what the answers before them come to."""
-    faults, counts, holders, refused = [], {}, {}, 0
+def by_post(text, answers):
+    """Each step with its answer and the post that it is about: the one that it names, or that holds its channel."""
+    holders = {}
     for step, answer in zip(filter(is_step, text.splitlines()), answers.splitlines()):
         word, *fields = step.split()
         if word in ("setup", "release") and answer == "A":
             holders = {channel: post for channel, post in holders.items() if post != fields[0]}
         if word == "setup" and answer == "A":
-            holders[fields[1]], counts[fields[0]] = fields[0], [0] * 12
+            holders[fields[1]] = fields[0]
+        named = fields[0] if word in ("setup", "release", "record") else None
+        yield step, answer, holders.get(channel_of(step)) if channel_of(step) else named
+
+
+def check_counts(name, text, answers):
+    """02: "Every operation keeps them equal to the count over that post's history": what a record and `refused` say is
+    what the answers before them come to."""
+    faults, counts, refused = [], {}, 0
+    for step, answer, post in by_post(text, answers):
+        word = step.split()[0]
+        if word == "setup" and answer == "A":
+            counts[post] = [0] * 12
         elif channel_of(step) and answer.startswith("R"):
             refused += 1
         elif channel_of(step):
             found = int(answer[1:])
-            of = counts[holders[channel_of(step)]]
+            of = counts[post]
             of[:] = [of[0] + 1, *(tally + (found >> k & 1) for k, tally in enumerate(of[1:]))]
         elif word == "record" and answer.startswith("K"):
-            n, *tallies = counts[fields[0]]
+            n, *tallies = counts[post]
             if f" n={n} tally={','.join(map(str, tallies))} " not in answer:
                 faults.append(f"{name}: {step}: {answer}, but n={n} and {tallies}")
         elif word == "refused" and answer != f"N {refused}":
             faults.append(f"{name}: {step}: {answer}, but {refused} were refused")
+    return faults
+
+
+def check_ages(name, text, answers):
+    """02: "the record keeps times as received and ages beside them": what a record says is what the accepted steps before
+    it come to; and no other age would do."""
+    faults, times = [], {}
+    for step, answer, post in by_post(text, answers):
+        word, *fields = step.split()
+        if word == "setup" and answer == "A":
+            times[post] = Times()
+        elif channel_of(step) and answer.startswith("A"):
+            times[post].hear(int(fields[1]), "".join(fields[2:4]) or None)
+        elif word == "record" and answer.startswith("K"):
+            if not times[post].are_in(answer):
+                faults.append(f"{name}: {step}: other times or ages: {answer}")
+            if any(map(times[post].are_in, changed(answer))):
+                faults.append(f"{name}: {step}: a changed age goes unnoticed")
     return faults
 
 
@@ -136,5 +167,6 @@ def all_of(second, name, text, answers):
     return (check_announcements(name, text, answers)
             + check_the_check(name, text, answers)
             + check_counts(name, text, answers)
+            + check_ages(name, text, answers)
             + check_refused_leave_no_trace(second, name, text, answers)
             + check_channels_apart(second, name, text, answers))

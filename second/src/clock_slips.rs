@@ -1,7 +1,7 @@
 //! Wrong readings of Req 09.
 
 use crate::clock::{as_received, difference, unrolled, EARLIER, ROUND};
-use crate::desk::Desk;
+use crate::desk::{Desk, Recorder};
 use crate::history::{latest, session, Event};
 use crate::pages::Kind;
 use crate::posts::{own_latest, Clock, Post};
@@ -23,7 +23,7 @@ const WRONG_RULES: [(&str, usize, Rule); 3] = [
     ("clock-f2", 2, f2_on_received_times),
 ];
 
-const WRONG_RECORDERS: [(&str, fn(&Post, &Counts) -> String); 4] = [
+const WRONG_RECORDERS: [(&str, Recorder); 4] = [
     ("clock-age-received", |post, counts| kept_as(age_of_the_received_difference, post, counts)),
     ("clock-age-round", |post, counts| kept_as(age_that_comes_round, post, counts)),
     ("clock-age-half", |post, counts| kept_as(age_that_stops_at_half_the_range, post, counts)),

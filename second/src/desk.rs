@@ -27,6 +27,8 @@ pub const LONGEST: usize = 65_535;
 pub const UNTOUCHED: u32 = 3_735_928_559;
 pub const MOST_PLACES: u32 = 2048;
 
+pub type Recorder = fn(&Post, &Counts) -> String;
+
 /// What a script runs on.
 pub struct Desk {
     pub table: Table,
@@ -40,7 +42,7 @@ pub struct Desk {
     pub replay_line: Line,
     pub batcher: Batcher,
     pub comparer: Comparer,
-    pub recorder: fn(&Post, &Counts) -> String,
+    pub recorder: Recorder,
     pub prober: Prober,
     pub limiter: Limiter,
 }

@@ -54,18 +54,19 @@ static void any_holder(void) {
 
 static const uint8_t status[8] = {0x88, 0x13, 0, 0, 65, 65, 1, 25}, other[8] = {0x89, 0x13, 0, 0, 65, 65, 1, 25}, control[7] = {0x88, 0x13, 0, 0, 0, 0, 4};
 
-static void part_is(int line, const rokemaipu_table *t, uint32_t part, uint32_t time, const uint8_t *bytes, uint32_t length) {
-    uint32_t got[2] = {77, 77};
+static void part_is(int line, const rokemaipu_table *t, uint32_t part, uint32_t time, uint32_t age, const uint8_t *bytes, uint32_t length) {
+    uint32_t got[ROKEMAIPU_TIMES + 1] = {77, 77, 77};
     uint8_t buffer[10];
     memset(buffer, 0x55, sizeof buffer);
-    is(line, "the part's bytes", rokemaipu_in_session(t, 0, part, got, 2, buffer, 10), length);
-    is(line, "its time", got[0], length ? time : 77);
-    is(line, "the place behind the time", got[1], 77);
+    is(line, "the part's bytes", rokemaipu_in_session(t, 0, part, got, ROKEMAIPU_TIMES + 1, buffer, 10), length);
+    is(line, "its time", got[ROKEMAIPU_WHEN], length ? time : 77);
+    is(line, "its age", got[ROKEMAIPU_WHEN_AGE], length ? age : 77);
+    is(line, "the place behind the age", got[ROKEMAIPU_TIMES], 77);
     is(line, "its bytes, other", memcmp(buffer, bytes, length) != 0, 0);
     for (uint32_t i = length; i < 10; i++) is(line, "a byte behind it", buffer[i], 0x55);
 }
-#define PART(part, time, bytes) part_is(__LINE__, &t, part, time, bytes, sizeof bytes)
-#define NONE(part) part_is(__LINE__, &t, part, 0, status, 0)
+#define PART(part, time, age, bytes) part_is(__LINE__, &t, part, time, age, bytes, sizeof bytes)
+#define NONE(part) part_is(__LINE__, &t, part, 0, 0, status, 0)
 
 static void in_session(void) {
     rokemaipu_table t;
@@ -83,20 +84,21 @@ static void in_session(void) {
     NONE(ROKEMAIPU_KEPT_CONTROL);
     IS(rokemaipu_frame(&t, 4, 30, 0x63000, true, other, 8), 0);
     IS(rokemaipu_frame(&t, 4, 40, 0x63000, true, status, 8), 0);
-    PART(ROKEMAIPU_KEPT_STATUS, 40, status);
+    PART(ROKEMAIPU_KEPT_STATUS, 40, 0, status);
     NONE(ROKEMAIPU_KEPT_CONTROL);
     IS(rokemaipu_frame(&t, 4, 50, 0x6b003, true, control, 7), 0);
-    PART(ROKEMAIPU_KEPT_STATUS, 40, status);
-    PART(ROKEMAIPU_KEPT_CONTROL, 50, control);
-    uint32_t time[1];
+    PART(ROKEMAIPU_KEPT_STATUS, 40, 10, status);
+    PART(ROKEMAIPU_KEPT_CONTROL, 50, 0, control);
+    uint32_t times[ROKEMAIPU_TIMES];
     uint8_t buffer[8];
-    IS(rokemaipu_in_session(&t, 0, 0, time, 1, buffer, 7), R(8));
+    IS(rokemaipu_in_session(&t, 0, 0, times, 2, buffer, 7), R(8));
+    IS(rokemaipu_in_session(&t, 0, 0, times, 1, buffer, 8), R(8));
     IS(rokemaipu_in_session(&t, 0, 0, NULL, 0, buffer, 8), R(8));
-    IS(rokemaipu_in_session(&t, 0, 1, time, 1, buffer, 7), 7);
+    IS(rokemaipu_in_session(&t, 0, 1, times, 2, buffer, 7), 7);
     IS(rokemaipu_frame(&t, 4, 60, 0x6b004, true, (const uint8_t[]){0}, 1), 0); /* finished */
     NONE(ROKEMAIPU_KEPT_STATUS);
     NONE(ROKEMAIPU_KEPT_CONTROL);
-    IS(rokemaipu_latest(&t, 0, ROKEMAIPU_POWER_MODULES_STATUS, time, 1, buffer, 8), 8); /* the latest of the kind stays */
+    IS(rokemaipu_latest(&t, 0, ROKEMAIPU_POWER_MODULES_STATUS, times, 2, buffer, 8), 8); /* the latest of the kind stays */
     IS(rokemaipu_frame(&t, 4, 70, 0x6b001, true, (const uint8_t[]){2, 1}, 2), 0);
     NONE(ROKEMAIPU_KEPT_STATUS); /* nothing is kept from the session before */
     puts("in session: before, in it, finished, opened anew; its refusals in their order");
@@ -106,7 +108,7 @@ static void any_session(void) {
     static const uint32_t lengths[ROKEMAIPU_KEPT] = {8, 7};
     size_t page = (size_t)sysconf(_SC_PAGESIZE);
     rokemaipu_table *t = (rokemaipu_table *)fenced(page);
-    lent time = {.end = fenced(page) + page, .width = 4}, buf = {.end = fenced(page) + page, .width = 1};
+    lent times = {.end = fenced(page) + page, .width = 4}, buf = {.end = fenced(page) + page, .width = 1};
     for (int turn = 0; turn < 300 && !bad; turn++) {
         if (mprotect(t, page, PROT_READ | PROT_WRITE)) exit(1);
         random_table(t);
@@ -114,19 +116,19 @@ static void any_session(void) {
         if (mprotect(t, page, PROT_READ)) exit(1);
         for (uint32_t post = 0; post < 10; post++)
             for (uint32_t part = 0; part < 5; part++)
-                for (size_t places = 0; places < 3; places++)
+                for (size_t places = 0; places < 4; places++)
                     for (size_t room = 0; room <= 10; room++) {
                         const rokemaipu_head *h = &t->posts[post % 8].head;
                         const rokemaipu_slot *l = &h->session.kept[part % ROKEMAIPU_KEPT];
-                        uint32_t length = lengths[part % ROKEMAIPU_KEPT], received = (uint32_t)l->time;
+                        uint32_t length = lengths[part % ROKEMAIPU_KEPT], when[ROKEMAIPU_TIMES] = {(uint32_t)l->time, age_of(h->time, l->time)};
                         uint32_t answer = post > 7 ? R(9) : h->used != 1 ? R(14) : part >= ROKEMAIPU_KEPT ? R(3)
-                            : h->session.opened != 1 || l->known != 1 ? 0 : !places || room < length ? R(8) : length;
+                            : h->session.opened != 1 || l->known != 1 ? 0 : places < ROKEMAIPU_TIMES || room < length ? R(8) : length;
                         bool out = answer && !rokemaipu_refusal(answer);
                         uint8_t bytes[8];
                         for (int i = 0; i < 8; i++) bytes[i] = (uint8_t)(l->raw >> 8 * i);
-                        lend(&time, places), lend(&buf, room);
-                        IS(rokemaipu_in_session(t, post, part, (uint32_t *)time.at, places, buf.at, room), answer);
-                        lent_is(__LINE__, &time, &received, out);
+                        lend(&times, places), lend(&buf, room);
+                        IS(rokemaipu_in_session(t, post, part, (uint32_t *)times.at, places, buf.at, room), answer);
+                        lent_is(__LINE__, &times, when, out ? ROKEMAIPU_TIMES : 0);
                         lent_is(__LINE__, &buf, bytes, out ? length : 0);
                     }
         uint32_t far = below(2) ? 0xffffffff : 8 + below(1000);

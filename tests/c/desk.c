@@ -117,22 +117,19 @@ static void put_message(uint32_t kind, const int64_t *raws) {
     for (size_t i = 0; i < kinds[kind].n; i++) printf("%s%" PRId64, i ? "," : "", is_celsius(kind, i) ? raws[i] - 40 : is_kilohms(kind, i) ? raws[i] * 2 : raws[i]);
 }
 
-static void put_dated(uint32_t kind, const uint8_t *payload, size_t n, uint32_t time) {
+static void put_dated(uint32_t kind, const uint8_t *payload, size_t n, const uint32_t times[ROKEMAIPU_TIMES]) {
     int64_t raws[ROKEMAIPU_SIGNALS];
     if (rokemaipu_read(kinds[kind].id, kinds[kind].extended, payload, n, raws, ROKEMAIPU_SIGNALS) != kind) exit(fprintf(stderr, "desk.c: a kept frame is no frame\n"));
     put_message(kind, raws);
-    printf("@%" PRIu32, time);
+    printf("@%" PRIu32 "+%" PRIu32, times[ROKEMAIPU_WHEN], times[ROKEMAIPU_WHEN_AGE]);
 }
 
-static void put_slot(const char *name, uint32_t kind, size_t n, const rokemaipu_slot *s) {
+static void put_part(const char *name, uint32_t kind, uint32_t post, uint32_t part) {
     uint8_t payload[8];
+    uint32_t times[ROKEMAIPU_TIMES], length = rokemaipu_in_session(&table, post, part, times, ROKEMAIPU_TIMES, payload, sizeof payload);
     printf(" %s=", name);
-    if (!s->known) {
-        putchar('-');
-        return;
-    }
-    for (size_t i = 0; i < n; i++) payload[i] = (uint8_t)(s->raw >> (8 * i));
-    put_dated(kind, payload, n, (uint32_t)s->time);
+    if (length) put_dated(kind, payload, length, times);
+    else putchar('-');
 }
 
 static void put_counts(uint32_t post) {
@@ -143,7 +140,7 @@ static void put_counts(uint32_t post) {
 }
 
 static void record(uint32_t post) {
-    uint32_t n[ROKEMAIPU_NUMBERS], time[1];
+    uint32_t n[ROKEMAIPU_NUMBERS], times[ROKEMAIPU_TIMES];
     uint8_t payload[8];
     bool some = false;
     uint32_t refused = rokemaipu_look_up(&table, post, n, ROKEMAIPU_NUMBERS);
@@ -156,19 +153,19 @@ static void record(uint32_t post) {
     if (n[ROKEMAIPU_HEARD]) printf(" last=%" PRIu32, n[ROKEMAIPU_TIME]);
     else printf(" last=-");
     if (n[ROKEMAIPU_OPENED]) {
-        printf(" open=1 since=%" PRIu32 " first=%" PRIu32 ",%" PRIu32, n[ROKEMAIPU_SINCE], n[ROKEMAIPU_PROTOCOL], n[ROKEMAIPU_PLUG]);
-        put_slot("spms", ROKEMAIPU_POWER_MODULES_STATUS, 8, &table.posts[post].head.session.kept[ROKEMAIPU_KEPT_STATUS]);
-        put_slot("sdpc", ROKEMAIPU_DC_POWER_CONTROL, 7, &table.posts[post].head.session.kept[ROKEMAIPU_KEPT_CONTROL]);
+        printf(" open=1 since=%" PRIu32 "+%" PRIu32 " first=%" PRIu32 ",%" PRIu32, n[ROKEMAIPU_SINCE], n[ROKEMAIPU_SINCE_AGE], n[ROKEMAIPU_PROTOCOL], n[ROKEMAIPU_PLUG]);
+        put_part("spms", ROKEMAIPU_POWER_MODULES_STATUS, post, ROKEMAIPU_KEPT_STATUS);
+        put_part("sdpc", ROKEMAIPU_DC_POWER_CONTROL, post, ROKEMAIPU_KEPT_CONTROL);
     } else
         printf(" open=0 since=- first=- spms=- sdpc=-");
     put_counts(post);
     printf(" latest=");
     for (uint32_t i = 0; i < ROKEMAIPU_KINDS; i++) { /* the standard ones stand behind the others, and come first */
         uint32_t kind = (i + ROKEMAIPU_CHARGE_CONTROL_1) % ROKEMAIPU_KINDS;
-        uint32_t length = rokemaipu_latest(&table, post, kind, time, 1, payload, sizeof payload);
+        uint32_t length = rokemaipu_latest(&table, post, kind, times, ROKEMAIPU_TIMES, payload, sizeof payload);
         if (!length) continue;
         if (some) putchar(';');
-        put_dated(kind, payload, length, *time);
+        put_dated(kind, payload, length, times);
         some = true;
     }
     puts(some ? "" : "-");

@@ -14,6 +14,9 @@ static uint64_t some_time(void) { return below(8) ? (uint32_t)next() : next(); }
 /* often the largest, and just below it */
 static uint32_t some_count(void) { return below(3) ? below(1000) : UINT32_MAX - below(2); }
 
+/* "an age stops growing at 4,294,967,295" */
+static inline uint32_t age_of(uint64_t now, uint64_t from) { return now <= from ? 0 : now - from < UINT32_MAX ? (uint32_t)(now - from) : UINT32_MAX; }
+
 static void random_slot(rokemaipu_slot *s) { s->known = some_flag(), s->time = some_time(), s->raw = next(); }
 
 static void random_head(rokemaipu_head *h) {

@@ -195,9 +195,9 @@ static void safety(void) {
     IS(rokemaipu_read(6, false, c, 8, raws, 0), R(6));
     IS(rokemaipu_change(6, false, c, 8, 0, 0), R(6));
     IS(rokemaipu_frame(&t, 4, 0, 8, false, c, 8), 0); /* every bit of these is covered */
-    uint32_t time[1];
+    uint32_t times[ROKEMAIPU_TIMES];
     uint8_t buf[8];
-    IS(rokemaipu_latest(&t, 0, ROKEMAIPU_PT1000_STATE, time, 1, buf, 8), 8);
+    IS(rokemaipu_latest(&t, 0, ROKEMAIPU_PT1000_STATE, times, 2, buf, 8), 8);
     IS(memcmp(buf, c, 8), 0);
     IS(rokemaipu_frame(&t, 4, 10, 0x6b000, true, (const uint8_t[]){7}, 1), 0);
     IS(rokemaipu_frame(&t, 4, 10, 0x6b001, true, (const uint8_t[]){2, 1}, 2), 0);
@@ -313,7 +313,7 @@ static void numbers_are(int line, const rokemaipu_table *t, uint32_t post, const
 
 static void looks(void) {
     rokemaipu_table t;
-    uint32_t numbers[ROKEMAIPU_NUMBERS], time[1] = {77};
+    uint32_t numbers[ROKEMAIPU_NUMBERS], times[ROKEMAIPU_TIMES] = {77, 77};
     uint8_t buf[8];
     memset(&t, 0, sizeof t);
     memset(numbers, 0, sizeof numbers);
@@ -323,42 +323,46 @@ static void looks(void) {
     IS(rokemaipu_look_up(&t, 0, NULL, 0), R(14));
     IS(rokemaipu_set_up(&t, 0, 4, 5000, 1000, 500, 600, ROKEMAIPU_YES_NO), 0); /* as E8 */
     IS(rokemaipu_look_up(&t, 0, numbers, ROKEMAIPU_NUMBERS - 1), R(8));
-    NUMBERS(&t, 0, 4, 5000, 1000, 500, 600, 1, 0, 0, 0, 0, 0, 0);
+    NUMBERS(&t, 0, 4, 5000, 1000, 500, 600, 1, 0, 0, 0, 0, 0, 0, 0);
     IS(rokemaipu_latest(&t, 0, ROKEMAIPU_NEW_CHARGE_SESSION, NULL, 0, NULL, 0), 0);
     const uint8_t s[8] = {0x88, 0x13, 0, 0, 65, 65, 1, 25}, d[7] = {0x88, 0x13, 0, 0, 0, 0, 4};
     IS(rokemaipu_frame(&t, 4, 5, 0x6b001, true, (const uint8_t[]){2, 1}, 2), 0);
-    NUMBERS(&t, 0, 4, 5000, 1000, 500, 600, 1, 1, 5, 1, 5, 2, 1);
+    NUMBERS(&t, 0, 4, 5000, 1000, 500, 600, 1, 1, 5, 1, 5, 2, 1, 0);
     IS(rokemaipu_frame(&t, 4, 10, 0x63000, true, s, 8), 0);
     IS(rokemaipu_frame(&t, 4, 20, 0x6b003, true, d, 7), 0);
     IS(rokemaipu_frame(&t, 4, 25, 0x6b001, true, (const uint8_t[]){3, 2}, 2), ROKEMAIPU_F(10)); /* repeated: the first protocol and plug stay */
     IS(rokemaipu_tick(&t, 4, 30), 0);
-    NUMBERS(&t, 0, 4, 5000, 1000, 500, 600, 1, 1, 30, 1, 5, 2, 1);
+    NUMBERS(&t, 0, 4, 5000, 1000, 500, 600, 1, 1, 30, 1, 5, 2, 1, 25);
     memset(buf, 0x55, sizeof buf);
-    IS(rokemaipu_latest(&t, 0, ROKEMAIPU_POWER_MODULES_STATUS, time, 1, buf, 8), 8);
-    IS(time[0], 10);
+    IS(rokemaipu_latest(&t, 0, ROKEMAIPU_POWER_MODULES_STATUS, times, 2, buf, 8), 8);
+    IS(times[0], 10);
+    IS(times[1], 20);
     IS(memcmp(buf, s, 8), 0);
     memset(buf, 0x55, sizeof buf);
-    IS(rokemaipu_latest(&t, 0, ROKEMAIPU_DC_POWER_CONTROL, time, 1, buf, 8), 7);
-    IS(time[0], 20);
+    IS(rokemaipu_latest(&t, 0, ROKEMAIPU_DC_POWER_CONTROL, times, 2, buf, 8), 7);
+    IS(times[0], 20);
+    IS(times[1], 10);
     IS(memcmp(buf, d, 7), 0);
     IS(buf[7], 0x55);
-    IS(rokemaipu_latest(&t, 0, ROKEMAIPU_NEW_CHARGE_SESSION, time, 1, buf, 2), 2);
-    IS(time[0], 25);
+    IS(rokemaipu_latest(&t, 0, ROKEMAIPU_NEW_CHARGE_SESSION, times, 2, buf, 2), 2);
+    IS(times[0], 25);
+    IS(times[1], 5);
     IS(memcmp(buf, (const uint8_t[]){3, 2}, 2), 0);
-    IS(rokemaipu_latest(&t, 0, ROKEMAIPU_EV_ID, time, 1, buf, 8), 0);
-    IS(time[0], 25);
-    IS(rokemaipu_latest(&t, 0, ROKEMAIPU_KINDS, time, 1, buf, 8), R(3));
+    IS(rokemaipu_latest(&t, 0, ROKEMAIPU_EV_ID, times, 2, buf, 8), 0);
+    IS(times[0], 25);
+    IS(rokemaipu_latest(&t, 0, ROKEMAIPU_KINDS, times, 2, buf, 8), R(3));
     IS(rokemaipu_latest(&t, 0, ROKEMAIPU_KINDS, NULL, 0, NULL, 0), R(3));
-    IS(rokemaipu_latest(&t, 1, ROKEMAIPU_KINDS, time, 1, buf, 8), R(14)); /* 9 and 14 before 3 */
-    IS(rokemaipu_latest(&t, 8, ROKEMAIPU_KINDS, time, 1, buf, 8), R(9));
-    IS(rokemaipu_latest(&t, 0, ROKEMAIPU_POWER_MODULES_STATUS, time, 1, buf, 7), R(8));
+    IS(rokemaipu_latest(&t, 1, ROKEMAIPU_KINDS, times, 2, buf, 8), R(14)); /* 9 and 14 before 3 */
+    IS(rokemaipu_latest(&t, 8, ROKEMAIPU_KINDS, times, 2, buf, 8), R(9));
+    IS(rokemaipu_latest(&t, 0, ROKEMAIPU_POWER_MODULES_STATUS, times, 2, buf, 7), R(8));
+    IS(rokemaipu_latest(&t, 0, ROKEMAIPU_POWER_MODULES_STATUS, times, 1, buf, 8), R(8));
     IS(rokemaipu_latest(&t, 0, ROKEMAIPU_POWER_MODULES_STATUS, NULL, 0, buf, 8), R(8));
     IS(rokemaipu_frame(&t, 4, 31, 0x6b004, true, (const uint8_t[]){0}, 1), 0); /* finished: the session's part is none, the frames stay */
-    NUMBERS(&t, 0, 4, 5000, 1000, 500, 600, 1, 1, 31, 0, 0, 0, 0);
-    IS(rokemaipu_latest(&t, 0, ROKEMAIPU_DC_POWER_CONTROL, time, 1, buf, 8), 7);
+    NUMBERS(&t, 0, 4, 5000, 1000, 500, 600, 1, 1, 31, 0, 0, 0, 0, 0);
+    IS(rokemaipu_latest(&t, 0, ROKEMAIPU_DC_POWER_CONTROL, times, 2, buf, 8), 7);
     IS(rokemaipu_set_up(&t, 0, 6, 5000, 1000, 500, 600, 0), 0); /* E12: an empty history */
-    NUMBERS(&t, 0, 6, 5000, 1000, 500, 600, 0, 0, 0, 0, 0, 0, 0);
-    IS(rokemaipu_latest(&t, 0, ROKEMAIPU_DC_POWER_CONTROL, time, 1, buf, 8), 0);
+    NUMBERS(&t, 0, 6, 5000, 1000, 500, 600, 0, 0, 0, 0, 0, 0, 0, 0);
+    IS(rokemaipu_latest(&t, 0, ROKEMAIPU_DC_POWER_CONTROL, times, 2, buf, 8), 0);
     puts("look-ups: E8's and E12's posts, their numbers and their latest frames");
 }
 
@@ -568,7 +572,7 @@ static uint32_t least(uint32_t a, uint32_t b) { return a < b ? a : b; }
 static void any_look(void) {
     size_t page = (size_t)sysconf(_SC_PAGESIZE);
     rokemaipu_table *t = (rokemaipu_table *)fenced(page); /* a page of its own, which is read-only while it is looked at */
-    lent numbers = {.end = fenced(page) + page, .width = 4}, time = {.end = fenced(page) + page, .width = 4}, buf = {.end = fenced(page) + page, .width = 1};
+    lent numbers = {.end = fenced(page) + page, .width = 4}, times = {.end = fenced(page) + page, .width = 4}, buf = {.end = fenced(page) + page, .width = 1};
     for (int turn = 0; turn < 300; turn++) {
         if (mprotect(t, page, PROT_READ | PROT_WRITE)) exit(1);
         random_table(t);
@@ -582,7 +586,8 @@ static void any_look(void) {
             uint32_t refused = post > 7 ? R(9) : h->used != 1 ? R(14) : 0;
             const uint32_t want[ROKEMAIPU_NUMBERS] = {h->channel, h->limits.voltage, h->limits.charge, h->limits.discharge, h->limits.silence,
                 h->limits.sensor == ROKEMAIPU_YES_NO, heard, heard ? (uint32_t)h->time : 0,
-                opened, opened ? (uint32_t)s->since : 0, opened ? least(s->first & 0xff, 7) : 0, opened ? least(s->first >> 8 & 0xff, 4) : 0}; /* without a label: the last one */
+                opened, opened ? (uint32_t)s->since : 0, opened ? least(s->first & 0xff, 7) : 0, opened ? least(s->first >> 8 & 0xff, 4) : 0, /* without a label: the last one */
+                opened ? age_of(h->time, s->since) : 0};
             for (size_t places = 0; places <= MOST; places++) {
                 uint32_t answer = refused ? refused : places < ROKEMAIPU_NUMBERS ? R(8) : 0;
                 lend(&numbers, places);
@@ -594,17 +599,17 @@ static void any_look(void) {
                 lent_is(__LINE__, &numbers, h->counts, answer ? 0 : ROKEMAIPU_COUNTS);
             }
             for (uint32_t kind = 0; kind < ROKEMAIPU_KINDS + 2; kind++)
-                for (size_t places = 0; places < 3; places++)
+                for (size_t places = 0; places < 4; places++)
                     for (size_t room = 0; room <= 10; room++) {
                         const rokemaipu_slot *l = &p->latest[kind % ROKEMAIPU_KINDS];
-                        uint32_t length = lengths_of[kind % ROKEMAIPU_KINDS], answer = refused ? refused : kind >= ROKEMAIPU_KINDS ? R(3) : l->known != 1 ? 0 : !places || room < length ? R(8) : length;
+                        uint32_t length = lengths_of[kind % ROKEMAIPU_KINDS], answer = refused ? refused : kind >= ROKEMAIPU_KINDS ? R(3) : l->known != 1 ? 0 : places < ROKEMAIPU_TIMES || room < length ? R(8) : length;
                         bool out = answer && !rokemaipu_refusal(answer);
                         uint8_t bytes[8];
-                        uint32_t received = (uint32_t)l->time;
+                        uint32_t when[ROKEMAIPU_TIMES] = {(uint32_t)l->time, age_of(h->time, l->time)};
                         for (int i = 0; i < 8; i++) bytes[i] = (uint8_t)(l->raw >> 8 * (is_standard(kind) ? 7 - i : i));
-                        lend(&time, places), lend(&buf, room);
-                        IS(rokemaipu_latest(t, post, kind, (uint32_t *)time.at, places, buf.at, room), answer);
-                        lent_is(__LINE__, &time, &received, out);
+                        lend(&times, places), lend(&buf, room);
+                        IS(rokemaipu_latest(t, post, kind, (uint32_t *)times.at, places, buf.at, room), answer);
+                        lent_is(__LINE__, &times, when, out ? ROKEMAIPU_TIMES : 0);
                         lent_is(__LINE__, &buf, bytes, out ? length : 0);
                     }
             if (bad) return;

@@ -52,6 +52,7 @@ fn numbers() {
         ("#define ROKEMAIPU_COMPARE_RECORDS ", COMPARE_RECORDS),
         ("    ROKEMAIPU_COMPARED_NUMBERS = ", COMPARED_NUMBERS),
         ("    ROKEMAIPU_NUMBERS = ", NUMBERS),
+        ("    ROKEMAIPU_TIMES = ", TIMES),
         ("    ROKEMAIPU_COUNTS = ", COUNTS),
         ("    ROKEMAIPU_ENTRY_NUMBERS = ", ENTRY_NUMBERS),
         ("#define ROKEMAIPU_REFUSED ", REFUSED as usize),

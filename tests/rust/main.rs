@@ -10,10 +10,10 @@ fn frame(t: &mut Table, channel: u32, time: u32, id: u32, payload: &[u8]) -> u32
 /// The latest of a kind, or in the session: the answer, the time, the bytes.
 type Look = unsafe extern "C" fn(*const Table, u32, u32, *mut u32, usize, *mut u8, usize) -> u32;
 
-fn looked(look: Look, t: &Table, post: u32, which: u32) -> (u32, u32, Vec<u8>) {
-    let (mut time, mut buffer) = ([77], [0x55; 8]);
-    let answer = unsafe { look(t, post, which, time.as_mut_ptr(), time.len(), buffer.as_mut_ptr(), buffer.len()) };
-    (answer, time[0], buffer[..if answer < REFUSED { answer as usize } else { 0 }].to_vec())
+fn looked(look: Look, t: &Table, post: u32, which: u32) -> (u32, [u32; TIMES], Vec<u8>) {
+    let (mut times, mut buffer) = ([77; TIMES], [0x55; 8]);
+    let answer = unsafe { look(t, post, which, times.as_mut_ptr(), TIMES, buffer.as_mut_ptr(), buffer.len()) };
+    (answer, times, buffer[..if answer < REFUSED { answer as usize } else { 0 }].to_vec())
 }
 
 /// 01's E8, E9 and E11, and who holds what.
@@ -39,16 +39,16 @@ fn posts() {
 
     let mut numbers = [0; NUMBERS];
     assert_eq!(unsafe { rokemaipu_look_up(&t, 0, numbers.as_mut_ptr(), NUMBERS) }, 0);
-    assert_eq!(numbers, [4, 5000, 1000, 500, 500, 0, 1, 40, 1, 0, 2, 1]);
+    assert_eq!(numbers, [4, 5000, 1000, 500, 500, 0, 1, 40, 1, 0, 2, 1, 40]);
     let mut counts = [0; COUNTS];
     assert_eq!(unsafe { rokemaipu_counts(&t, 0, counts.as_mut_ptr(), COUNTS) }, 0);
     assert_eq!(counts, [6, 0, 0, 1, 1, 0, 0, 0, 0, 1, 0, 0]); // accepted; F3, F4 and F9
     assert_eq!(unsafe { rokemaipu_refused(&t) }, 2);
     assert_eq!(unsafe { rokemaipu_counts(&t, 0, counts.as_mut_ptr(), COUNTS - 1) }, REFUSED + 8);
-    assert_eq!(looked(rokemaipu_latest, &t, 0, 0), (8, 40, status(24).to_vec()));
-    assert_eq!(looked(rokemaipu_latest, &t, 0, 8), (0, 77, vec![]));
-    assert_eq!(looked(rokemaipu_in_session, &t, 0, 0), (8, 40, status(24).to_vec()));
-    assert_eq!(looked(rokemaipu_in_session, &t, 0, 1), (7, 20, vec![0x88, 0x13, 0, 0, 0, 0, 4]));
+    assert_eq!(looked(rokemaipu_latest, &t, 0, 0), (8, [40, 0], status(24).to_vec()));
+    assert_eq!(looked(rokemaipu_latest, &t, 0, 8), (0, [77, 77], vec![]));
+    assert_eq!(looked(rokemaipu_in_session, &t, 0, 0), (8, [40, 0], status(24).to_vec()));
+    assert_eq!(looked(rokemaipu_in_session, &t, 0, 1), (7, [20, 20], vec![0x88, 0x13, 0, 0, 0, 0, 4]));
     assert_eq!(looked(rokemaipu_in_session, &t, 0, 2).0, REFUSED + 3);
 
     unsafe {

@@ -22,13 +22,19 @@ use watch_rules::LookedUp;
 use watch_rules::Setting;
 use watch_rules::Table;
 
+// `TIME+AGE`, behind its name
+fn put_time(out: &mut [u8], pen: Pen, name: &[u8], time: u32, age: u32) -> Pen {
+    let p = named(out, pen, name, time);
+    named(out, p, b"+", age)
+}
+
 // `MSG@T`, or `-`
 fn put_dated(out: &mut [u8], pen: Pen, d: Dated) -> Pen {
     match d {
         Dated::Nothing => text_pen::put(out, pen, b"-"),
-        Dated::At(time, m) => {
+        Dated::At(time, age, m) => {
             let p = message::put(out, pen, m);
-            named(out, p, b"@", time)
+            put_time(out, p, b"@", time, age)
         }
     }
 }
@@ -53,9 +59,8 @@ fn put_last(out: &mut [u8], pen: Pen, l: LastTime) -> Pen {
     }
 }
 
-fn put_opening(out: &mut [u8], pen: Pen, since: u32, protocol: Protocol, plug: Plug) -> Pen {
-    let p = named(out, pen, b" open=1 since=", since);
-    let q = named(out, p, b" first=", protocol_number(protocol) as u32);
+fn put_first(out: &mut [u8], pen: Pen, protocol: Protocol, plug: Plug) -> Pen {
+    let q = named(out, pen, b" first=", protocol_number(protocol) as u32);
     named(out, q, b",", plug_number(plug) as u32)
 }
 
@@ -69,9 +74,10 @@ fn put_open(out: &mut [u8], pen: Pen, s: OpenSession) -> Pen {
     let plug = s.plug;
     let status = s.status;
     let control = s.control;
-    let p = put_opening(out, pen, s.since, protocol, plug);
-    let q = put_part(out, p, b" spms=", status);
-    put_part(out, q, b" sdpc=", control)
+    let p = put_time(out, pen, b" open=1 since=", s.since, s.age);
+    let q = put_first(out, p, protocol, plug);
+    let r = put_part(out, q, b" spms=", status);
+    put_part(out, r, b" sdpc=", control)
 }
 
 fn put_session(out: &mut [u8], pen: Pen, s: SessionPart) -> Pen {
@@ -84,7 +90,7 @@ fn put_session(out: &mut [u8], pen: Pen, s: SessionPart) -> Pen {
 fn is_known(d: Dated) -> bool {
     match d {
         Dated::Nothing => false,
-        Dated::At(_, _) => true,
+        Dated::At(_, _, _) => true,
     }
 }
 

@@ -11,29 +11,29 @@ use Rattle.watch_rules.specs.declared.LookedUp.{LookedUp}
 use Rattle.watch_rules.specs.Table.{postIn, isPost, lookUpOf}
 use Rattle.lent_look.proofs.Asked.{set-up}
 use Rattle.plain_words.specs.Words.{outcomeWord}
-use Rattle.lent_latest.specs.Latest.{keptOf, hasRoom, keptOutcome, hands, timeLeft, bytesLeft, latestOutcome, latestWord, timeAfter, frameAfter}
+use Rattle.lent_latest.specs.Latest.{keptOf, nowOf, hasRoom, keptOutcome, hands, timeLeft, bytesLeft, latestOutcome, latestWord, timeAfter, frameAfter}
 
 module _ (t : Table) (i : ℕ) where
-  -- the answer, the lent time, and the lent bytes
+  -- the answer, the lent times, and the lent bytes
   abbrev pub Handed : ℕ → List ℕ → List ℕ → ℕ → List ℕ → List ℕ → Type 0
   Handed k times buf r after left = (r ≡ latestWord t i k times buf) × (after ≡ timeAfter t i k times buf) × (left ≡ frameAfter t i k times buf)
 
   pub handed-by : {x : LookedUp} (k : ℕ) (times buf : List ℕ) → lookUpOf t i ≡ x
       → Handed k times buf
       (outcomeWord (latestOutcome (x .answer) k (keptOf t i k) (length times) (length buf)))
-      (timeLeft (hands (x .answer) k (keptOf t i k) (length times) (length buf)) (keptOf t i k) times)
+      (timeLeft (hands (x .answer) k (keptOf t i k) (length times) (length buf)) (nowOf t i) (keptOf t i k) times)
       (bytesLeft (hands (x .answer) k (keptOf t i k) (length times) (length buf)) k (keptOf t i k) buf)
   unfolding latestWord timeAfter frameAfter
   handed-by k times buf e = (
     ap (λ (y : LookedUp). outcomeWord (latestOutcome (y .answer) k (keptOf t i k) (length times) (length buf))) (sym e),
-    ap (λ (y : LookedUp). timeLeft (hands (y .answer) k (keptOf t i k) (length times) (length buf)) (keptOf t i k) times) (sym e),
+    ap (λ (y : LookedUp). timeLeft (hands (y .answer) k (keptOf t i k) (length times) (length buf)) (nowOf t i) (keptOf t i k) times) (sym e),
     ap (λ (y : LookedUp). bytesLeft (hands (y .answer) k (keptOf t i k) (length times) (length buf)) k (keptOf t i k) buf) (sym e),
   )
 
   -- of a post that is set up and a number that is a kind: what is kept, and the room, decide
   pub handed-kept : {r : ℕ} {after left : List ℕ} (k : ℕ) (times buf : List ℕ) → isPost i ≡ true → isSet (postIn t i .head .used) ≡ true → k < kindCount
       → (r ≡ outcomeWord (keptOutcome k (keptOf t i k) (length times) (length buf)))
-      × (after ≡ timeLeft (isSet (keptOf t i k .known) && hasRoom k (length times) (length buf)) (keptOf t i k) times)
+      × (after ≡ timeLeft (isSet (keptOf t i k .known) && hasRoom k (length times) (length buf)) (nowOf t i) (keptOf t i k) times)
       × (left ≡ bytesLeft (isSet (keptOf t i k .known) && hasRoom k (length times) (length buf)) k (keptOf t i k) buf)
       → Handed k times buf r after left
   handed-kept k times buf l u m out =

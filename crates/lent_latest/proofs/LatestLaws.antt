@@ -21,7 +21,7 @@ use Rattle.rules.specs.declared.Dated.the-variants as dated
 use Rattle.rules.specs.declared.Latest.{Latest}
 use Rattle.rules.specs.declared.Slot.{Slot}
 use Rattle.rules.specs.History.{countFrom}
-use Rattle.rules.specs.Times.{receivedOf}
+use Rattle.rules.specs.Times.{receivedOf, ageOf}
 use Rattle.rules.specs.Record.{kindCount, isSet, slotAt}
 use Rattle.rules.specs.After.{latestIn, datedIn, postRecord}
 use Rattle.rules.proofs.Counted.{count-at}
@@ -31,13 +31,13 @@ use Rattle.watch_rules.specs.declared.Setting.the-variants as setting
 use Rattle.watch_rules.specs.Table.{postIn, isPost, lookUpOf}
 use Rattle.plain_words.specs.Words.{Outcome, answers, refuses, outcomeWord, isAccepted, Within, Told}
 use Rattle.plain_words.proofs.WordLaws.{either, word-tells, not-accepted}
-use Rattle.lent_latest.specs.Latest.{keptOf, hasRoom, latestOutcome, hands, handsOut, timeLeft, bytesLeft, latestWord, timeAfter, frameAfter}
+use Rattle.lent_latest.specs.Latest.{keptOf, nowOf, hasRoom, latestOutcome, hands, handsOut, timeLeft, bytesLeft, latestWord, timeAfter, frameAfter}
 use Rattle.lent_look.proofs.Asked.{set-up, any-look}
 
 -- a frame that was read to what the post keeps is handed out byte for byte
 pub as-it-came : (t : Table) (i k : ℕ) (times buf : List ℕ) (id : ℕ) (extended : Bool) (bs : List ℕ) (time n : ℕ)
     → judgeOf id extended bs ≡ Frame k n → Bytes bs → keptOf t i k ≡ slotAt time n → handsOut t i k times buf ≡ true
-    → (timeAfter t i k times buf ≡ receivedOf time ∷ drop 1 times) × (frameAfter t i k times buf ≡ bs ++ drop (length bs) buf)
+    → (timeAfter t i k times buf ≡ receivedOf time ∷ ageOf (nowOf t i) time ∷ drop 2 times) × (frameAfter t i k times buf ≡ bs ++ drop (length bs) buf)
 unfolding timeAfter frameAfter
 as-it-came t i k times buf id extended bs time n e b s h = (
   rw (h, s),
@@ -88,14 +88,14 @@ module _ (t : Table) (i k : ℕ) (times buf : List ℕ) where
       let e : handsOut t i k times buf ≡ false = not-handed t i k (keptOf t i k) (length times) (length buf) l in
       (rw e, rw e)
 
-pub handed-behind : (b : Bool) (k : ℕ) (l : Slot) (times buf : List ℕ) → (drop 1 (timeLeft b l times) ≡ drop 1 times) × (drop (lengthOf k) (bytesLeft b k l buf) ≡ drop (lengthOf k) buf)
-handed-behind true k l times buf = (refl, drop-at (bytesOf (bigOf k) (lengthOf k) (l .raw)) (drop (lengthOf k) buf) (lengthOf k) (length-of (bigOf k) (lengthOf k) (l .raw)))
-handed-behind false k l times buf = (refl, refl)
+pub handed-behind : (b : Bool) (now k : ℕ) (l : Slot) (times buf : List ℕ) → (drop 2 (timeLeft b now l times) ≡ drop 2 times) × (drop (lengthOf k) (bytesLeft b k l buf) ≡ drop (lengthOf k) buf)
+handed-behind true now k l times buf = (refl, drop-at (bytesOf (bigOf k) (lengthOf k) (l .raw)) (drop (lengthOf k) buf) (lengthOf k) (length-of (bigOf k) (lengthOf k) (l .raw)))
+handed-behind false now k l times buf = (refl, refl)
 
 pub latest-kept : (t : Table) (i k : ℕ) (times buf : List ℕ)
-    → (drop 1 (timeAfter t i k times buf) ≡ drop 1 times) × (drop (lengthOf k) (frameAfter t i k times buf) ≡ drop (lengthOf k) buf)
+    → (drop 2 (timeAfter t i k times buf) ≡ drop 2 times) × (drop (lengthOf k) (frameAfter t i k times buf) ≡ drop (lengthOf k) buf)
 unfolding timeAfter frameAfter
-latest-kept t i k times buf = handed-behind (handsOut t i k times buf) k (keptOf t i k) times buf
+latest-kept t i k times buf = handed-behind (handsOut t i k times buf) (nowOf t i) k (keptOf t i k) times buf
 
 -- a kind has bytes, so that 0 says that no frame was accepted
 lengths : map (λ k. leb 1 (lengthOf k)) (countFrom 0 kindCount) ≡ replicate kindCount true
@@ -107,7 +107,7 @@ some-bytes k l = leb-true 1 (lengthOf k) (sym (count-at (λ j. leb 1 (lengthOf j
 
 -- the record's message of the kind is that of the frame
 pub latest-shown : (t : Table) (i k : ℕ) → isPost i ≡ true → isSet (postIn t i .head .used) ≡ true → k < kindCount
-    → getD (lookUpOf t i .shown .latest) k (record { message = dated.Nothing }) .message ≡ datedIn (postIn t i .head .time) k (keptOf t i k)
+    → getD (lookUpOf t i .shown .latest) k (record { message = dated.Nothing }) .message ≡ datedIn (nowOf t i) k (keptOf t i k)
 unfolding postRecord
 latest-shown t i k l u m =
     rw (set-up t i l u)

@@ -1,4 +1,4 @@
--- The latest frame of a kind over the C interface: its time, and its bytes as they came, in the message's byte order.
+-- The latest frame of a kind over the C interface: its time as received and its age, and its bytes as they came, in the message's byte order.
 -- Refused as `watch::look_up` refuses, with 9 and 14.
 use Prim.Native.Nat.{ℕ}
 use mathlib.Core.Bool.{Bool, false, cond, _&&_}
@@ -9,7 +9,7 @@ use Rattle.payload.specs.Payload.{bytesOf}
 use Rattle.refusals.specs.declared.Refusal.the-variants.{UnknownIdentifier, ShortBuffer}
 use Rattle.page_rows.specs.Table.{lengthOf, bigOf}
 use Rattle.rules.specs.declared.Slot.{Slot}
-use Rattle.rules.specs.Times.{receivedOf}
+use Rattle.rules.specs.Times.{receivedOf, ageOf}
 use Rattle.rules.specs.Record.{kindCount, isSet}
 use Rattle.rules.specs.After.{latestIn}
 use Rattle.watch_rules.specs.declared.Table.{Table}
@@ -22,9 +22,13 @@ use Rattle.plain_words.specs.Words.{Outcome, answers, refuses, outcomeWord}
 abbrev pub keptOf : Table → ℕ → ℕ → Slot
 keptOf t i k = latestIn (postIn t i) k
 
--- a place for the time, and places for the bytes
+-- the time of the post's latest event, as of which ages are
+abbrev pub nowOf : Table → ℕ → ℕ
+nowOf t i = postIn t i .head .time
+
+-- places for the time and the age, and for the bytes
 abbrev pub hasRoom : ℕ → ℕ → ℕ → Bool
-hasRoom k places room = leb 1 places && leb (lengthOf k) room
+hasRoom k places room = leb 2 places && leb (lengthOf k) room
 
 -- 0 where no frame was accepted, whatever is lent; else 8, or the number of bytes
 abbrev pub keptOutcome : ℕ → Slot → ℕ → ℕ → Outcome
@@ -40,8 +44,8 @@ abbrev pub hands : Setting → ℕ → Slot → ℕ → ℕ → Bool
 hands setting.Done k l places room = ltb k kindCount && (isSet (l .known) && hasRoom k places room)
 hands (setting.Refused w) k l places room = false
 
-abbrev pub timeLeft : Bool → Slot → List ℕ → List ℕ
-timeLeft b l times = cond b (receivedOf (l .time) ∷ drop 1 times) times
+abbrev pub timeLeft : Bool → ℕ → Slot → List ℕ → List ℕ
+timeLeft b now l times = cond b (receivedOf (l .time) ∷ ageOf now (l .time) ∷ drop 2 times) times
 
 abbrev pub bytesLeft : Bool → ℕ → Slot → List ℕ → List ℕ
 bytesLeft b k l buf = cond b (bytesOf (bigOf k) (lengthOf k) (l .raw) ++ drop (lengthOf k) buf) buf
@@ -53,7 +57,7 @@ unfoldable pub latestWord : Table → ℕ → ℕ → List ℕ → List ℕ → 
 latestWord t i k times buf = outcomeWord (latestOutcome (lookUpOf t i .answer) k (keptOf t i k) (length times) (length buf))
 
 unfoldable pub timeAfter : Table → ℕ → ℕ → List ℕ → List ℕ → List ℕ
-timeAfter t i k times buf = timeLeft (handsOut t i k times buf) (keptOf t i k) times
+timeAfter t i k times buf = timeLeft (handsOut t i k times buf) (nowOf t i) (keptOf t i k) times
 
 unfoldable pub frameAfter : Table → ℕ → ℕ → List ℕ → List ℕ → List ℕ
 frameAfter t i k times buf = bytesLeft (handsOut t i k times buf) k (keptOf t i k) buf

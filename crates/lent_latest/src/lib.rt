@@ -1,5 +1,5 @@
-// The latest frame of a kind over the C interface: its time, and its bytes as they came. The lent table is only read. For C callers; a
-// caller in Rattle asks `watch::look_up`.
+// The latest frame of a kind over the C interface: its time as received and its age, and its bytes as they came. The lent table is only read.
+// For C callers; a caller in Rattle asks `watch::look_up`.
 ghost use mathlib.Core.Path.{_≡_};
 ghost use mathlib.Core.Bool.{_&&_};
 ghost use lib.ListN.{length};
@@ -7,6 +7,7 @@ ghost use Rattle.rule_asks.specs.Judgements.{isSet};
 ghost use Rattle.plain_words.specs.Words.{outcomeWord};
 ghost use Rattle.lent_latest.specs.Latest.{hasRoom, keptOutcome, timeLeft, bytesLeft, latestWord, timeAfter, frameAfter};
 use plain_words::refusal_word;
+use post_record::age;
 use post_record::received;
 use refusals::Refusal;
 use rule_asks::is_set;
@@ -15,31 +16,32 @@ use rules::Slot;
 use watch_places::is_post;
 use watch_rules::Table;
 
-// Where no frame was accepted nothing is written, so nothing lent can be too short.
-pub fn hand_out(l: Slot, kind: usize, time: &mut [u32], buf: &mut [u8]) -> u32
-    ensures { λ r. ⌜ (r ≡ outcomeWord (keptOutcome kind l (length (now (time .entry))) (length (now (buf .entry)))))
-        × (now (time .exit) ≡ timeLeft (isSet (l .known) && hasRoom kind (length (now (time .entry))) (length (now (buf .entry)))) l (now (time .entry)))
-        × (now (buf .exit) ≡ bytesLeft (isSet (l .known) && hasRoom kind (length (now (time .entry))) (length (now (buf .entry)))) kind l (now (buf .entry))) ⌝ }
+// As of the time of the post's latest event. Where no frame was accepted nothing is written, so nothing lent can be too short.
+pub fn hand_out(at: u64, l: Slot, kind: usize, times: &mut [u32], buf: &mut [u8]) -> u32
+    ensures { λ r. ⌜ (r ≡ outcomeWord (keptOutcome kind l (length (now (times .entry))) (length (now (buf .entry)))))
+        × (now (times .exit) ≡ timeLeft (isSet (l .known) && hasRoom kind (length (now (times .entry))) (length (now (buf .entry)))) at l (now (times .entry)))
+        × (now (buf .exit) ≡ bytesLeft (isSet (l .known) && hasRoom kind (length (now (times .entry))) (length (now (buf .entry)))) kind l (now (buf .entry))) ⌝ }
 {
     if !is_set(l.known) {
         return 0;
     }
-    if time.len() < 1 {
+    if times.len() < 2 {
         return refusal_word(Refusal::ShortBuffer);
     }
     let len = page_rows::length_of(kind);
     if buf.len() < len {
         return refusal_word(Refusal::ShortBuffer);
     }
-    time[0] = received(l.time);
+    times[0] = received(l.time);
+    times[1] = age(at, l.time);
     payload::store(page_rows::is_big(kind), buf, l.raw, len);
     len as u32
 }
 
-fn latest_of(t: Table, post: u32, kind: u32, time: &mut [u32], buf: &mut [u8]) -> u32
-    ensures { λ r. ⌜ (r ≡ latestWord t post kind (now (time .entry)) (now (buf .entry)))
-        × (now (time .exit) ≡ timeAfter t post kind (now (time .entry)) (now (buf .entry)))
-        × (now (buf .exit) ≡ frameAfter t post kind (now (time .entry)) (now (buf .entry))) ⌝ }
+fn latest_of(t: Table, post: u32, kind: u32, times: &mut [u32], buf: &mut [u8]) -> u32
+    ensures { λ r. ⌜ (r ≡ latestWord t post kind (now (times .entry)) (now (buf .entry)))
+        × (now (times .exit) ≡ timeAfter t post kind (now (times .entry)) (now (buf .entry)))
+        × (now (buf .exit) ≡ frameAfter t post kind (now (times .entry)) (now (buf .entry))) ⌝ }
 {
     if !is_post(post) {
         return refusal_word(Refusal::NoSuchPost);
@@ -55,7 +57,7 @@ fn latest_of(t: Table, post: u32, kind: u32, time: &mut [u32], buf: &mut [u8]) -
         return refusal_word(Refusal::UnknownIdentifier);
     }
     let l = p.latest[k];
-    hand_out(l, k, time, buf)
+    hand_out(h.time, l, k, times, buf)
 }
 
 #[no_mangle]
@@ -63,12 +65,12 @@ pub extern "C" fn rokemaipu_latest(
     t: &Table,
     post: u32,
     kind: u32,
-    time: &mut [u32],
+    times: &mut [u32],
     buf: &mut [u8],
 ) -> u32
-    ensures { λ r. ⌜ (r ≡ latestWord (now (t .entry)) post kind (now (time .entry)) (now (buf .entry)))
-        × (now (time .exit) ≡ timeAfter (now (t .entry)) post kind (now (time .entry)) (now (buf .entry)))
-        × (now (buf .exit) ≡ frameAfter (now (t .entry)) post kind (now (time .entry)) (now (buf .entry))) ⌝ }
+    ensures { λ r. ⌜ (r ≡ latestWord (now (t .entry)) post kind (now (times .entry)) (now (buf .entry)))
+        × (now (times .exit) ≡ timeAfter (now (t .entry)) post kind (now (times .entry)) (now (buf .entry)))
+        × (now (buf .exit) ≡ frameAfter (now (t .entry)) post kind (now (times .entry)) (now (buf .entry))) ⌝ }
 {
-    latest_of(*t, post, kind, time, buf)
+    latest_of(*t, post, kind, times, buf)
 }

@@ -28,7 +28,7 @@ tableBytes = postCount * postBytes + 8
 
 -- another one wherever a place of the table means something else
 abbrev pub layoutNumber : ℕ
-layoutNumber = 2
+layoutNumber = 3
 
 abbrev pub layoutWord : ℕ
 layoutWord = tableBytes + postCount * 2 ^ 32 + kindCount * 2 ^ 40 + layoutNumber * 2 ^ 48

@@ -9,7 +9,7 @@ use watch_rules::POSTS;
 const TABLE: u64 = 3976;
 
 // Another number wherever a place of the table means something else.
-const LAYOUT: u64 = 2;
+const LAYOUT: u64 = 3;
 
 #[no_mangle]
 pub extern "C" fn rokemaipu_layout() -> u64

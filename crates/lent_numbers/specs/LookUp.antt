@@ -20,17 +20,17 @@ use Rattle.watch_rules.specs.Table.{lookUpOf}
 use Rattle.plain_words.specs.Words.{Outcome, answers, refuses, outcomeWord}
 
 abbrev pub numberCount : ℕ
-numberCount = 12
+numberCount = 13
 
 -- 1 and the time, or 0 and 0
 abbrev pub lastNumbers : LastTime → List ℕ
 lastNumbers last.Never = 0 ∷ 0 ∷ []
 lastNumbers (last.At t) = 1 ∷ t ∷ []
 
--- 1, since when, first protocol and first plug, or four times 0
+-- 1, since when, first protocol, first plug and the opening's age, or five times 0
 abbrev pub sessionNumbers : SessionPart → List ℕ
-sessionNumbers part.Closed = 0 ∷ 0 ∷ 0 ∷ 0 ∷ []
-sessionNumbers (part.Opened s) = 1 ∷ s .since ∷ protocolNumber (s .protocol) ∷ plugNumber (s .plug) ∷ []
+sessionNumbers part.Closed = 0 ∷ 0 ∷ 0 ∷ 0 ∷ 0 ∷ []
+sessionNumbers (part.Opened s) = 1 ∷ s .since ∷ protocolNumber (s .protocol) ∷ plugNumber (s .plug) ∷ s .age ∷ []
 
 unfoldable pub numbersOf : Record → List ℕ
 numbersOf r =

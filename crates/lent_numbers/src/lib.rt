@@ -7,11 +7,12 @@ ghost use Prim.Native.Nat.{_≤_};
 ghost use lib.ListN.{length, drop};
 ghost use Rattle.rules.specs.After.{postRecord};
 ghost use Rattle.plain_words.specs.Words.{outcomeWord};
-ghost use Rattle.lent_numbers.specs.LookUp.{numberCount, numbersOf, roomOutcome, roomLeft, lookUpWord, numbersAfter};
+ghost use Rattle.lent_numbers.specs.LookUp.{numbersOf, roomOutcome, roomLeft, lookUpWord, numbersAfter};
 use message_types::labels::plug_number;
 use message_types::labels::protocol_number;
 use plain_words::flag;
 use plain_words::refusal_word;
+use post_record::age;
 use post_record::received;
 use refusals::Refusal;
 use rule_asks::is_set;
@@ -27,7 +28,10 @@ fn where_set(b: bool, x: u32) -> u32
     if b { x } else { 0 }
 }
 
-fn numbers_of(p: Post) -> [u32; 12]
+// How many they are.
+const NUMBERS: usize = 13;
+
+fn numbers_of(p: Post) -> [u32; NUMBERS]
     ensures { λ r. ⌜ r ≡ numbersOf (postRecord p) ⌝ }
 {
     let h = p.head;
@@ -52,29 +56,30 @@ fn numbers_of(p: Post) -> [u32; 12]
         where_set(opened, received(s.since)),
         where_set(opened, protocol_number(protocol) as u32),
         where_set(opened, plug_number(plug) as u32),
+        where_set(opened, age(h.time, s.since)),
     ]
 }
 
-fn store_numbers(numbers: &mut [u32], ns: [u32; 12])
-    requires { ⌜ numberCount ≤ length (now numbers) ⌝ }
-    ensures { λ _. ⌜ now (numbers .exit) ≡ ns ++ drop numberCount (now (numbers .entry)) ⌝ }
+fn store_numbers(ns: &[u32], numbers: &mut [u32])
+    requires { ⌜ length (now ns) ≤ length (now numbers) ⌝ }
+    ensures { λ _. ⌜ now (numbers .exit) ≡ now (ns .entry) ++ drop (length (now (ns .entry))) (now (numbers .entry)) ⌝ }
 {
     let mut j: usize = 0;
-    while j < 12 {
+    while j < ns.len() {
         numbers[j] = ns[j];
         j += 1;
     }
 }
 
-// Twelve numbers into lent places: a post's own, and its counts (`lent_counts`).
-pub fn hand_out(ns: [u32; 12], numbers: &mut [u32]) -> u32
-    ensures { λ r. ⌜ (r ≡ outcomeWord (roomOutcome numberCount (length (now (numbers .entry))))) × (now (numbers .exit) ≡ roomLeft numberCount ns (now (numbers .entry)))
-        × (length ns ≡ numberCount) ⌝ }
+// Numbers into lent places: a post's own, and its counts (`lent_counts`).
+pub fn hand_out(ns: &[u32], numbers: &mut [u32]) -> u32
+    ensures { λ r. ⌜ (r ≡ outcomeWord (roomOutcome (length (now (ns .entry))) (length (now (numbers .entry)))))
+        × (now (numbers .exit) ≡ roomLeft (length (now (ns .entry))) (now (ns .entry)) (now (numbers .entry))) ⌝ }
 {
-    if numbers.len() < 12 {
+    if numbers.len() < ns.len() {
         return refusal_word(Refusal::ShortBuffer);
     }
-    store_numbers(numbers, ns);
+    store_numbers(ns, numbers);
     0
 }
 
@@ -90,7 +95,8 @@ fn looked(t: Table, post: u32, numbers: &mut [u32]) -> u32
     if !is_set(h.used as u64) {
         return refusal_word(Refusal::NotSetUp);
     }
-    hand_out(numbers_of(p), numbers)
+    let ns = numbers_of(p);
+    hand_out(&ns, numbers)
 }
 
 #[no_mangle]

@@ -1,5 +1,5 @@
--- The laws of an open session's part on a night: post 0 on channel 4, a session opened at 0 ms, and a Power_Modules_Status at 10 ms in it. Each premise
--- holds there.
+-- The laws of an open session's part on a night: post 0 on channel 4, a session opened at 0 ms, a Power_Modules_Status at 10 ms in it, and a tick at 25 ms.
+-- Each premise holds there.
 use Prim.Native.Nat.{ℕ, zero, suc, _<_, _≤_}
 use native.Mathlib.Omega.{arith}
 use mathlib.Core.Path.{_≡_, refl, sym, ap, _∙_, subst}
@@ -33,10 +33,10 @@ use Rattle.watch_rules.specs.declared.Setting.{Setting}
 use Rattle.watch_rules.specs.declared.LookedUp.{LookedUp}
 use Rattle.watch_rules.specs.Table.{postCount, noPost, postIn, lookUpOf}
 use Rattle.watch_rules.specs.Steps.{held, standing, keptPost, findFrom, holder, otherHolds, feed01, setUp01, lookUp01, feedSteps, setUpSteps}
-use Rattle.watch_rules.specs.Run.{Request, setUp, frame, run, accepted}
+use Rattle.watch_rules.specs.Run.{Request, setUp, frame, tick, run, accepted}
 use Rattle.watch_rules.proofs.Tables.{post-at}
 use Rattle.watch_rules.proofs.Demand.{run-kept, every-record}
-use Rattle.lent_latest.specs.Latest.{hands, keptOf, latestWord, timeAfter, frameAfter}
+use Rattle.lent_latest.specs.Latest.{hands, keptOf, nowOf, latestWord, timeAfter, frameAfter}
 use Rattle.lent_latest.proofs.LatestLaws.{latest-refused, latest-shown, some-bytes}
 use Rattle.lent_session.specs.InSession.{partOf, handsPart, partWord, partTime, partFrame}
 use Rattle.lent_session.proofs.SessionLaws.{as-it-came, part-refused, shownAt, part-shown, closed, part-right, part-closed}
@@ -53,16 +53,16 @@ allowed = 18375039702077014016
 
 -- newest first
 abbrev night : List Request
-night = frame 4 10 0x63000 true status ∷ frame 4 0 0x6b001 true (2 ∷ 1 ∷ []) ∷ setUp 0 4 limits ∷ []
+night = tick 4 25 ∷ frame 4 10 0x63000 true status ∷ frame 4 0 0x6b001 true (2 ∷ 1 ∷ []) ∷ setUp 0 4 limits ∷ []
 
 abbrev heard : History
-heard = history.frame 10 0 allowed ∷ history.frame 0 3 258 ∷ []
+heard = history.tick 25 ∷ history.frame 10 0 allowed ∷ history.frame 0 3 258 ∷ []
 
 abbrev buffer : List ℕ
 buffer = replicate 10 7
 
 computed : (standing 0 (accepted night) ≡ held 4 limits heard) × (opening heard ≡ some (0, 258)) × (sessionStatus heard ≡ some (10, allowed)) × (sessionControl heard ≡ none)
-    × (judgeOf 0x63000 true status ≡ judged.Frame 0 allowed) × (lookUp01 (accepted night) 0 .answer ≡ setting.Done) × (hands setting.Done 0 (slotAt 10 allowed) 1 10 ≡ true)
+    × (judgeOf 0x63000 true status ≡ judged.Frame 0 allowed) × (lookUp01 (accepted night) 0 .answer ≡ setting.Done) × (hands setting.Done 0 (slotAt 10 allowed) 2 10 ≡ true)
 unfolding standing findFrom holder otherHolds feed01 setUp01 lookUp01 feedSteps setUpSteps limitsFit accepted sinceFinished opening inSession earlierIn lowersBadly outside leaking badInsulation differs sessionStatus sessionControl limitOf f1 f2 f3 f4 f5 f6 f7 f8 f9 f10 f11 findings01 rows ofKind firstAt covered lengthOf unlabelled strayBelow judgedNumber judgeOf wholesOf pad rawsOf getBits leNumber toSigned statusIn parametersIn sessionIn controlIn
 computed = (refl, refl, refl, refl, refl, refl, refl)
 
@@ -76,9 +76,9 @@ kept-status = part-right (run night) (accepted night) (run-kept night) 0 4 limit
 pub kept-control : partOf (run night) 0 controlPlace ≡ unknown
 kept-control = part-right (run night) (accepted night) (run-kept night) 0 4 limits heard first (computed .0) (0, 258) controlPlace (computed .1) (ltb-true controlPlace keptCount refl) ∙ rw (computed .3)
 
-handed : handsPart (run night) 0 statusPlace (99 ∷ []) buffer ≡ true
+handed : handsPart (run night) 0 statusPlace (99 ∷ 99 ∷ []) buffer ≡ true
 handed =
-    ap (λ (x : Setting). hands x 0 (partOf (run night) 0 statusPlace) 1 10) (ap (λ (x : LookedUp). x .answer) (every-record night 0) ∙ computed .5)
+    ap (λ (x : Setting). hands x 0 (partOf (run night) 0 statusPlace) 2 10) (ap (λ (x : LookedUp). x .answer) (every-record night 0) ∙ computed .5)
     ∙ rw kept-status (computed .6)
 
 each-byte : Bytes status
@@ -91,10 +91,6 @@ each-byte (suc (suc (suc (suc (suc zero))))) = omega arith
 each-byte (suc (suc (suc (suc (suc (suc zero)))))) = omega arith
 each-byte (suc (suc (suc (suc (suc (suc (suc zero))))))) = omega arith
 each-byte (suc (suc (suc (suc (suc (suc (suc (suc i)))))))) = omega arith
-
--- the status is handed out as it came, and behind it the buffer stays
-pub status-out : (partTime (run night) 0 statusPlace (99 ∷ []) buffer ≡ 10 ∷ []) × (partFrame (run night) 0 statusPlace (99 ∷ []) buffer ≡ status ++ (7 ∷ 7 ∷ []))
-status-out = as-it-came (run night) 0 statusPlace (99 ∷ []) buffer 0x63000 true status 10 allowed (computed .4) each-byte kept-status handed
 
 -- ---- the other laws' premises
 
@@ -127,6 +123,14 @@ head-in rs h own = ap (λ (ps : List Post). getD ps 0 noPost) (run-kept rs .post
 used-in : (rs : List Request) (h : History) → standing 0 (accepted rs) ≡ held 4 limits h → isSet (postIn (run rs) 0 .head .used) ≡ true
 unfolding headAt
 used-in rs h own = ap (λ (p : Post). isSet (p .head .used)) (head-in rs h own)
+
+latest-time : nowOf (run night) 0 ≡ 25
+unfolding headAt
+latest-time = ap (λ (p : Post). p .head .time) (head-in night heard (computed .0))
+
+-- the status is handed out as it came, with its time and its age as of the tick, and behind it the buffer stays
+pub status-out : (partTime (run night) 0 statusPlace (99 ∷ 99 ∷ []) buffer ≡ 10 ∷ 15 ∷ []) × (partFrame (run night) 0 statusPlace (99 ∷ 99 ∷ []) buffer ≡ status ++ (7 ∷ 7 ∷ []))
+status-out = rw latest-time at (as-it-came (run night) 0 statusPlace (99 ∷ 99 ∷ []) buffer 0x63000 true status 10 allowed (computed .4) each-byte kept-status handed)
 
 -- the record shows the status that is handed out
 pub status-shown : shownAt (lookUpOf (run night) 0 .shown .session) statusPlace ≡ datedIn (postIn (run night) 0 .head .time) 0 (partOf (run night) 0 statusPlace)

@@ -24,7 +24,7 @@ use Rattle.rules.specs.declared.SessionPart.the-variants as part
 use Rattle.rules.specs.declared.Post.{Post}
 use Rattle.rules.specs.declared.Session.{Session}
 use Rattle.rules.specs.History.{History, opening, inSession}
-use Rattle.rules.specs.Times.{receivedOf}
+use Rattle.rules.specs.Times.{receivedOf, ageOf}
 use Rattle.rules.specs.Rules.{sessionStatus, sessionControl}
 use Rattle.rules.specs.Record.{kindCount, isSet, unknown, slotAt, slotOf, keptOf, session01, headAt, postOf}
 use Rattle.rules.specs.After.{statusPlace, controlPlace, keptCount, datedIn, partIn, postRecord}
@@ -34,6 +34,7 @@ use Rattle.watch_rules.specs.Steps.{Steps, held, standing, keptPost, Kept}
 use Rattle.watch_rules.proofs.Tables.{post-at}
 use Rattle.lent_look.proofs.Asked.{set-up}
 use Rattle.plain_words.specs.Words.{Told}
+use Rattle.lent_latest.specs.Latest.{nowOf}
 use Rattle.lent_latest.proofs.LatestLaws.{slot-told, not-handed, handed-behind}
 use Rattle.lent_session.specs.InSession.{partKind, openKept, partOf, handsPart, partOutcome, partWord, partTime, partFrame}
 use Rattle.lent_session.proofs.ByCase.{part-is-kind}
@@ -41,7 +42,7 @@ use Rattle.lent_session.proofs.ByCase.{part-is-kind}
 -- a frame that was read to what the session keeps is handed out byte for byte
 pub as-it-came : (t : Table) (i j : ℕ) (times buf : List ℕ) (id : ℕ) (extended : Bool) (bs : List ℕ) (time n : ℕ)
     → judgeOf id extended bs ≡ Frame (partKind j) n → Bytes bs → partOf t i j ≡ slotAt time n → handsPart t i j times buf ≡ true
-    → (partTime t i j times buf ≡ receivedOf time ∷ drop 1 times) × (partFrame t i j times buf ≡ bs ++ drop (length bs) buf)
+    → (partTime t i j times buf ≡ receivedOf time ∷ ageOf (nowOf t i) time ∷ drop 2 times) × (partFrame t i j times buf ≡ bs ++ drop (length bs) buf)
 unfolding partTime partFrame
 as-it-came t i j times buf id extended bs time n e b s h =
     (rw (h, s), rw (h, s, raws-back id extended bs (partKind j) n e b .bytes, ← accepted id extended bs (partKind j) n e .sized))
@@ -58,9 +59,9 @@ part-refused t i j times buf l =
     (rw e, rw e)
 
 pub part-kept : (t : Table) (i j : ℕ) (times buf : List ℕ)
-    → (drop 1 (partTime t i j times buf) ≡ drop 1 times) × (drop (lengthOf (partKind j)) (partFrame t i j times buf) ≡ drop (lengthOf (partKind j)) buf)
+    → (drop 2 (partTime t i j times buf) ≡ drop 2 times) × (drop (lengthOf (partKind j)) (partFrame t i j times buf) ≡ drop (lengthOf (partKind j)) buf)
 unfolding partTime partFrame
-part-kept t i j times buf = handed-behind (handsPart t i j times buf) (partKind j) (partOf t i j) times buf
+part-kept t i j times buf = handed-behind (handsPart t i j times buf) (nowOf t i) (partKind j) (partOf t i j) times buf
 
 -- ---- the record shows its message
 
@@ -82,7 +83,7 @@ shown-part now s j l = go (isSet (s .opened)) (eqb j statusPlace) (eqb j control
         absurd (let z : ⊥ = omega arith in z)
 
 pub part-shown : (t : Table) (i j : ℕ) → isPost i ≡ true → isSet (postIn t i .head .used) ≡ true → j < keptCount
-    → shownAt (lookUpOf t i .shown .session) j ≡ datedIn (postIn t i .head .time) (partKind j) (partOf t i j)
+    → shownAt (lookUpOf t i .shown .session) j ≡ datedIn (nowOf t i) (partKind j) (partOf t i j)
 unfolding postRecord
 part-shown t i j l u m = rw (set-up t i l u) (shown-part (postIn t i .head .time) (postIn t i .head .session) j m)
 

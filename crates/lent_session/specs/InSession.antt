@@ -13,7 +13,7 @@ use Rattle.rules.specs.After.{statusPlace, controlPlace, keptIn}
 use Rattle.watch_rules.specs.declared.Table.{Table}
 use Rattle.watch_rules.specs.Table.{postIn, lookUpOf}
 use Rattle.plain_words.specs.Words.{Outcome, outcomeWord}
-use Rattle.lent_latest.specs.Latest.{latestOutcome, hands, timeLeft, bytesLeft}
+use Rattle.lent_latest.specs.Latest.{nowOf, latestOutcome, hands, timeLeft, bytesLeft}
 
 -- the kind of what stands in a place of a session; a number that is no place gets no kind, and so 3
 abbrev pub partKind : ℕ → ℕ
@@ -35,7 +35,7 @@ unfoldable pub partWord : Table → ℕ → ℕ → List ℕ → List ℕ → �
 partWord t i j times buf = outcomeWord (partOutcome t i j times buf)
 
 unfoldable pub partTime : Table → ℕ → ℕ → List ℕ → List ℕ → List ℕ
-partTime t i j times buf = timeLeft (handsPart t i j times buf) (partOf t i j) times
+partTime t i j times buf = timeLeft (handsPart t i j times buf) (nowOf t i) (partOf t i j) times
 
 unfoldable pub partFrame : Table → ℕ → ℕ → List ℕ → List ℕ → List ℕ
 partFrame t i j times buf = bytesLeft (handsPart t i j times buf) (partKind j) (partOf t i j) buf

@@ -1,5 +1,5 @@
 // The latest Power_Modules_Status and DC_Power_Control of an open session over the C interface, as `lent_latest` hands out the latest frame of a kind: its
-// time, and its bytes as they came.
+// time as received and its age, and its bytes as they came.
 // The lent table is only read. For C callers; a caller in Rattle asks `watch::look_up`.
 ghost use mathlib.Core.Path.{_≡_};
 ghost use Prim.Native.Nat.{_<_};
@@ -48,10 +48,10 @@ fn open_kept(s: Session, part: usize) -> Slot
     s.kept[part]
 }
 
-fn part_of(t: Table, post: u32, part: u32, time: &mut [u32], buf: &mut [u8]) -> u32
-    ensures { λ r. ⌜ (r ≡ partWord t post part (now (time .entry)) (now (buf .entry)))
-        × (now (time .exit) ≡ partTime t post part (now (time .entry)) (now (buf .entry)))
-        × (now (buf .exit) ≡ partFrame t post part (now (time .entry)) (now (buf .entry))) ⌝ }
+fn part_of(t: Table, post: u32, part: u32, times: &mut [u32], buf: &mut [u8]) -> u32
+    ensures { λ r. ⌜ (r ≡ partWord t post part (now (times .entry)) (now (buf .entry)))
+        × (now (times .exit) ≡ partTime t post part (now (times .entry)) (now (buf .entry)))
+        × (now (buf .exit) ≡ partFrame t post part (now (times .entry)) (now (buf .entry))) ⌝ }
 {
     if !is_post(post) {
         return refusal_word(Refusal::NoSuchPost);
@@ -69,7 +69,7 @@ fn part_of(t: Table, post: u32, part: u32, time: &mut [u32], buf: &mut [u8]) -> 
     let s = h.session;
     let l = open_kept(s, j);
     let k = part_kind(j);
-    hand_out(l, k, time, buf)
+    hand_out(h.time, l, k, times, buf)
 }
 
 #[no_mangle]
@@ -77,12 +77,12 @@ pub extern "C" fn rokemaipu_in_session(
     t: &Table,
     post: u32,
     part: u32,
-    time: &mut [u32],
+    times: &mut [u32],
     buf: &mut [u8],
 ) -> u32
-    ensures { λ r. ⌜ (r ≡ partWord (now (t .entry)) post part (now (time .entry)) (now (buf .entry)))
-        × (now (time .exit) ≡ partTime (now (t .entry)) post part (now (time .entry)) (now (buf .entry)))
-        × (now (buf .exit) ≡ partFrame (now (t .entry)) post part (now (time .entry)) (now (buf .entry))) ⌝ }
+    ensures { λ r. ⌜ (r ≡ partWord (now (t .entry)) post part (now (times .entry)) (now (buf .entry)))
+        × (now (times .exit) ≡ partTime (now (t .entry)) post part (now (times .entry)) (now (buf .entry)))
+        × (now (buf .exit) ≡ partFrame (now (t .entry)) post part (now (times .entry)) (now (buf .entry))) ⌝ }
 {
-    part_of(*t, post, part, time, buf)
+    part_of(*t, post, part, times, buf)
 }

@@ -7,7 +7,7 @@ use Prim.Native.Nat.{ℕ, _*_, _≤_}
 use native.Mathlib.Omega.{arith}
 use lib.ListN.{length, replicate, length-replicate}
 use Rattle.rules.specs.declared.Post.{Post}
-use Rattle.rules.specs.After.{freePost, agedTo, silentIn, lateAfter, anyFindings, withCounts, afterTick}
+use Rattle.rules.specs.After.{freePost, stampIn, agedTo, silentIn, lateAfter, anyFindings, withCounts, afterTick}
 use Rattle.log_numbers.specs.Number.{readGroups}
 use Rattle.log_records.specs.Reading.{lengthPart, identifierPart, channelPart, timePart, recordAt, readFrom, logOf, recordsIn}
 use Rattle.log_records.specs.Record.{tick}
@@ -48,7 +48,7 @@ abbrev told : List ℕ
 told = 49 ∷ 32 ∷ 48 ∷ 32 ∷ 65 ∷ 48 ∷ 10 ∷ 50 ∷ 32 ∷ 45 ∷ 32 ∷ 82 ∷ 49 ∷ 10 ∷ []
 
 pub two-told : inSlices two (setUpsFrom fresh posts) ticks 0 ≡ some told
-unfolding inSlices batchedOf linesOf whyNot whyBatch isWhole fedOn linesOn setUpsFrom setUpIn lineOf refusedWords textOf numeral digitsIn glyphOf setUpOf isOther limitsFit placeOf feedOf feedAt heardOf withCounts afterTick anyFindings silentIn lateAfter agedTo recordsIn readFrom recordAt timePart channelPart identifierPart lengthPart readGroups
+unfolding inSlices batchedOf linesOf whyNot whyBatch isWhole fedOn linesOn setUpsFrom setUpIn lineOf refusedWords textOf numeral digitsIn glyphOf setUpOf isOther limitsFit placeOf feedOf feedAt heardOf withCounts afterTick anyFindings silentIn lateAfter stampIn agedTo recordsIn readFrom recordAt timePart channelPart identifierPart lengthPart readGroups
 two-told = refl
 
 none-left : recordsIn (logAt ticks 10) ≡ []

@@ -8,7 +8,7 @@ use mathlib.Core.Bool.{false}
 use Prim.Native.Nat.{ℕ, zero, suc, _<_, _≤_}
 use native.Mathlib.Omega.{arith}
 use lib.ListN.{length, take, drop, replicate}
-use Rattle.rules.specs.After.{agedTo, silentIn, lateAfter, anyFindings, withCounts, afterTick}
+use Rattle.rules.specs.After.{stampIn, agedTo, silentIn, lateAfter, anyFindings, withCounts, afterTick}
 use Rattle.log_numbers.specs.Number.{groups, readGroups}
 use Rattle.log_records.specs.Record.{Rec, tick, AllLoggable, recordBytes, logBytes}
 use Rattle.log_records.specs.Reading.{lengthPart, identifierPart, channelPart, timePart, recordAt, logOf, wholly}
@@ -62,7 +62,7 @@ cut-by-piece = refl
 
 -- "2 - R1", and the next byte is the log's
 pub second-line : (nextLine after-one ticks 5 lineRoom .answer ≡ Line 7 10) × (take 7 (bufferAfter after-one ticks 5 buffer) ≡ 50 ∷ 32 ∷ 45 ∷ 32 ∷ 82 ∷ 49 ∷ 10 ∷ [])
-unfolding setUpsFrom setUpIn callOf lineCall lineOf refusedWords textOf numeral digitsIn glyphOf setUpOf isOther limitsFit placeOf feedOf feedAt heardOf withCounts afterTick anyFindings silentIn lateAfter agedTo recordAt timePart channelPart identifierPart lengthPart readGroups
+unfolding setUpsFrom setUpIn callOf lineCall lineOf refusedWords textOf numeral digitsIn glyphOf setUpOf isOther limitsFit placeOf feedOf feedAt heardOf withCounts afterTick anyFindings silentIn lateAfter stampIn agedTo recordAt timePart channelPart identifierPart lengthPart readGroups
 second-line =
     let x = line-in-piece after-one ticks 5 5 0 buffer (inl refl) in
     (ap (λ (n : Next). n .answer) (x .0), ap (take 7) (x .1))
@@ -74,7 +74,7 @@ abbrev two : List Piece
 two = (0, 7) ∷ (5, 7) ∷ (0, 5) ∷ (0, 7) ∷ []
 
 pub two-told : inPieces two (setUpsFrom fresh posts) ticks 0 buffer ≡ some (record { lines = told; ending = End })
-unfolding inPieces setUpsFrom setUpIn callOf lineCall lineOf refusedWords textOf numeral digitsIn glyphOf setUpOf isOther limitsFit placeOf feedOf feedAt heardOf withCounts afterTick anyFindings silentIn lateAfter agedTo recordAt timePart channelPart identifierPart lengthPart readGroups
+unfolding inPieces setUpsFrom setUpIn callOf lineCall lineOf refusedWords textOf numeral digitsIn glyphOf setUpOf isOther limitsFit placeOf feedOf feedAt heardOf withCounts afterTick anyFindings silentIn lateAfter stampIn agedTo recordAt timePart channelPart identifierPart lengthPart readGroups
 two-told = refl
 
 pub night-told : runOf posts ticks buffer ≡ record { lines = told; ending = End }

@@ -5,7 +5,7 @@ use Prim.Native.Nat.{ℕ}
 use lib.ListN.{replicate}
 use Rattle.refusals.specs.declared.Refusal.the-variants.{ChannelFree, Earlier, NoLabel, LogChannel, NoSuchPost, ChannelTaken}
 use Rattle.rule_limits.specs.declared.PlainLimits.{PlainLimits}
-use Rattle.rules.specs.After.{agedTo, silentIn, lateAfter, anyFindings, withCounts, afterTick}
+use Rattle.rules.specs.After.{stampIn, agedTo, silentIn, lateAfter, anyFindings, withCounts, afterTick}
 use Rattle.log_numbers.specs.Number.{readGroups}
 use Rattle.log_records.specs.Reading.{lengthPart, identifierPart, channelPart, timePart, recordAt}
 use Rattle.text_numbers.specs.Numbers.{glyphOf, digitsIn, numeral}
@@ -74,5 +74,5 @@ cases =
     ∷ []
 
 pub readings : map (λ e. runOf (e .0) (e .1) (replicate (e .2) 0)) cases ≡ map (λ e. e .3) cases
-unfolding callsFrom setUpsFrom setUpIn callOf lineCall lineOf refusedWords textOf numeral digitsIn glyphOf setUpOf isOther limitsFit placeOf feedOf feedAt heardOf withCounts afterTick anyFindings silentIn lateAfter agedTo recordAt timePart channelPart identifierPart lengthPart readGroups
+unfolding callsFrom setUpsFrom setUpIn callOf lineCall lineOf refusedWords textOf numeral digitsIn glyphOf setUpOf isOther limitsFit placeOf feedOf feedAt heardOf withCounts afterTick anyFindings silentIn lateAfter stampIn agedTo recordAt timePart channelPart identifierPart lengthPart readGroups
 readings = refl

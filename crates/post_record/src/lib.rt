@@ -4,7 +4,7 @@ ghost use mathlib.Core.List.{map};
 ghost use mathlib.Core.Path.{_≡_};
 ghost use Prim.Native.Nat.{_+_};
 ghost use Rattle.rules.specs.History.{countFrom};
-ghost use Rattle.rules.specs.Times.{receivedOf};
+ghost use Rattle.rules.specs.Times.{receivedOf, ageOf};
 ghost use Rattle.rules.specs.Record.{kindCount, unknown};
 ghost use Rattle.rules.specs.Right.{RecordRight};
 ghost use Rattle.rules.specs.After.{datedIn, partIn, lastIn, findingCount, postRecord};
@@ -35,11 +35,29 @@ pub fn received(time: u64) -> u32
     (time % 4294967296) as u32
 }
 
+// The ms from a kept time to the post's latest: "an age stops growing at 4,294,967,295" (02, Req 09).
+pub fn age(now: u64, from: u64) -> u32
+    ensures { λ r. ⌜ r ≡ ageOf now from ⌝ }
+{
+    if now <= from {
+        return 0;
+    }
+    let ms = now - from;
+    if 4294967295 < ms {
+        return 4294967295;
+    }
+    ms as u32
+}
+
 fn dated(now: u64, kind: usize, l: Slot) -> Dated
     ensures { λ r. ⌜ r ≡ datedIn now kind l ⌝ }
 {
     if is_set(l.known) {
-        Dated::At(received(l.time), message_build::message_of(kind, l.raw))
+        Dated::At(
+            received(l.time),
+            age(now, l.time),
+            message_build::message_of(kind, l.raw),
+        )
     } else {
         Dated::Nothing
     }
@@ -60,6 +78,7 @@ fn part(now: u64, s: Session) -> SessionPart
     let control = dated(now, CONTROL, ct);
     SessionPart::Opened(OpenSession {
         since: received(s.since),
+        age: age(now, s.since),
         protocol,
         plug,
         status,

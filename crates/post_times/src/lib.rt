@@ -1,8 +1,9 @@
-// What is asked of an event's time, of one post: 2, whether it is earlier than the post's latest, and F1 and F2, which any event may raise.
+// What is asked of an event's time, of one post: 2, whether it is earlier than the post's latest, where it stands, and F1 and F2, which any event may raise.
 // For the post's step and for who refuses an event.
+// An event is received at a time of 32 bits, which comes round; a head keeps unrolled times of 64 bits, which do not (02, Req 09).
 ghost use mathlib.Core.Path.{_≡_};
 ghost use Prim.Native.Nat.{_≤_};
-ghost use Rattle.rules.specs.Times.{earlier, elapsed};
+ghost use Rattle.rules.specs.Times.{wrapped, earlier, elapsed};
 ghost use Rattle.rules.specs.After.{stampIn, isEarly, laterOf, silentIn, lateAfter, anyFindings};
 use rule_asks::flag;
 use rule_asks::is_set;
@@ -13,10 +14,19 @@ use rules::Slot;
 
 // ---- the questions about times, each in one place
 
+// The ms by which a time is later than the latest, by a clock that comes round.
+fn ms_later(time: u32, latest: u64) -> u32
+    ensures { λ r. ⌜ r ≡ wrapped time latest ⌝ }
+{
+    let shown = (latest % 4294967296) as u32;
+    std::num::wrapping_sub_u32(time, shown)
+}
+
+// Half the range and more is earlier.
 fn is_earlier(time: u32, latest: u64) -> bool
     ensures { λ r. ⌜ r ≡ earlier time latest ⌝ }
 {
-    (time as u64) < latest
+    2147483648 <= ms_later(time, latest)
 }
 
 fn ms_between(now: u64, from: u64) -> u64
@@ -25,11 +35,15 @@ fn ms_between(now: u64, from: u64) -> u64
     if from <= now { now - from } else { 0 }
 }
 
-// Where an event that is received at a time stands.
+// Where an event that is received at a time stands: the first one there, each later one that much later than the latest.
 pub fn stamp(h: Head, time: u32) -> u64
     ensures { λ r. ⌜ r ≡ stampIn h time ⌝ }
 {
-    time as u64
+    if is_set(h.heard as u64) {
+        std::num::wrapping_add_u64(h.time, ms_later(time, h.time) as u64)
+    } else {
+        time as u64
+    }
 }
 
 // ---- 2

@@ -136,7 +136,9 @@ fn session(s: SessionPart) {
         SessionPart::Opened(o) => {
             text(b"session since ");
             natural(o.since as u64);
-            text(b"\n");
+            text(b", ");
+            natural(o.age as u64);
+            text(b" ms ago\n");
         }
     }
 }
@@ -167,12 +169,14 @@ pub fn record(t: Table, post: u32) {
 fn dated(d: Dated) {
     match d {
         Dated::Nothing => text(b"nothing\n"),
-        Dated::At(time, m) => {
+        Dated::At(time, age, m) => {
             text(b"kind ");
             natural(kind_of(m) as u64);
             text(b" at ");
             natural(time as u64);
-            text(b"\n");
+            text(b", ");
+            natural(age as u64);
+            text(b" ms ago\n");
         }
     }
 }

@@ -74,7 +74,8 @@ module _ (rs : List Request) (i c : ℕ) (lim : PlainLimits) (h : History) (low 
       rw (holder-is (accepted rs) (run-kept rs .apart) i c low has, lt-ltb i postCount low, own, range .0)
 
   -- The same for the post that holds the channel, over its limits and its own history:
-  -- 2 where the time is earlier than its latest, else the findings of 01's rules for the event where its time puts it, and 25 where the history has no room for one event more.
+  -- 2 where the time is earlier than its latest, else the findings of 01's rules for the event where its time puts it,
+  -- and 25 where the history has no room for one event more.
   pub own-tick : (t : ℕ) → reply (run rs) (tick c t) ≡ fed (cond (earlierIn h t) (Refused Earlier) (cond (isFull h) (Refused CountFull) (Findings (findings01 lim h (tickAt t h)))))
   own-tick t = every-answer rs (tick c t) ∙ ap fed (feed-own t ticking)
 

@@ -1,6 +1,6 @@
 //! Clocks that come round: silences of weeks, and traffic that goes on just before the round.
 
-use super::messages::any;
+use super::messages::{aimed, any};
 use super::traffic::{note, of_page, tick};
 use super::Generator;
 use crate::clock::{as_received, EARLIER, ROUND};
@@ -50,7 +50,8 @@ impl Generator {
         }
     }
 
-    /// A frame at once, so that the post's clock is where it is thought to be, a tick after each of the silences, and the record.
+    /// A frame at once, so that the post's clock is where it is thought to be, a tick after each of the silences, and the record;
+    /// mostly signs of life then, so that other silences begin.
     fn ticks(&mut self, silences: &[u64]) -> String {
         let Some(post) = &mut self.posts[self.busy] else {
             return self.astray();
@@ -63,6 +64,13 @@ impl Generator {
             self.following.push_back(tick(post.channel, time));
         }
         self.following.push_back(format!("record {}", self.busy));
+        for kind in [Kind::AdvanticsControllerStatus, Kind::PowerModulesStatus] {
+            if self.rng.chance(70) {
+                let message = aimed(&mut self.rng, kind, post);
+                note(post, post.now, Some(&message));
+                self.following.push_back(of_page(post.channel, as_received(post.now), kind.page(), &message.bytes()));
+            }
+        }
         first
     }
 }

@@ -39,8 +39,8 @@ returns-3 c =
     let a = post .before .before .before .args in
     let e = counted-by (a .t1) (a .post) (a .counts .now)
     (set-up (a .t1) (a .post) (sym (post .before .is-post .ensures) ∙ not-false _ (post .if1 .left)) (sym (used .before .is-set .ensures) ∙ not-false _ (used .if2 .left))) in
-    let own = counts-are (postIn (a .t1) (a .post)) (out .hand-out .ensures .2) in
-    (out .hand-out .ensures .0 ∙ e .0, out .hand-out .ensures .1 ∙ ap (λ (xs : List ℕ). roomLeft countCount xs (a .counts .now)) (sym own) ∙ e .1)
+    let own = counts-are (postIn (a .t1) (a .post)) (out .store .ensures .2) in
+    (out .store .ensures .0 ∙ e .0, out .store .ensures .1 ∙ ap (λ (xs : List ℕ). roomLeft countCount xs (a .counts .now)) (sym own) ∙ e .1)
 
 pub counts-of-spec : {M : Type 1} → statement M
 counts-of-spec =

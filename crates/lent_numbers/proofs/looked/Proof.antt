@@ -1,12 +1,14 @@
 -- `lent_numbers::looked` meets its contract: 9, 14, 8, or the post's numbers stored.
 use borrow.Author.Needs.{needs}
 use borrow.Author.Tests.{ltb-true, not-true, not-false}
-use mathlib.Core.Path.{ap, sym, _∙_}
+use mathlib.Core.Path.{ap, ap₂, sym, _∙_}
 use mathlib.Core.List.{List}
 use Prim.Native.Nat.{ℕ}
-use Rattle.lent_numbers.specs.LookUp.{numberCount, roomLeft}
+use lib.ListN.{length}
+use Rattle.plain_words.specs.Words.{outcomeWord}
+use Rattle.lent_numbers.specs.LookUp.{roomOutcome, roomLeft}
 use Rattle.lent_look.proofs.Asked.{no-post, not-set-up, set-up}
-use Rattle.lent_numbers.proofs.ByCase.{looked-by}
+use Rattle.lent_numbers.proofs.ByCase.{numbers-many, looked-by}
 use Rattle.lent_numbers.proofs.looked.Statement.{statement}
 use Rattle.lent_numbers.proofs.looked.Tie as tie
 
@@ -32,13 +34,17 @@ returns-2 c =
 returns-3 : tie.Need-returns-3
 returns-3 c =
     let out = c .before .before in
-    let n = out .before .before in
+    let n = out .before .before .before in
     let used = n .before in
     let post = used .before .before .before .before .before in
     let a = post .before .before .before .args in
     let e = looked-by (a .t1) (a .post) (a .numbers .now)
     (set-up (a .t1) (a .post) (sym (post .before .is-post .ensures) ∙ not-false _ (post .if1 .left)) (sym (used .before .is-set .ensures) ∙ not-false _ (used .if2 .left))) in
-    (out .hand-out .ensures .0 ∙ e .0, out .hand-out .ensures .1 ∙ ap (λ (xs : List ℕ). roomLeft numberCount xs (a .numbers .now)) (n .numbers-of .ensures) ∙ e .1)
+    let ns = n .numbers-of .ensures in
+    let many = ap length ns ∙ numbers-many _ in (
+      out .hand-out .ensures .0 ∙ ap (λ (k : ℕ). outcomeWord (roomOutcome k (length (a .numbers .now)))) many ∙ e .0,
+      out .hand-out .ensures .1 ∙ ap₂ (λ (k : ℕ) (xs : List ℕ). roomLeft k xs (a .numbers .now)) many ns ∙ e .1,
+    )
 
 pub looked-spec : {M : Type 1} → statement M
 looked-spec =
@@ -54,6 +60,7 @@ looked-spec =
     (λ c κs. search needs)
     returns-2
     (λ c κs. search needs)
+    (λ c. search needs)
     (λ c κs. search needs)
     (λ c. search needs)
     returns-3)

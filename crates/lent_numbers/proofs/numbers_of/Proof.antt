@@ -8,7 +8,7 @@ use Rattle.message_types.specs.Labels.{protocolNumber, plugNumber}
 use Rattle.message_parts.specs.Parts.{sessionIn}
 use Rattle.rules.specs.declared.Head.{Head}
 use Rattle.rules.specs.declared.Post.{Post}
-use Rattle.rules.specs.Times.{receivedOf}
+use Rattle.rules.specs.Times.{receivedOf, ageOf}
 use Rattle.rules.specs.Record.{isSet}
 use Rattle.rule_limits.specs.Sensor.{sensorNumber, sensorOf}
 use Rattle.rules.specs.After.{postRecord}
@@ -23,7 +23,8 @@ fields h =
     ∷ cond (isSet (h .heard)) 1 0 ∷ cond (isSet (h .heard)) (receivedOf (h .time)) 0
     ∷ cond (isSet (h .session .opened)) 1 0 ∷ cond (isSet (h .session .opened)) (receivedOf (h .session .since)) 0
     ∷ cond (isSet (h .session .opened)) (protocolNumber (sessionIn (h .session .first) .protocol)) 0
-    ∷ cond (isSet (h .session .opened)) (plugNumber (sessionIn (h .session .first) .plug)) 0 ∷ []
+    ∷ cond (isSet (h .session .opened)) (plugNumber (sessionIn (h .session .first) .plug)) 0
+    ∷ cond (isSet (h .session .opened)) (ageOf (h .time) (h .session .since)) 0 ∷ []
 
 -- by whether anything was heard and whether a session is open
 spelled : (p : Post) → numbersOf (postRecord p) ≡ fields (p .head)
@@ -38,7 +39,7 @@ spelled p = go (isSet (p .head .heard)) (isSet (p .head .session .opened)) refl 
 
 returns : tie.Need-returns
 returns c =
-    let plug = c .before in
+    let plug = c .before .before .before in
     let protocol = plug .before .before in
     let since = protocol .before in
     let time = since .before .before .before in
@@ -47,7 +48,9 @@ returns c =
     let opened = read .before in
     let sensor = opened .before .before .before .before in
     rw (
-      c .where-set4 .ensures,
+      c .where-set5 .ensures,
+      c .before .age .ensures,
+      c .before .before .where-set4 .ensures,
       plug .plug-number .ensures,
       plug .before .where-set3 .ensures,
       protocol .protocol-number .ensures,
@@ -85,5 +88,7 @@ numbers-of-spec =
     (λ c κs. search needs)
     (λ c κs. search needs)
     (λ c. search needs)
+    (λ c κs. search needs)
+    (λ c κs. search needs)
     (λ c κs. search needs)
     returns)

@@ -29,17 +29,21 @@ dated-requires-2 c κs = search needs
 received-requires : tie.Need-received-requires
 received-requires c κs = search needs
 
+age-requires : tie.Need-age-requires
+age-requires c κs = search needs
+
 returns-2 : tie.Need-returns-2
 returns-2 c =
-    let d = c .before .before in
+    let d = c .before .before .before in
     let n = d .before in
     let o = n .before .before .before in
     rw (
       sym (o .before .is-set .ensures) ∙ not-false _ (o .if1 .left),
       n .session-in .ensures,
       d .dated .ensures,
-      c .before .dated2 .ensures,
-      c .received .ensures,
+      c .before .before .dated2 .ensures,
+      c .before .received .ensures,
+      c .age .ensures,
     )
 
 pub part-spec : {M : Type 1} → statement M
@@ -54,4 +58,5 @@ part-spec =
     dated-requires
     dated-requires-2
     received-requires
+    age-requires
     returns-2)
