@@ -1,0 +1,4 @@
+pub mod Each
+pub mod Trips
+pub mod Changing
+pub mod Refusing

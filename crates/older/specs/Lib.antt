@@ -1,0 +1,5 @@
+pub mod Read
+pub mod Write
+pub mod Writable
+pub mod Trips
+pub mod Refusing
