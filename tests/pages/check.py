@@ -11,8 +11,8 @@ from collections import namedtuple
 from pathlib import Path
 
 ROOT = Path(sys.argv[1]) if len(sys.argv) > 1 else Path(__file__).resolve().parents[2]
-# a document: its messages in the order of their kinds (01, "Frames and signals"; 02, Req 04, Req 11), the form of its identifiers (ours), where its rows stand, and
-# where the definitions of its labels, of reading and of writing do
+# a document: its messages in the order of their kinds (01, "Frames and signals"; 02, Req 04, Req 11), the form of its identifiers (ours), where its rows
+# stand, and where the definitions of its labels, of reading and of writing do
 Document = namedtuple('Document', 'text, messages, extended, code, specs, labels, read, write')
 DOCUMENTS = (
     Document('000.txt', ['Power_Modules_Status', 'DC_Power_Parameters', 'Advantics_Controller_Status', 'New_Charge_Session', 'Charge_Status_Change',

@@ -2,3 +2,4 @@ pub mod Each
 pub mod Trips
 pub mod Changing
 pub mod Refusing
+pub mod Worked

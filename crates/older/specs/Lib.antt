@@ -3,3 +3,4 @@ pub mod Write
 pub mod Writable
 pub mod Trips
 pub mod Refusing
+pub mod Readings
