@@ -2,7 +2,7 @@
 """check.py [FOLDER]: holds the tables of the crates to the maker's documents: every message and row of page_rows (the code's and the definitions'), every label of
 messages, and which field of a message's type each signal is, in reading and in writing (the definitions', to which the code is proved equal).
 
-000.txt and 004.txt were extracted from documents 000 and 004 by extract.py. A table typed wrongly in src/ and specs/ alike is proved equal and is wrong: here
+000.txt, 004.txt and 001.txt were extracted from documents 000, 004 and 001 by extract.py. A table typed wrongly in src/ and specs/ alike is proved equal and is wrong: here
 it fails.
 """
 import re
@@ -11,16 +11,24 @@ from collections import namedtuple
 from pathlib import Path
 
 ROOT = Path(sys.argv[1]) if len(sys.argv) > 1 else Path(__file__).resolve().parents[2]
-# a document: its messages in the order of their kinds (01, "Frames and signals"; 02, Req 04), the form of its identifiers (ours), and where its rows stand
-Document = namedtuple('Document', 'text, messages, extended, code, specs')
+# a document: its messages in the order of their kinds (01, "Frames and signals"; 02, Req 04, Req 11), the form of its identifiers (ours), where its rows
+# stand, and where the definitions of its labels, of reading and of writing do
+Document = namedtuple('Document', 'text, messages, extended, code, specs, labels, read, write')
 DOCUMENTS = (
     Document('000.txt', ['Power_Modules_Status', 'DC_Power_Parameters', 'Advantics_Controller_Status', 'New_Charge_Session', 'Charge_Status_Change',
                          'DC_Power_Control', 'Charge_Session_Finished', 'Emergency_Stop', 'EV_ID_CCS_Part2_DIN'],
-             True, 'src/charger.rt', 'specs/Charger.antt'),
+             True, 'src/charger.rt', 'specs/Charger.antt', ['message_types'], ['message_parts/specs/Watched.antt', 'message_charger/specs/Build.antt'],
+             ['message_charger/specs/Take.antt']),
     Document('004.txt', ['ChargeControl1', 'ChargeState1', 'PT1000State'],
-             False, 'src/safety.rt', 'specs/Safety.antt'),
+             False, 'src/safety.rt', 'specs/Safety.antt', ['message_types'], ['message_safety/specs/Build.antt'], ['message_safety/specs/Take.antt']),
+    Document('001.txt', ['Power_Modules_Status', 'Power_Modules_Limits', 'Sequence_Control', 'ADM_CS_SECC_Outputs', 'New_Charge_Session', 'Insulation_Test', 'Precharge',
+                         'Charge_Status_Change', 'Charging_Loop', 'Emergency_Stop', 'Charge_Session_Finished', 'Advantics_Controller_Status', 'ADM_CO_CUI1_Inputs',
+                         'ADM_CS_SECC_Inputs', 'EV_ID_CCS_Part2_DIN', 'ADM_CS_SPCC_Inputs', 'CCS_Extra_Information', 'MCS_Extra_Information'],
+             True, 'src/older.rt', 'specs/Older.antt', ['message_types', 'older_types'], ['older_power/specs/Build.antt', 'older_inputs/specs/Build.antt'],
+             ['older_power/specs/Take.antt', 'older_inputs/specs/Take.antt']),
 )
-KINDS = [m for d in DOCUMENTS for m in d.messages]
+# 000 and 001 have messages of one name: a kind is a document's message
+KINDS = [(d.text, m) for d in DOCUMENTS for m in d.messages]
 ROWS = ROOT / 'crates/page_rows'
 # label type, and the names of its number and label functions
 LABELS = {
@@ -37,6 +45,15 @@ LABELS = {
     ('Emergency_Stop', 'Origin'): 'origin',
     ('ChargeState1', 'CS_CurrentCpState'): 'cp',
     ('ChargeState1', 'CS_CurrentPpState'): 'pp',
+    ('Sequence_Control', 'Start_Charge_Authorisation'): 'permission',
+    ('Sequence_Control', 'CHAdeMO_Start_Button'): 'button',
+    ('Sequence_Control', 'CCS_Authorisation_Done'): 'step',
+    ('Sequence_Control', 'CCS_Authorisation_Valid'): 'validity',
+    ('Sequence_Control', 'Charge_Parameters_Done'): 'step',
+    ('Sequence_Control', 'User_Stop_Button'): 'button',
+    ('CCS_Extra_Information', 'CP_State'): 'pilot',
+    ('MCS_Extra_Information', 'CE_State'): 'ce',
+    ('MCS_Extra_Information', 'ID_State'): 'mating',
 }
 # a special number of a probe, which has raw numbers beside it: no label
 SPECIAL = ['TempSensorNotUsed']
@@ -79,9 +96,26 @@ FIELDS = {
     'PT1000State': ('Pt1000State', {f'PT{n}_{word}': f'{field}{n}' for n in range(1, 5)
                                     for word, field in (('Temperature', 'temperature'), ('ChargingStopped', 'stopped'), ('SelftestFailed', 'failed'))}),
 }
-# where the definitions of reading and writing stand
-READ = ['crates/message_parts/specs/Watched.antt', 'crates/message_charger/specs/Build.antt', 'crates/message_safety/specs/Build.antt']
-WRITE = ['crates/message_charger/specs/Take.antt', 'crates/message_safety/specs/Take.antt']
+# of 001, where it has other signals than 000's message of that name
+OLDER_FIELDS = {
+    'Power_Modules_Limits': ('PowerModulesLimits', {'Maximum_Voltage': 'voltage', 'Maximum_Current': 'current', 'Reserved': 'reserved'}),
+    'Sequence_Control': ('SequenceControl', {'Start_Charge_Authorisation': 'authorisation', 'CHAdeMO_Start_Button': 'chademo', 'CCS_Authorisation_Done': 'done',
+                                             'CCS_Authorisation_Valid': 'valid', 'Charge_Parameters_Done': 'parameters', 'User_Stop_Button': 'stop'}),
+    'ADM_CS_SECC_Outputs': ('SeccOutputs', {**{f'Digital_Output{n}': f'output{n}' for n in range(1, 5)}, 'Reserved': 'reserved'}),
+    'New_Charge_Session': ('NewChargeSession', {'Communication_Protocol': 'protocol', 'Plug_and_pins': 'plug', 'EV_Maximum_Voltage': 'voltage',
+                                                'EV_Maximum_Current': 'current', 'Battery_Capacity': 'capacity', 'State_of_Charge': 'charge'}),
+    'Insulation_Test': ('InsulationTest', {'Test_Voltage': 'voltage'}),
+    'Precharge': ('PrechargeTarget', {'Target_Voltage': 'voltage', 'Maximum_Current': 'current'}),
+    'Charging_Loop': ('ChargingLoop', {'Target_Voltage': 'voltage', 'Target_Current': 'current', 'State_of_Charge': 'charge'}),
+    'ADM_CO_CUI1_Inputs': ('CuiInputs', {**{f'SWITCH{n}': f'switch{n}' for n in range(6)}, 'Reserved': 'reserved', 'Colibri_Temperature': 'colibri',
+                                         'CPU_Temperature': 'cpu', 'Pistol_PTC1': 'pistol1', 'Pistol_PTC2': 'pistol2'}),
+    'ADM_CS_SECC_Inputs': ('SeccInputs', {**{f'Digital_Input{n}': f'input{n}' for n in range(1, 5)}, 'Reserved': 'reserved', 'CPU_Temperature': 'cpu',
+                                          'Pistol_PTC1': 'pistol1', 'Pistol_PTC2': 'pistol2'}),
+    'ADM_CS_SPCC_Inputs': ('SpccInputs', {**{f'Digital_Input{n}': f'input{n}' for n in range(1, 5)}, 'Reserved': 'reserved', 'CPU_Temperature0': 'cpu0',
+                                          'CPU_Temperature1': 'cpu1', 'PT1K_A': 'pt1ka', 'PT1K_B': 'pt1kb', 'PT1KS_C': 'pt1ksc', 'PT1KS_D': 'pt1ksd'}),
+    'CCS_Extra_Information': ('CcsExtraInformation', {'CP_State': 'state', 'CP_Duty_Cycle': 'duty', 'Reserved': 'reserved'}),
+    'MCS_Extra_Information': ('McsExtraInformation', {'CE_State': 'ce', 'ID_State': 'id', 'Reserved': 'reserved'}),
+}
 faults = []
 
 
@@ -110,7 +144,7 @@ def paper_signals(document):
         pairs = [] if labels == '-' else [(n, int(v)) for n, v in (p.rsplit('=', 1) for p in labels.split(';')) if n not in SPECIAL]
         big, size, start, width = 'Big_Endian' in words, int(size), int(start), int(width)
         page = (int(ident, 16), document.extended, size, big)
-        row = (KINDS.index(message), start, width, lowest(big, size, start, width), 'Signed' in words, sum(1 << v for _, v in pairs))
+        row = (KINDS.index((document.text, message)), start, width, lowest(big, size, start, width), 'Signed' in words, sum(1 << v for _, v in pairs))
         signals.append((message, signal, page, row, sorted(pairs, key=lambda p: p[1]), words))
     return sorted(signals, key=lambda s: s[3][0])
 
@@ -151,35 +185,44 @@ papers = [paper_signals(document) for document in DOCUMENTS]
 
 # ---- the messages: identifier, form, bytes, byte order, place of the first row
 pages = {}
-for k, (message, _, page, *_) in enumerate(s for signals in papers for s in signals):
-    if pages.setdefault(message, (page, k))[0] != page:
-        fault(f'{message}: its signals disagree on the message')
+for k, (kind, page) in enumerate(((document.text, s[0]), s[2]) for document, signals in zip(DOCUMENTS, papers) for s in signals):
+    if pages.setdefault(kind, (page, k))[0] != page:
+        fault(f'{kind}: its signals disagree on the message')
 wanted = [(*pages[m][0], pages[m][1]) for m in KINDS]
 code = (ROWS / 'src/contents.rt').read_text()
 specs = (ROWS / 'specs/Messages.antt').read_text()
 listed = constants(code, 'Message')[:-1]
 held('src/contents.rt', [page for _, page in listed], wanted)
 names = [name for name, _ in listed]
-if names != array(code, 'MESSAGES', 'Message'):
-    fault('src/contents.rt: the constants and MESSAGES do not list the same names in the same order')
+newer, older = array(code, 'MESSAGES', 'Message'), array(code, 'OLDER', 'Message')
+charger, safety = len(DOCUMENTS[0].messages), len(DOCUMENTS[1].messages)
+if names[:charger + safety] != newer or names[charger:] != older:
+    fault('src/contents.rt: the constants and the arrays do not list the same names in the same order')
 said = re.findall(r'^\s*(?:∷ )?\(([^)]*)\)  -- (\w+)$', specs, re.M)
 held('specs/Messages.antt', [numbers(page) for page, _ in said], wanted)
 for place, have in (('src/contents.rt', names), ('specs/Messages.antt', [name for _, name in said])):
-    for name, message in zip(have, KINDS):
-        if not alike(name, message):
+    for name, (document, message) in zip(have, KINDS):
+        if not alike(name.removeprefix('OLD_') if document == '001.txt' else name, message):
             fault(f'{place}: {name} stands where the document has {message}')
 
 # ---- the rows, and the labels
-labels = (ROOT / 'crates/message_types/specs/Labels.antt').read_text()
 rows = seen = 0
 for document, signals in zip(DOCUMENTS, papers):
     code = (ROWS / document.code).read_text()
     specs = (ROWS / document.specs).read_text()
+    labels = '\n'.join((ROOT / 'crates' / crate / 'specs/Labels.antt').read_text() for crate in document.labels)
     listed = constants(code, 'Line')
+    if listed:
+        names = [name for name, _ in listed]
+        if names != array(code, 'LINES', 'Line'):
+            fault(f'{document.code}: the constants and LINES do not list the same names in the same order')
+    else:
+        # a row in each arm, at its place in the table
+        arms = re.findall(r'^\s*(\d+) => Line\(([^)]*)\), // (\w+)$', code, re.M)
+        held(f'{document.code}, the places', [int(at) for at, *_ in arms], list(range(rows, rows + len(signals))))
+        listed = [(name, numbers(row)) for _, row, name in arms]
+        names = [name for name, _ in listed]
     held(document.code, [row for _, row in listed], [row for _, _, _, row, *_ in signals])
-    names = [name for name, _ in listed]
-    if names != array(code, 'LINES', 'Line'):
-        fault(f'{document.code}: the constants and LINES do not list the same names in the same order')
     # in specs/ the lowest bit is computed
     said = re.findall(r'^\s*(?:∷ )?line((?: \w+)+)  -- (\w+)$', specs, re.M)
     held(document.specs, [numbers(row) for row, _ in said], [row[:3] + row[4:] for _, _, _, row, *_ in signals])
@@ -190,7 +233,7 @@ for document, signals in zip(DOCUMENTS, papers):
 
     for message, signal, _, _, pairs, words in signals:
         # 004 has no word for a label set
-        if document.text == '000.txt' and ('Label_set' in words) != bool(pairs):
+        if document.text != '004.txt' and ('Label_set' in words) != bool(pairs):
             fault(f'{message}.{signal}: {words} with {len(pairs)} labels')
         if not pairs:
             continue
@@ -205,7 +248,7 @@ for document, signals in zip(DOCUMENTS, papers):
 # ---- the fields: a signal's place in its message is the number that its field is read from, and its place among the numbers that are written
 def defined(files, sort):
     """The text of the one definition of that type."""
-    text = '\n'.join((ROOT / f).read_text() for f in files)
+    text = '\n'.join((ROOT / 'crates' / f).read_text() for f in files)
     found = re.findall(rf'^abbrev pub (\w+) : {sort}\n((?:\1 .*|    .*|\n(?=    ))(?:\n(?:    .*))*)', text, re.M)
     if len(found) != 1:
         fault(f'{sort}: {len(found)} definitions')
@@ -214,17 +257,18 @@ def defined(files, sort):
 
 
 fields = 0
-for message in KINDS:
-    sort, named = FIELDS[message]
-    wanted = [named[signal] for signals in papers for m, signal, *_ in signals if m == message]
-    read = {int(k): field for field, k in re.findall(r'(\w+) = [^;={}]*\(f (\d+)\)', defined(READ, rf'\(ℕ → ℤ\) → {sort}'))}
-    held(f'{sort}, as it is read', [read.get(k) for k in range(len(wanted))], wanted)
-    held(f'{sort}, as it is written', re.findall(r'm \.(\w+)', defined(WRITE, rf'{sort} → List ℤ')), wanted)
-    fields += len(wanted)
+for document, signals in zip(DOCUMENTS, papers):
+    for message in document.messages:
+        sort, named = FIELDS[message] if document.text != '001.txt' else OLDER_FIELDS.get(message) or FIELDS[message]
+        wanted = [named[signal] for m, signal, *_ in signals if m == message]
+        read = {int(k): field for field, k in re.findall(r'(\w+) = [^;={}]*\(f (\d+)\)', defined(document.read, rf'\(ℕ → ℤ\) → {sort}'))}
+        held(f'{document.text} {sort}, as it is read', [read.get(k) for k in range(len(wanted))], wanted)
+        held(f'{document.text} {sort}, as it is written', re.findall(r'm \.(\w+)', defined(document.write, rf'{sort} → List ℤ')), wanted)
+        fields += len(wanted)
 if fields != rows:
     fault(f'{fields} fields were compared, not {rows}')
-if (len(KINDS), rows, seen) != (12, 61, 62):
-    fault(f'{len(KINDS)} messages, {rows} signals and {seen} labels were compared, not 12, 61 and 62')
+if (len(KINDS), rows, seen) != (30, 139, 128):
+    fault(f'{len(KINDS)} messages, {rows} signals and {seen} labels were compared, not 30, 139 and 128')
 
 if faults:
     sys.exit(f'pages: {len(faults)} faults')

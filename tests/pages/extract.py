@@ -3,7 +3,7 @@
 
 A line for each signal, in the document's order:  MESSAGE IDENTIFIER BYTES SIGNAL START WIDTH TYPE SCALE OFFSET LABELS UNIT
 TYPE is the document's word; of document 004, which has no word for it, the byte order and Signed or Unsigned, joined by ','. LABELS is NAME=NUMBER joined
-by ';', or '-'; so is UNIT where there is none. `000.txt` and `004.txt` beside this file were made by it from documents 000 and 004; check.py holds the crates to them.
+by ';', or '-'; so is UNIT where there is none. `000.txt`, `001.txt` and `004.txt` beside this file were made by it from those documents; check.py holds the crates to them.
 """
 import re
 import sys
@@ -14,7 +14,7 @@ def cells(line):
 
 
 def tables(lines):
-    """Document 000: a heading for each message and signal, and tables with bars."""
+    """Documents 000 and 001: a heading for each message and signal, and tables with bars."""
     message = identifier = size = signal = row = None
     labels = []
 

@@ -13,13 +13,15 @@ SWAPS = (
     ('crates/message_parts/specs/Watched.antt', 'modules = celsiusOf', 'enclosure = celsiusOf'),
     ('crates/message_safety/specs/Build.antt', 'stopped3 = flagOf', 'failed3 = flagOf'),
     ('crates/message_charger/specs/Take.antt', 'm .max', 'm .min'),
+    ('crates/older_inputs/specs/Build.antt', 'pt1ksc = celsiusOf', 'pt1ksd = celsiusOf'),
+    ('crates/older_inputs/specs/Take.antt', 'm .colibri', 'm .switch5'),
 )
 
 
 def checked(path, first, second):
     """What check.py says of a copy of the definitions in which the two words changed places."""
     with tempfile.TemporaryDirectory() as folder:
-        for crate in ('page_rows', 'message_types', 'message_parts', 'message_charger', 'message_safety'):
+        for crate in ('page_rows', 'message_types', 'message_parts', 'message_charger', 'message_safety', 'older_types', 'older_power', 'older_inputs'):
             shutil.copytree(ROOT / 'crates' / crate, Path(folder, 'crates', crate))
         file = Path(folder, path)
         text = file.read_text()

@@ -9,12 +9,13 @@ use lib.IntN.{ℤ}
 use lib.ListN.{length, getD, set}
 use Rattle.payload.specs.Payload.{numberOf, bytesOf, Bytes}
 use Rattle.payload.proofs.Orders.{are-of}
+use Rattle.page_rows.specs.declared.Interface.{Interface}
 use Rattle.page_rows.specs.Table.{noRow, rowsOf, identifierOf, extendedOf, lengthOf, bigOf}
 use Rattle.page_read.specs.declared.Judged.the-variants.{Frame}
-use Rattle.page_read.specs.Judge.{judgeOf}
+use Rattle.page_read.specs.Judge.{judgeOn}
 use Rattle.page_write.specs.Raws.{wholesOf, packedOn, rawsOf}
-use Rattle.page_write.proofs.Trips.{accepted}
-use Rattle.page_change.specs.Change.{changeOf, bytesAfter}
+use Rattle.page_write.proofs.Trips.{accepted-on}
+use Rattle.page_change.specs.Change.{changeOn, bytesAfter}
 use Rattle.page_change.proofs.Changes.{changed, change-read, change-wholes}
 use Rattle.message_fields.specs.Fields.{at}
 use Rattle.message_laws.specs.Fits.{allFit}
@@ -22,7 +23,7 @@ use Rattle.message_laws.specs.WithRaw.{WithRaw}
 use Rattle.message_laws.proofs.Codec.{Codec, Same, same, back-is}
 
 module _ {M : Type 0} {kind : M → ℕ} {raws : M → List ℤ} {valued : M → Bool} {built : ℕ → (ℕ → ℤ) → M} {own : ℕ → Type 0} (c : Codec kind raws valued built own) where
-  module _ (m : ℕ) (extended : Bool) (bs : List ℕ) (s : ℕ) (z : ℤ) (k n : ℕ) (e : changeOf m extended bs s z ≡ Frame k n) (hb : Bytes bs) (o : own k) where
+  module _ (iface : Interface) (m : ℕ) (extended : Bool) (bs : List ℕ) (s : ℕ) (z : ℤ) (k n : ℕ) (e : changeOn iface m extended bs s z ≡ Frame k n) (hb : Bytes bs) (o : own k) where
     -- the frame's message before and after
     abbrev pub before : M
     before = built k (at (rawsOf k (numberOf (bigOf k) bs)))
@@ -30,19 +31,19 @@ module _ {M : Type 0} {kind : M → ℕ} {raws : M → List ℤ} {valued : M →
     abbrev pub after : M
     after = built k (at (rawsOf k n))
 
-    after-bytes : Bytes (bytesAfter bs (changeOf m extended bs s z))
+    after-bytes : Bytes (bytesAfter bs (changeOn iface m extended bs s z))
     after-bytes = subst Bytes (sym (ap (bytesAfter bs) e)) (are-of (bigOf k) (length bs) n)
 
-    pub changed-same : Same c m extended (bytesAfter bs (changeOf m extended bs s z)) after
+    pub changed-same : Same c m extended (bytesAfter bs (changeOn iface m extended bs s z)) after
     changed-same =
-        same c m extended (bytesAfter bs (changeOf m extended bs s z)) k n (change-read m extended bs s z k n e hb .0) o after-bytes
+        same c iface m extended (bytesAfter bs (changeOn iface m extended bs s z)) k n (change-read iface m extended bs s z k n e hb .0) o after-bytes
 
     pub changed-message : (j : ℕ) → j < length (rowsOf k) → getD (rowsOf k) j noRow .start ≡ s → WithRaw kind raws j z before after
     changed-message j h at =
-        let t = accepted m extended (bytesAfter bs (changeOf m extended bs s z)) k n (change-read m extended bs s z k n e hb .0) in
-        let x = back-is c k (numberOf (bigOf k) bs) o (changed m extended bs s z k n e .read .labelled) in
+        let t = accepted-on iface m extended (bytesAfter bs (changeOn iface m extended bs s z)) k n (change-read iface m extended bs s z k n e hb .0) in
+        let x = back-is c k (numberOf (bigOf k) bs) o (changed iface m extended bs s z k n e .read .labelled) in
         let y = back-is c k n o (t .labelled) in
-        (y .0 ∙ sym (x .0), y .1 ∙ change-wholes m extended bs s z k n e hb j h at ∙ ap (λ (zs : List ℤ). set zs j z) (sym (x .1)))
+        (y .0 ∙ sym (x .0), y .1 ∙ change-wholes iface m extended bs s z k n e hb j h at ∙ ap (λ (zs : List ℤ). set zs j z) (sym (x .1)))
 
   -- a message that has the kind and the numbers of another has its bytes
   pub changed-bytes : (m : ℕ) (extended : Bool) (bs : List ℕ) (x y : M) → Same c m extended bs x → kind y ≡ kind x → raws y ≡ raws x

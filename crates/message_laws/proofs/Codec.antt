@@ -1,5 +1,6 @@
 -- A type of messages over the table whose raw numbers go there and back: what it writes (`answers`, `buffers`), an accepted frame as its message writes it
--- (`same`), and what is written is accepted and is the message again (`reads`). Of any such type, so of the messages of any document. Assumes nothing.
+-- (`same`), and what is written is accepted and is the message again (`reads`). Of any such type, so of the messages of any document, on any
+-- interface that has them. Assumes nothing.
 use mathlib.Core.Path.{_≡_, refl, sym, ap, ap₂, _∙_, subst}
 use mathlib.Core.Bool.{Bool, true, false, cond, _&&_}
 use mathlib.Core.List.{List}
@@ -15,12 +16,14 @@ use Rattle.page_read.specs.declared.Judged.the-variants.{Frame}
 use Rattle.refusals.specs.declared.Refusal.the-variants.{NoRawNumber}
 use Rattle.page_write.specs.declared.Written.{Written}
 use Rattle.page_write.specs.declared.Written.the-variants.{Refused}
+use Rattle.page_rows.specs.declared.Interface.{Interface}
+use Rattle.page_rows.specs.Interfaces.{isOn}
 use Rattle.page_rows.specs.Table.{rowsOf, identifierOf, extendedOf, lengthOf, bigOf}
-use Rattle.page_read.specs.Judge.{unlabelled, judgeOf}
+use Rattle.page_read.specs.Judge.{unlabelled, judgeOn}
 use Rattle.page_rows.specs.Table.{signalCount}
 use Rattle.page_write.specs.Raws.{wholesOf, pad, allTake, packedOn, canWrite, rawsOf, writtenBy, writeRawsOf, bufferAfter}
 use Rattle.page_rows.proofs.Rules.{both-true, few}
-use Rattle.page_write.proofs.Trips.{accepted, raws-back, raws-there, wholes-length, all-pad, packed-pad}
+use Rattle.page_write.proofs.Trips.{accepted-on, back-on, raws-there, wholes-length, all-pad, packed-pad}
 use Rattle.message_fields.specs.Fields.{at}
 use Rattle.message_laws.specs.Fits.{allFit}
 use Rattle.message_laws.proofs.Fitting.{labelsAt, take-fit, at-pad}
@@ -109,11 +112,12 @@ module _ {M : Type 0} {kind : M → ℕ} {raws : M → List ℤ} {valued : M →
   pub back-is : (k n : ℕ) → own k → unlabelled n (rowsOf k) ≡ false → Back kind raws valued k (wholesOf n (rowsOf k)) (built k (at (rawsOf k n)))
   back-is k n o u = subst (Back kind raws valued k (wholesOf n (rowsOf k))) (sym (of-wholes built k n)) (c .back k n o u)
 
-  pub same : (m : ℕ) (extended : Bool) (bs : List ℕ) (k n : ℕ) → judgeOf m extended bs ≡ Frame k n → own k → Bytes bs → Same m extended bs (built k (at (rawsOf k n)))
+  pub same : (iface : Interface) (m : ℕ) (extended : Bool) (bs : List ℕ) (k n : ℕ) → judgeOn iface m extended bs ≡ Frame k n → own k → Bytes bs
+      → Same m extended bs (built k (at (rawsOf k n)))
   unfolding rawsOf
-  same m extended bs k n j o hb =
-      let t = accepted m extended bs k n j in
-      let r = raws-back m extended bs k n j hb in
+  same iface m extended bs k n j o hb =
+      let t = accepted-on iface m extended bs k n j in
+      let r = back-on iface m extended bs k n j hb in
       let rs = rowsOf k in
       let zs = wholesOf n rs in
       let x = built k (at (rawsOf k n)) in
@@ -132,9 +136,9 @@ module _ {M : Type 0} {kind : M → ℕ} {raws : M → List ℤ} {valued : M →
 
   -- ---- a message, as its bytes are read
 
-  pub reads : (x : M) → writable x ≡ true
-      → (judgeOf (identifierOf (kind x)) (extendedOf (kind x)) (bytes x) ≡ Frame (kind x) (payload x)) × (built (kind x) (at (rawsOf (kind x) (payload x))) ≡ x)
-  reads x w =
+  pub reads : (iface : Interface) (x : M) → isOn iface (kind x) ≡ true → writable x ≡ true
+      → (judgeOn iface (identifierOf (kind x)) (extendedOf (kind x)) (bytes x) ≡ Frame (kind x) (payload x)) × (built (kind x) (at (rawsOf (kind x) (payload x))) ≡ x)
+  reads iface x on w =
       let k = kind x in
       let rs = rowsOf k in
       let n = payload x in
@@ -142,4 +146,4 @@ module _ {M : Type 0} {kind : M → ℕ} {raws : M → List ℤ} {valued : M →
       let taken : allTake rs (raws x) ≡ true = labels x ∙ p .1 in
       let r = raws-there k (raws x) (ap₂ (λ (a b : Bool). a && b) (le-leb 1 (length rs) (c .known x)) taken) in
       let again : wholesOf n rs ≡ raws x = r .raws ∙ take-all (length rs) (raws x) (omega (arith, c .counted x)) in
-      (r .reads, of-wholes built k n ∙ ap (λ (zs : List ℤ). built k (at zs)) again ∙ c .there x (p .0) taken)
+      (r .reads iface on, of-wholes built k n ∙ ap (λ (zs : List ℤ). built k (at zs)) again ∙ c .there x (p .0) taken)

@@ -1,6 +1,6 @@
 -- A type of labels and the signal that carries it: a label has a number that its signal takes, and label and number are each other's. Labels are taken case by
 -- case; numbers by a test that computes at each number of the signal's width. Assumes nothing.
-use mathlib.Core.Path.{_≡_, refl, sym, subst}
+use mathlib.Core.Path.{_≡_, refl, sym, ap, _∙_, subst}
 use mathlib.Core.Bool.{Bool, true, false, not, _&&_, _||_}
 use Prim.Native.Nat.{ℕ, zero, suc, _^_, _<_}
 use native.Mathlib.Nat.{le-of-suc-le-suc, not-suc-le-zero}
@@ -67,4 +67,14 @@ marked {L} {number} {of} {r} m t =
       labelled = λ l. m l .1;
       fits = λ l. ltb-true (number l) (2 ^ r .width) (m l .2);
       back = λ x e h. returned (takes (r .labels) x) x (number (of x)) e (at-below (returns (r .labels) (λ y. number (of y))) (2 ^ r .width) t x h);
+    }
+
+-- labels at another signal that lists the same
+pub same-label : {L : Type 0} {number : L → ℕ} {of : ℕ → L} {r : Row} (q : Row) → r .labels ≡ q .labels → r .width ≡ q .width → Label number of r → Label number of q
+same-label {number} q e w l =
+    record {
+      there = l .there;
+      labelled = λ x. ap (λ (m : ℕ). takes m (number x)) (sym e) ∙ l .labelled x;
+      fits = λ x. subst (λ (v : ℕ). number x < 2 ^ v) w (l .fits x);
+      back = λ x t h. l .back x (ap (λ (m : ℕ). takes m x) e ∙ t) (subst (λ (v : ℕ). x < 2 ^ v) (sym w) h);
     }

@@ -5,3 +5,4 @@ pub mod Ways
 pub mod Codec
 pub mod Changing
 pub mod Upto
+pub mod Typed

@@ -1,20 +1,19 @@
 -- What is said of each kind of message: the table has it, with as many signals as the kind has numbers, its labels are those of its signals, and its numbers go
 -- there and back (`there`, `back`), by the ways of its kind. Together they make the messages a codec over the table (`codec`). Assumes nothing.
-use mathlib.Core.Path.{_≡_, refl, sym, ap, _∙_, subst}
-use mathlib.Core.Bool.{Bool, true, false, _&&_}
-use mathlib.Core.List.{List, [], _∷_}
-use Prim.Native.Nat.{ℕ, _≤_, _<_}
-use native.Mathlib.Nat.{not-suc-le-zero}
+use mathlib.Core.Path.{_≡_, refl, sym, ap, _∙_}
+use mathlib.Core.Bool.{Bool, true, false}
+use mathlib.Core.List.{List}
+use Prim.Native.Nat.{ℕ, _≤_}
 use native.Mathlib.Omega.{arith}
-use lib.Dec.{leb, ltb, lit≤}
+use lib.Dec.{leb, lit≤}
 use lib.ListN.{length}
 use lib.IntN.{ℤ}
-use borrow.Author.Tests.{ltb-true, eqb-true}
-use Rattle.page_rows.specs.declared.Row.{Row}
-use Rattle.page_rows.specs.Table.{rows, keep, ofKind, rowsOf, hasKind, identifierOf, extendedOf}
+use borrow.Author.Tests.{ltb-true}
+use Rattle.page_rows.specs.declared.Interface.the-variants.{Newer}
+use Rattle.page_rows.specs.Interfaces.{isOn}
+use Rattle.page_rows.specs.Table.{rows, ofKind, rowsOf, identifierOf, extendedOf}
 use Rattle.page_read.specs.Judge.{unlabelled}
 use Rattle.page_write.specs.Raws.{wholesOf, allTake}
-use Rattle.page_rows.proofs.Rules.{both-true}
 use Rattle.message_fields.specs.Fields.{at}
 use Rattle.message_laws.specs.Fits.{allFit}
 use Rattle.message_laws.proofs.Fitting.{labelsAt}
@@ -34,24 +33,26 @@ use Rattle.message_safety.proofs.Ways.{safety-control-ways, safety-state-ways, 
 abbrev longId : ℕ → Bool
 longId m = leb 0x800 m
 
--- as many signals as the message has numbers, at least one, and an identifier that tells the form by itself
+-- as many signals as the message has numbers, at least one, an identifier that tells the form by itself, and a kind of its interface
 abbrev InTable : Message → Type 0
-InTable m = (length (rawsOf m) ≡ length (rowsOf (kindOf m))) × (1 ≤ length (rowsOf (kindOf m))) × (extendedOf (kindOf m) ≡ longId (identifierOf (kindOf m)))
+InTable m =
+    (length (rawsOf m) ≡ length (rowsOf (kindOf m))) × (1 ≤ length (rowsOf (kindOf m))) × (extendedOf (kindOf m) ≡ longId (identifierOf (kindOf m)))
+    × (isOn Newer (kindOf m) ≡ true)
 
 in-table : (m : Message) → InTable m
 unfolding rows ofKind rawsOf identifierOf extendedOf
-in-table (Status s) = (refl, lit≤ tt, refl)
-in-table (Parameters s) = (refl, lit≤ tt, refl)
-in-table (Controller s) = (refl, lit≤ tt, refl)
-in-table (Session s) = (refl, lit≤ tt, refl)
-in-table (Change s) = (refl, lit≤ tt, refl)
-in-table (Control s) = (refl, lit≤ tt, refl)
-in-table (Finished s) = (refl, lit≤ tt, refl)
-in-table (Stop s) = (refl, lit≤ tt, refl)
-in-table (Id s) = (refl, lit≤ tt, refl)
-in-table (SafetyControl s) = (refl, lit≤ tt, refl)
-in-table (SafetyState s) = (refl, lit≤ tt, refl)
-in-table (Probes s) = (refl, lit≤ tt, refl)
+in-table (Status s) = (refl, lit≤ tt, refl, refl)
+in-table (Parameters s) = (refl, lit≤ tt, refl, refl)
+in-table (Controller s) = (refl, lit≤ tt, refl, refl)
+in-table (Session s) = (refl, lit≤ tt, refl, refl)
+in-table (Change s) = (refl, lit≤ tt, refl, refl)
+in-table (Control s) = (refl, lit≤ tt, refl, refl)
+in-table (Finished s) = (refl, lit≤ tt, refl, refl)
+in-table (Stop s) = (refl, lit≤ tt, refl, refl)
+in-table (Id s) = (refl, lit≤ tt, refl, refl)
+in-table (SafetyControl s) = (refl, lit≤ tt, refl, refl)
+in-table (SafetyState s) = (refl, lit≤ tt, refl, refl)
+in-table (Probes s) = (refl, lit≤ tt, refl, refl)
 
 pub counted : (m : Message) → length (rawsOf m) ≡ length (rowsOf (kindOf m))
 counted m = in-table m .0
@@ -62,6 +63,9 @@ known-kind m = in-table m .1
 -- messages of one identifier have one form
 pub one-form : (x y : Message) → identifierOf (kindOf x) ≡ identifierOf (kindOf y) → extendedOf (kindOf x) ≡ extendedOf (kindOf y)
 one-form x y e = in-table x .2 ∙ ap longId e ∙ sym (in-table y .2)
+
+pub own-kind : (m : Message) → isOn Newer (kindOf m) ≡ true
+own-kind m = in-table m .3
 
 -- ---- a message's labels are those of its signals, and its numbers make it again
 
@@ -95,29 +99,11 @@ there (SafetyControl s) h e = ap SafetyControl (safety-control-ways .there s h e
 there (SafetyState s) h e = ap SafetyState (safety-state-ways .there s h e)
 there (Probes s) h e = ap Probes (probes-ways .there s h e)
 
--- ---- the kinds of the table are those of the messages
-
-abbrev kindsBelow : List Row → Bool
-kindsBelow [] = true
-kindsBelow (r ∷ rs) = ltb (r .kind) kindCount && kindsBelow rs
-
-kind-below : (k : ℕ) (rs : List Row) → kindsBelow rs ≡ true → 1 ≤ length (ofKind k rs) → k < kindCount
-unfolding ofKind
-kind-below k [] e h = absurd (not-suc-le-zero h)
-kind-below k (r ∷ rs) e h =
-    let b = both-true (ltb (r .kind) kindCount) (kindsBelow rs) e in
-    go (hasKind k r) refl (b .0) (kind-below k rs (b .1)) h
-  where
-    go : (b : Bool) → hasKind k r ≡ b → ltb (r .kind) kindCount ≡ true → (1 ≤ length (ofKind k rs) → k < kindCount)
-        → 1 ≤ length (keep b r (ofKind k rs)) → k < kindCount
-    go true q l f o = subst (λ (x : ℕ). x < kindCount) (eqb-true (r .kind) k q) (ltb-true (r .kind) kindCount l)
-    go false q l f o = f o
-
-pub kinds : (k : ℕ) → 1 ≤ length (rowsOf k) → k < kindCount
-unfolding rows ofKind
-kinds k h = kind-below k rows refl h
-
 -- ---- a payload's numbers are those of the message that they make
+
+-- a kind of document 000 or 004
+abbrev pub Own : ℕ → Type 0
+Own k = isOn Newer k ≡ true
 
 -- what is asked of the message that a payload number makes
 abbrev pub Back : ℕ → List ℤ → Message → Type 0
@@ -147,16 +133,12 @@ returns n =
     ⨾ is n probesKind (λ e. (refl, probes-ways .back n e, probes-ways .backed n))
     ⨾ done
 
-pub back : (k n : ℕ) → 1 ≤ length (rowsOf k) → unlabelled n (rowsOf k) ≡ false → Back k (wholesOf n (rowsOf k)) (builtOf k (at (wholesOf n (rowsOf k))))
-back k n h = upto (returns n) k (omega arith) (kinds k h)
+pub back : (k n : ℕ) → Own k → unlabelled n (rowsOf k) ≡ false → Back k (wholesOf n (rowsOf k)) (builtOf k (at (wholesOf n (rowsOf k))))
+back k n h = upto (returns n) k (omega arith) (ltb-true k kindCount h)
 
 -- ---- together
 
--- a kind that the table has
-abbrev pub Known : ℕ → Type 0
-Known k = 1 ≤ length (rowsOf k)
-
-pub codec : codecs.Codec kindOf rawsOf hasRaws builtOf Known
+pub codec : codecs.Codec kindOf rawsOf hasRaws builtOf Own
 codec = record { counted = counted; known = known-kind; labelled = labels-in; there = there; back = λ k n h. back k n h }
 
 pub labels-hold : (m : Message) → allTake (rowsOf (kindOf m)) (rawsOf m) ≡ allFit (rowsOf (kindOf m)) (rawsOf m)

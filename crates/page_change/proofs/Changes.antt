@@ -1,5 +1,5 @@
--- 01: "Changing one signal touches no bit outside it." Of an accepted change (`changeOf m extended bs s z ≡ Frame k n′`): each bit of the signal is that of the
--- number (`change-bit`) and every other bit as it was (`change-kept`); the bytes are a frame of the same kind (`change-read`), of whose raw numbers the
+-- 01: "Changing one signal touches no bit outside it." Of an accepted change (`changeOn iface m extended bs s z ≡ Frame k n′`): each bit of the signal is that
+-- of the number (`change-bit`) and every other bit as it was (`change-kept`); the bytes are a frame of the same kind (`change-read`), of whose raw numbers the
 -- signal's is the one that was asked for and the others are as they were (`change-raws`, `change-wholes`); a refused change leaves the bytes whole
 -- (`change-refused`).
 -- Assumes nothing.
@@ -20,6 +20,8 @@ use Rattle.signal.proofs.Laws.{get-put-apart, bit-kept, put-lt}
 use Rattle.signal.proofs.RawLaws.{bits-lt}
 use Rattle.payload.proofs.Orders.{number-bound, length-of, number-of}
 use Rattle.payload.proofs.Written.{written-bit, written-kept}
+use Rattle.page_rows.specs.declared.Interface.{Interface}
+use Rattle.page_rows.specs.declared.Interface.the-variants.{Newer}
 use Rattle.page_rows.specs.declared.Row.{Row}
 use Rattle.page_rows.specs.declared.Found.{Found}
 use Rattle.page_rows.specs.declared.Found.the-variants.{At, Nothing}
@@ -28,10 +30,10 @@ use Rattle.page_read.specs.declared.Judged.the-variants.{Frame, Refused}
 use Rattle.refusals.specs.declared.Refusal.{Refusal}
 use Rattle.page_rows.specs.Table.{rows, noRow, rowAt, rowsOf, lengthOf, bigOf, isSignal, firstAt, lowest, bitsAt, Fine, HasBit, takes}
 use Rattle.page_rows.specs.Listed.{Among, SignalAt}
-use Rattle.page_read.specs.Judge.{unlabelled, strayBelow, judgeOf}
+use Rattle.page_read.specs.Judge.{unlabelled, strayBelow, judgeOn}
 use Rattle.page_write.specs.Taken.{Taken}
 use Rattle.page_write.specs.Raws.{wholeAt, wholesOf, putRaw}
-use Rattle.page_change.specs.Change.{changedBy, changedAt, changedIn, changeOf, bytesAfter}
+use Rattle.page_change.specs.Change.{changedBy, changedAt, changedIn, changeOn, changeOf, bytesAfter}
 use Rattle.page_change.specs.Changed.{Changed}
 use Rattle.page_rows.specs.Rules.{above}
 use Rattle.page_rows.proofs.Rules.{Ordered, ordered, row-fine, RowsApart, among-kept, row-message, among-apart, among-from, among-start}
@@ -39,25 +41,30 @@ use Rattle.page_rows.proofs.Firsts.{found-in}
 use Rattle.page_rows.proofs.Listed.{at-among, found-signal, signal-found}
 use Rattle.page_rows.proofs.PageBits.{not-covered}
 use Rattle.page_read.proofs.Gaps.{stray-none, stray-zero}
+use Rattle.page_read.proofs.Interfaces.{newer}
 use Rattle.page_read.proofs.Answers.{labelled-each, each-labelled}
-use Rattle.page_write.proofs.Trips.{accepted, accepts, bits-put, whole-put}
+use Rattle.page_write.proofs.Trips.{accepted-on, accepts, bits-put, whole-put}
+
+pub newer-change : (m : ℕ) (extended : Bool) (bs : List ℕ) (s : ℕ) (z : ℤ) → changeOf m extended bs s z ≡ changeOn Newer m extended bs s z
+unfolding changeOf changeOn
+newer-change m extended bs s z = ap (changedIn s z) (newer m extended bs)
 
 -- ---- from the answer back to the tests
 
-pub changed : (m : ℕ) (extended : Bool) (bs : List ℕ) (s : ℕ) (z : ℤ) (k n′ : ℕ) → changeOf m extended bs s z ≡ Frame k n′
-    → Changed m extended bs s z k n′
-unfolding changeOf
-changed m extended bs s z k n′ e = outer (judgeOf m extended bs) refl e
+pub changed : (iface : Interface) (m : ℕ) (extended : Bool) (bs : List ℕ) (s : ℕ) (z : ℤ) (k n′ : ℕ) → changeOn iface m extended bs s z ≡ Frame k n′
+    → Changed iface m extended bs s z k n′
+unfolding changeOn
+changed iface m extended bs s z k n′ e = outer (judgeOn iface m extended bs) refl e
   where
-    inner : (k₀ n : ℕ) (r : Row) (a b : Bool) → judgeOf m extended bs ≡ Frame k₀ n → SignalAt k₀ s r
+    inner : (k₀ n : ℕ) (r : Row) (a b : Bool) → judgeOn iface m extended bs ≡ Frame k₀ n → SignalAt k₀ s r
         → fitsIn (r .signed) (r .width) z ≡ a → takes (r .labels) (bitsIn (r .signed) (r .width) z) ≡ b
-        → changedBy r k₀ n z a b ≡ Frame k n′ → Changed m extended bs s z k n′
+        → changedBy r k₀ n z a b ≡ Frame k n′ → Changed iface m extended bs s z k n′
     inner k₀ n r true true j t p q e =
         let ek : k₀ ≡ k = cc in
         let en : putRaw r n z ≡ n′ = cc in
-        let number : n ≡ numberOf (bigOf k) bs = accepted m extended bs k₀ n j .number ∙ ap (λ (x : ℕ). numberOf (bigOf x) bs) ek in
+        let number : n ≡ numberOf (bigOf k) bs = accepted-on iface m extended bs k₀ n j .number ∙ ap (λ (x : ℕ). numberOf (bigOf x) bs) ek in
         record {
-          read = accepted m extended bs k (numberOf (bigOf k) bs) (j ∙ ap₂ Frame ek number);
+          read = accepted-on iface m extended bs k (numberOf (bigOf k) bs) (j ∙ ap₂ Frame ek number);
           row = r;
           signal = subst (λ (x : ℕ). SignalAt x s r) ek t;
           fits = p;
@@ -68,14 +75,14 @@ changed m extended bs s z k n′ e = outer (judgeOf m extended bs) refl e
     inner k₀ n r false true j t p q e = absurd (let z : _≡_ {A = ℕ} 0 1 = cc in omega arith)
     inner k₀ n r false false j t p q e = absurd (let z : _≡_ {A = ℕ} 0 1 = cc in omega arith)
 
-    middle : (k₀ n : ℕ) (f : Found) → judgeOf m extended bs ≡ Frame k₀ n → firstAt (isSignal k₀ s) 0 rows ≡ f → changedAt k₀ n z f ≡ Frame k n′
-        → Changed m extended bs s z k n′
+    middle : (k₀ n : ℕ) (f : Found) → judgeOn iface m extended bs ≡ Frame k₀ n → firstAt (isSignal k₀ s) 0 rows ≡ f → changedAt k₀ n z f ≡ Frame k n′
+        → Changed iface m extended bs s z k n′
     middle k₀ n (At i) j f e =
         let r = rowAt i in
         inner k₀ n r (fitsIn (r .signed) (r .width) z) (takes (r .labels) (bitsIn (r .signed) (r .width) z)) j (found-signal k₀ s i f) refl refl e
     middle k₀ n Nothing j f e = absurd (let z : _≡_ {A = ℕ} 0 1 = cc in omega arith)
 
-    outer : (a : Judged) → judgeOf m extended bs ≡ a → changedIn s z a ≡ Frame k n′ → Changed m extended bs s z k n′
+    outer : (a : Judged) → judgeOn iface m extended bs ≡ a → changedIn s z a ≡ Frame k n′ → Changed iface m extended bs s z k n′
     outer (Frame k₀ n) j e = middle k₀ n (firstAt (isSignal k₀ s) 0 rows) j refl e
     outer (Refused w) j e = absurd (let z : _≡_ {A = ℕ} 0 1 = cc in omega arith)
 
@@ -149,38 +156,39 @@ module _ (k n : ℕ) (r : Row) (z : ℤ) (small : n < 2 ^ (8 * lengthOf k)) (fin
 -- ---- the theorems
 
 -- a change that was accepted, of lent bytes
-module _ (m : ℕ) (extended : Bool) (bs : List ℕ) (s : ℕ) (z : ℤ) (k n′ : ℕ) (e : changeOf m extended bs s z ≡ Frame k n′) (hb : Bytes bs) where
+module _ (iface : Interface) (m : ℕ) (extended : Bool) (bs : List ℕ) (s : ℕ) (z : ℤ) (k n′ : ℕ) (e : changeOn iface m extended bs s z ≡ Frame k n′) (hb : Bytes bs) where
   -- the frame's number has the kind's bits, before and after
   small-before : numberOf (bigOf k) bs < 2 ^ (8 * lengthOf k)
   small-before =
-      subst (λ (x : ℕ). numberOf (bigOf k) bs < 2 ^ (8 * x)) (changed m extended bs s z k n′ e .read .sized) (number-bound (bigOf k) bs hb)
+      subst (λ (x : ℕ). numberOf (bigOf k) bs < 2 ^ (8 * x)) (changed iface m extended bs s z k n′ e .read .sized) (number-bound (bigOf k) bs hb)
 
   small-after : n′ < 2 ^ (8 * lengthOf k)
   small-after =
-      let c = changed m extended bs s z k n′ e in
+      let c = changed iface m extended bs s z k n′ e in
       subst (λ (x : ℕ). x < 2 ^ (8 * lengthOf k)) (sym (c .put))
       (put-small k (numberOf (bigOf k) bs) (c .row) z small-before (signal-fine k s (c .row) (c .signal)) (c .signal .isSignal) (c .fits))
 
   -- what is stored
-  stored : bytesAfter bs (changeOf m extended bs s z) ≡ bytesOf (bigOf k) (length bs) n′
+  stored : bytesAfter bs (changeOn iface m extended bs s z) ≡ bytesOf (bigOf k) (length bs) n′
   stored = ap (bytesAfter bs) e
 
   number-after : numberOf (bigOf k) (bytesOf (bigOf k) (length bs) n′) ≡ n′
   number-after =
-      number-of (bigOf k) (length bs) n′ (subst (λ (x : ℕ). n′ < 2 ^ (8 * x)) (sym (changed m extended bs s z k n′ e .read .sized)) small-after)
+      number-of (bigOf k) (length bs) n′ (subst (λ (x : ℕ). n′ < 2 ^ (8 * x)) (sym (changed iface m extended bs s z k n′ e .read .sized)) small-after)
 
   -- THEOREM: the bytes are read as a frame of the same kind, with the number n′
-  pub change-read : (judgeOf m extended (bytesAfter bs (changeOf m extended bs s z)) ≡ Frame k n′)
-      × (length (bytesAfter bs (changeOf m extended bs s z)) ≡ length bs)
+  pub change-read : (judgeOn iface m extended (bytesAfter bs (changeOn iface m extended bs s z)) ≡ Frame k n′)
+      × (length (bytesAfter bs (changeOn iface m extended bs s z)) ≡ length bs)
   change-read =
-      let c = changed m extended bs s z k n′ e in
+      let c = changed iface m extended bs s z k n′ e in
       let t = c .read in
       let fine = signal-fine k s (c .row) (c .signal) in
       let member = c .signal .isSignal in
       let b = bytesOf (bigOf k) (length bs) n′ in
       let l : length b ≡ length bs = length-of (bigOf k) (length bs) n′ in
-      let taken : Taken m extended b k n′
+      let taken : Taken iface m extended b k n′
       = record {
+        own = t .own;
         identifier = t .identifier;
         form = t .form;
         sized = l ∙ t .sized;
@@ -191,35 +199,35 @@ module _ (m : ℕ) (extended : Bool) (bs : List ℕ) (s : ℕ) (z : ℤ) (k n′
         clean = ap₂ (λ (x y : ℕ). strayBelow (8 * x) y (rowsOf k)) l (c .put)
             ∙ put-clean k (numberOf (bigOf k) bs) (c .row) z small-before fine member (c .fits) (8 * length bs) (t .clean);
       } in
-      (ap (judgeOf m extended) stored ∙ accepts m extended b k n′ taken, ap length stored ∙ l)
+      (ap (judgeOn iface m extended) stored ∙ accepts iface m extended b k n′ taken, ap length stored ∙ l)
 
   -- THEOREM: the signal that was asked for is there
   pub change-found : (r : Row) × SignalAt k s r
-  change-found = let c = changed m extended bs s z k n′ e in (c .row, c .signal)
+  change-found = let c = changed iface m extended bs s z k n′ e in (c .row, c .signal)
 
   -- of the row of that signal
   module _ (r : Row) (signal : SignalAt k s r) where
-    row-is : changed m extended bs s z k n′ e .row ≡ r
-    row-is = one-row k s r (changed m extended bs s z k n′ e .row) signal (changed m extended bs s z k n′ e .signal)
+    row-is : changed iface m extended bs s z k n′ e .row ≡ r
+    row-is = one-row k s r (changed iface m extended bs s z k n′ e .row) signal (changed iface m extended bs s z k n′ e .signal)
 
     fits-is : fitsIn (r .signed) (r .width) z ≡ true
-    fits-is = subst (λ (q : Row). fitsIn (q .signed) (q .width) z ≡ true) row-is (changed m extended bs s z k n′ e .fits)
+    fits-is = subst (λ (q : Row). fitsIn (q .signed) (q .width) z ≡ true) row-is (changed iface m extended bs s z k n′ e .fits)
 
     put-is : n′ ≡ putRaw r (numberOf (bigOf k) bs) z
-    put-is = subst (λ (q : Row). n′ ≡ putRaw q (numberOf (bigOf k) bs) z) row-is (changed m extended bs s z k n′ e .put)
+    put-is = subst (λ (q : Row). n′ ≡ putRaw q (numberOf (bigOf k) bs) z) row-is (changed iface m extended bs s z k n′ e .put)
 
     -- the bytes, by what the page says of the signal
     record Paged : Type 0 where
       within : order.Inside (r .big) (length bs) (r .start) (r .width)
       narrow : bitsIn (r .signed) (r .width) z < 2 ^ r .width
-      bytes : bytesAfter bs (changeOf m extended bs s z)
+      bytes : bytesAfter bs (changeOn iface m extended bs s z)
           ≡ bytesOf (r .big) (length bs) (putBits (numberOf (r .big) bs) (order.lowest (r .big) (length bs) (r .start) (r .width)) (r .width) (bitsIn (r .signed) (r .width) z))
 
     paged : Paged
     paged =
         let kept = among-kept k r (signal .isSignal) in
         let says = row-message k r (signal .isSignal) in
-        let size : r .bytes ≡ length bs = says .2 ∙ sym (changed m extended bs s z k n′ e .read .sized) in
+        let size : r .bytes ≡ length bs = says .2 ∙ sym (changed iface m extended bs s z k n′ e .read .sized) in
         let v = bitsIn (r .signed) (r .width) z in
         record {
           within = subst (λ (y : ℕ). order.Inside (r .big) y (r .start) (r .width)) size (kept .within);
@@ -234,13 +242,13 @@ module _ (m : ℕ) (extended : Bool) (bs : List ℕ) (s : ℕ) (z : ℤ) (k n′
 
     -- THEOREM: bit j of the signal is bit j of the number that was asked for, where the page puts it
     pub change-bit : (j : ℕ) → j < r .width
-        → bitAt (bytesAfter bs (changeOf m extended bs s z)) (order.bitOf (r .big) (r .start) (r .width) j) ≡ getBits (bitsIn (r .signed) (r .width) z) j 1
+        → bitAt (bytesAfter bs (changeOn iface m extended bs s z)) (order.bitOf (r .big) (r .start) (r .width) j) ≡ getBits (bitsIn (r .signed) (r .width) z) j 1
     change-bit j h =
         ap (λ (l : List ℕ). bitAt l (order.bitOf (r .big) (r .start) (r .width) j)) (paged .bytes)
         ∙ written-bit (r .big) bs (r .start) (r .width) (bitsIn (r .signed) (r .width) z) j (paged .within) (paged .narrow) h
 
     -- THEOREM: "Changing one signal touches no bit outside it": a bit that the page's signal does not have
-    pub change-kept : (b : ℕ) → (HasBit r b → ⊥) → bitAt (bytesAfter bs (changeOf m extended bs s z)) b ≡ bitAt bs b
+    pub change-kept : (b : ℕ) → (HasBit r b → ⊥) → bitAt (bytesAfter bs (changeOn iface m extended bs s z)) b ≡ bitAt bs b
     change-kept b u =
         ap (λ (l : List ℕ). bitAt l b) (paged .bytes)
         ∙ written-kept (r .big) bs (r .start) (r .width) (bitsIn (r .signed) (r .width) z) b hb (paged .within) (paged .narrow) u
@@ -267,6 +275,6 @@ module _ (m : ℕ) (extended : Bool) (bs : List ℕ) (s : ℕ) (z : ℤ) (k n′
       wholes-set (8 * lengthOf k) 0 (numberOf (bigOf k) bs) n′ s z (rowsOf k) (ordered k) j h at (t .0) (t .1)
 
 -- THEOREM: "A refusal carries its number only; .. lent bytes stay as they were"
-pub change-refused : (m : ℕ) (extended : Bool) (bs : List ℕ) (s : ℕ) (z : ℤ) (w : Refusal) → changeOf m extended bs s z ≡ Refused w
-    → bytesAfter bs (changeOf m extended bs s z) ≡ bs
-change-refused m extended bs s z w e = ap (bytesAfter bs) e
+pub change-refused : (iface : Interface) (m : ℕ) (extended : Bool) (bs : List ℕ) (s : ℕ) (z : ℤ) (w : Refusal) → changeOn iface m extended bs s z ≡ Refused w
+    → bytesAfter bs (changeOn iface m extended bs s z) ≡ bs
+change-refused iface m extended bs s z w e = ap (bytesAfter bs) e

@@ -13,14 +13,15 @@ use Rattle.payload.specs.Payload.{numberOf}
 use Rattle.payload.specs.Order as order
 use Rattle.signal.specs.Raw.{bitsIn, bitsOf}
 use Rattle.signal.proofs.RawLaws.{bits-lt}
+use Rattle.page_rows.specs.declared.Interface.{Interface}
 use Rattle.page_rows.specs.declared.Row.{Row}
 use Rattle.page_rows.specs.declared.Found.the-variants.{At}
 use Rattle.page_read.specs.declared.Judged.the-variants.{Frame}
 use Rattle.page_rows.specs.Table.{rows, noRow, rowAt, bigOf, firstAt, isSignal}
 use Rattle.page_rows.specs.Listed.{SignalAt}
-use Rattle.page_read.specs.Judge.{judgeOf}
+use Rattle.page_read.specs.Judge.{judgeOn}
 use Rattle.page_write.specs.Raws.{putRaw}
-use Rattle.page_change.specs.Change.{changeOf}
+use Rattle.page_change.specs.Change.{changeOn}
 use Rattle.page_change.specs.Changed.{Changed}
 use Rattle.page_rows.proofs.Rules.{among-kept, row-message}
 use Rattle.page_rows.proofs.Listed.{found-signal}
@@ -36,19 +37,19 @@ pub record Storing (r : Row) (bs : List ℕ) (k n v : ℕ) : Type 0 where
   pub put : n ≡ putBits (numberOf (r .big) bs) (order.lowest (r .big) (length bs) (r .start) (r .width)) (r .width) v
 
 -- the row that is found is the one that the change was made by
-row-is : (m : ℕ) (x : Bool) (bs : List ℕ) (s : ℕ) (z : ℤ) (k n i k′ n′ : ℕ) → judgeOf m x bs ≡ Frame k n → firstAt (isSignal k s) 0 rows ≡ At i
-    → (c : Changed m x bs s z k′ n′) → rowAt i ≡ c .row
-row-is m x bs s z k n i k′ n′ j f c =
-    let a : judgeOf m x bs ≡ Frame k′ (numberOf (bigOf k′) bs) = accepts m x bs k′ (numberOf (bigOf k′) bs) (c .read) in
+row-is : (iface : Interface) (m : ℕ) (x : Bool) (bs : List ℕ) (s : ℕ) (z : ℤ) (k n i k′ n′ : ℕ) → judgeOn iface m x bs ≡ Frame k n → firstAt (isSignal k s) 0 rows ≡ At i
+    → (c : Changed iface m x bs s z k′ n′) → rowAt i ≡ c .row
+row-is iface m x bs s z k n i k′ n′ j f c =
+    let a : judgeOn iface m x bs ≡ Frame k′ (numberOf (bigOf k′) bs) = accepts iface m x bs k′ (numberOf (bigOf k′) bs) (c .read) in
     let same : k ≡ k′ = cc in
     one-row k′ s (c .row) (rowAt i) (c .signal) (subst (λ (y : ℕ). SignalAt y s (rowAt i)) same (found-signal k s i f))
 
-pub storing : (m : ℕ) (x : Bool) (bs : List ℕ) (s : ℕ) (z : ℤ) (k n i k′ n′ v : ℕ) (r : Row) → judgeOf m x bs ≡ Frame k n → firstAt (isSignal k s) 0 rows ≡ At i
-    → r ≡ getD rows i noRow → changeOf m x bs s z ≡ Frame k′ n′ → SFits w64 z → v ≡ bitsOf (r .signed) (r .width) (toZ w64 (ofZ w64 z)) → Storing r bs k′ n′ v
-storing m x bs s z k n i k′ n′ v r j f q e h w =
-    let c = changed m x bs s z k′ n′ e in
+pub storing : (iface : Interface) (m : ℕ) (x : Bool) (bs : List ℕ) (s : ℕ) (z : ℤ) (k n i k′ n′ v : ℕ) (r : Row) → judgeOn iface m x bs ≡ Frame k n → firstAt (isSignal k s) 0 rows ≡ At i
+    → r ≡ getD rows i noRow → changeOn iface m x bs s z ≡ Frame k′ n′ → SFits w64 z → v ≡ bitsOf (r .signed) (r .width) (toZ w64 (ofZ w64 z)) → Storing r bs k′ n′ v
+storing iface m x bs s z k n i k′ n′ v r j f q e h w =
+    let c = changed iface m x bs s z k′ n′ e in
     let t = c .row in
-    let same : r ≡ c .row = q ∙ row-is m x bs s z k n i k′ n′ j f c in
+    let same : r ≡ c .row = q ∙ row-is iface m x bs s z k n i k′ n′ j f c in
     let among = c .signal .isSignal in
     let fine = signal-fine k′ s t (c .signal) in
     let kept = among-kept k′ t among in

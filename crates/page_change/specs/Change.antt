@@ -6,6 +6,7 @@ use lib.ListN.{length, getD}
 use lib.IntN.{ℤ}
 use Rattle.payload.specs.Payload.{bytesOf}
 use Rattle.signal.specs.Raw.{fitsIn, bitsIn}
+use Rattle.page_rows.specs.declared.Interface.{Interface}
 use Rattle.page_rows.specs.declared.Row.{Row}
 use Rattle.page_rows.specs.declared.Found.{Found}
 use Rattle.page_rows.specs.declared.Found.the-variants.{At, Nothing}
@@ -13,7 +14,7 @@ use Rattle.page_read.specs.declared.Judged.{Judged}
 use Rattle.page_read.specs.declared.Judged.the-variants.{Frame, Refused}
 use Rattle.refusals.specs.declared.Refusal.the-variants.{NoLabel, NoRawNumber, NoSignal}
 use Rattle.page_rows.specs.Table.{rows, noRow, bigOf, firstAt, isSignal, takes}
-use Rattle.page_read.specs.Judge.{judgeOf}
+use Rattle.page_read.specs.Judge.{judgeOn, judgeOf}
 use Rattle.page_write.specs.Raws.{putRaw}
 
 -- 7, then 5 for the new label, with the start of the changed signal: by whether the number fits, and whether it has a label
@@ -36,6 +37,10 @@ abbrev pub changedIn : ℕ → ℤ → Judged → Judged
 changedIn s z (Frame k n) = changedAt k n z (firstAt (isSignal k s) 0 rows)
 changedIn s z (Refused w) = Refused w
 
+unfoldable pub changeOn : Interface → ℕ → Bool → List ℕ → ℕ → ℤ → Judged
+changeOn iface m extended bs s z = changedIn s z (judgeOn iface m extended bs)
+
+-- on the newer interface
 unfoldable pub changeOf : ℕ → Bool → List ℕ → ℕ → ℤ → Judged
 changeOf m extended bs s z = changedIn s z (judgeOf m extended bs)
 

@@ -6,6 +6,7 @@ use mathlib.Core.List.{List}
 use lib.IntN.{ℤ}
 use Rattle.payload.specs.Payload.{numberOf}
 use Rattle.signal.specs.Raw.{fitsIn, bitsIn}
+use Rattle.page_rows.specs.declared.Interface.{Interface}
 use Rattle.page_rows.specs.declared.Row.{Row}
 use Rattle.page_rows.specs.Table.{bigOf, takes}
 use Rattle.page_rows.specs.Listed.{SignalAt}
@@ -13,8 +14,8 @@ use Rattle.page_write.specs.Taken.{Taken}
 use Rattle.page_write.specs.Raws.{putRaw}
 
 -- the lent frame is one of kind k, the signal is that row's, z fits it and has its label, and n′ is the frame's number with z put there
-pub record Changed (m : ℕ) (extended : Bool) (bs : List ℕ) (s : ℕ) (z : ℤ) (k n′ : ℕ) : Type 0 where
-  pub read : Taken m extended bs k (numberOf (bigOf k) bs)
+pub record Changed (iface : Interface) (m : ℕ) (extended : Bool) (bs : List ℕ) (s : ℕ) (z : ℤ) (k n′ : ℕ) : Type 0 where
+  pub read : Taken iface m extended bs k (numberOf (bigOf k) bs)
   pub row : Row
   pub signal : SignalAt k s row
   pub fits : fitsIn (row .signed) (row .width) z ≡ true

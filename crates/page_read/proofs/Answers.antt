@@ -11,6 +11,7 @@ use lib.Dec.{eqb, ltb}
 use lib.ListN.{length}
 use borrow.Author.Tests.{eq-eqb, ne-eqb, eqb-true, eqb-false, lt-ltb, le-ltb, ltb-true, ltb-false, not-false}
 use Rattle.payload.specs.Payload.{numberOf}
+use Rattle.page_rows.specs.declared.Interface.{Interface}
 use Rattle.page_rows.specs.declared.Row.{Row}
 use Rattle.page_rows.specs.declared.Found.{Found}
 use Rattle.page_rows.specs.declared.Found.the-variants.{At, Nothing}
@@ -18,12 +19,13 @@ use Rattle.page_read.specs.declared.Judged.{Judged}
 use Rattle.page_read.specs.declared.Judged.the-variants.{Frame, Refused}
 use Rattle.refusals.specs.declared.Refusal.the-variants.{UnknownIdentifier, TooShort, TooLong, NoLabel, UncoveredBit}
 use Rattle.page_rows.specs.Messages.{messageOf}
-use Rattle.page_rows.specs.Table.{rows, rowAt, rowsOf, firstAt, hasId, bitsAt, takes}
+use Rattle.page_rows.specs.Table.{rowAt, rowsOf, bitsAt, takes}
+use Rattle.page_rows.specs.Interfaces.{withId}
 use Rattle.page_rows.specs.Listed.{Among}
-use Rattle.page_read.specs.Judge.{unlabelled, offender, strayBelow, judgedNumber, judgedRow, judgedAt, judgeOf}
+use Rattle.page_read.specs.Judge.{unlabelled, offender, strayBelow, judgedNumber, judgedRow, judgedAt, judgeOn}
 use Rattle.page_read.specs.Refusing.{OfKind, numberIn}
 use Rattle.page_rows.proofs.Rules.{either-false}
-use Rattle.page_rows.proofs.Listed.{found-listed, listed-found}
+use Rattle.page_rows.proofs.Interfaces.{found-has, has-found}
 
 -- ---- the length
 
@@ -42,19 +44,19 @@ beyond a b h d = omega arith
 -- ---- identifier and length
 
 -- the frame passed 3, 4 and 15, and a is what its number is answered
-pub record Reached (m : ℕ) (x : Bool) (bs : List ℕ) (a : Judged) : Type 0 where
+pub record Reached (iface : Interface) (m : ℕ) (x : Bool) (bs : List ℕ) (a : Judged) : Type 0 where
   pub place : ℕ
-  pub found : firstAt (hasId m x) 0 rows ≡ At place
+  pub found : withId iface m x ≡ At place
   pub sized : length bs ≡ rowAt place .bytes
   pub judged : judgedNumber (rowAt place .kind) (8 * length bs) (numberOf (rowAt place .big) bs) ≡ a
 
-pub reached : (m : ℕ) (x : Bool) (bs : List ℕ) (a : Judged) → judgeOf m x bs ≡ a
-    → (a ≡ Refused UnknownIdentifier → ⊥) → (a ≡ Refused TooShort → ⊥) → (a ≡ Refused TooLong → ⊥) → Reached m x bs a
-unfolding judgeOf
-reached m x bs a e n3 n4 n15 = outer (firstAt (hasId m x) 0 rows) refl e
+pub reached : (iface : Interface) (m : ℕ) (x : Bool) (bs : List ℕ) (a : Judged) → judgeOn iface m x bs ≡ a
+    → (a ≡ Refused UnknownIdentifier → ⊥) → (a ≡ Refused TooShort → ⊥) → (a ≡ Refused TooLong → ⊥) → Reached iface m x bs a
+unfolding judgeOn
+reached iface m x bs a e n3 n4 n15 = outer (withId iface m x) refl e
   where
-    inner : (i : ℕ) (l t : Bool) → firstAt (hasId m x) 0 rows ≡ At i → eqb (length bs) (rowAt i .bytes) ≡ l → ltb (length bs) (rowAt i .bytes) ≡ t
-        → judgedRow (rowAt i) bs ≡ a → Reached m x bs a
+    inner : (i : ℕ) (l t : Bool) → withId iface m x ≡ At i → eqb (length bs) (rowAt i .bytes) ≡ l → ltb (length bs) (rowAt i .bytes) ≡ t
+        → judgedRow (rowAt i) bs ≡ a → Reached iface m x bs a
     inner i true t f p q e =
         let sized = eqb-true (length bs) (rowAt i .bytes) p in
         record { place = i; found = f; sized = sized; judged = sym (row-right bs (rowAt i) sized) ∙ e }
@@ -62,13 +64,13 @@ reached m x bs a e n3 n4 n15 = outer (firstAt (hasId m x) 0 rows) refl e
     inner i false false f p q e =
         absurd (n15 (sym e ∙ row-long bs (rowAt i) (beyond (length bs) (rowAt i .bytes) (ltb-false (length bs) (rowAt i .bytes) q) (eqb-false (length bs) (rowAt i .bytes) p))))
 
-    outer : (f : Found) → firstAt (hasId m x) 0 rows ≡ f → judgedAt bs f ≡ a → Reached m x bs a
+    outer : (f : Found) → withId iface m x ≡ f → judgedAt bs f ≡ a → Reached iface m x bs a
     outer (At i) f e = inner i (eqb (length bs) (rowAt i .bytes)) (ltb (length bs) (rowAt i .bytes)) f refl refl e
     outer Nothing f e = absurd (n3 (sym e))
 
-pub reached-frame : (m : ℕ) (x : Bool) (bs : List ℕ) (k n : ℕ) → judgeOf m x bs ≡ Frame k n → Reached m x bs (Frame k n)
-reached-frame m x bs k n e =
-    reached m x bs (Frame k n) e (λ q. let z : _≡_ {A = ℕ} 0 1 = cc in omega arith) (λ q. let z : _≡_ {A = ℕ} 0 1 = cc in omega arith) (λ q. let z : _≡_ {A = ℕ} 0 1 = cc in omega arith)
+pub reached-frame : (iface : Interface) (m : ℕ) (x : Bool) (bs : List ℕ) (k n : ℕ) → judgeOn iface m x bs ≡ Frame k n → Reached iface m x bs (Frame k n)
+reached-frame iface m x bs k n e =
+    reached iface m x bs (Frame k n) e (λ q. let z : _≡_ {A = ℕ} 0 1 = cc in omega arith) (λ q. let z : _≡_ {A = ℕ} 0 1 = cc in omega arith) (λ q. let z : _≡_ {A = ℕ} 0 1 = cc in omega arith)
 
 -- a number that is answered a frame
 pub taken : (k bits n k′ n′ : ℕ) → judgedNumber k bits n ≡ Frame k′ n′
@@ -109,22 +111,22 @@ sixth k bits n e = go (unlabelled n (rowsOf k)) (strayBelow bits n (rowsOf k)) r
 
 -- ---- the frame's kind
 
-module _ (m : ℕ) (x : Bool) (bs : List ℕ) (a : Judged) (c : Reached m x bs a) where
+module _ (iface : Interface) (m : ℕ) (x : Bool) (bs : List ℕ) (a : Judged) (c : Reached iface m x bs a) where
   -- it is of the kind of the row that is found, in whose byte order its number is read
-  pub reached-kind : OfKind m x bs (rowAt (c .place) .kind)
+  pub reached-kind : OfKind iface m x bs (rowAt (c .place) .kind)
   reached-kind =
-      let t = found-listed m x (c .place) (c .found) in
-      record { listed = t .listed; sized = c .sized ∙ sym (t .bytes) }
+      let t = found-has iface m x (c .place) (c .found) in
+      record { has = t .has; sized = c .sized ∙ sym (t .bytes) }
 
   pub reached-number : numberIn (rowAt (c .place) .kind) bs ≡ numberOf (rowAt (c .place) .big) bs
-  reached-number = ap (λ (b : Bool). numberOf b bs) (found-listed m x (c .place) (c .found) .big)
+  reached-number = ap (λ (b : Bool). numberOf b bs) (found-has iface m x (c .place) (c .found) .big)
 
 -- a frame of kind k is answered what its number is
-pub of-kind : (m : ℕ) (x : Bool) (bs : List ℕ) (k : ℕ) → OfKind m x bs k → judgeOf m x bs ≡ judgedNumber k (8 * length bs) (numberIn k bs)
-unfolding judgeOf
-of-kind m x bs k o =
-    let p = listed-found m x k (o .listed) in
-    let t = found-listed m x (p .0) (p .1) in
+pub of-kind : (iface : Interface) (m : ℕ) (x : Bool) (bs : List ℕ) (k : ℕ) → OfKind iface m x bs k → judgeOn iface m x bs ≡ judgedNumber k (8 * length bs) (numberIn k bs)
+unfolding judgeOn
+of-kind iface m x bs k o =
+    let p = has-found iface m x k (o .has) in
+    let t = found-has iface m x (p .0) (p .1) in
     let size : length bs ≡ rowAt (p .0) .bytes = o .sized ∙ ap (λ (j : ℕ). messageOf j .2) (sym (p .2)) ∙ t .bytes in
     let big : rowAt (p .0) .big ≡ messageOf k .3 = sym (t .big) ∙ ap (λ (j : ℕ). messageOf j .3) (p .2) in
     rw (p .1, eq-eqb (length bs) (rowAt (p .0) .bytes) size) (ap₂ (λ (j : ℕ) (b : Bool). judgedNumber j (8 * length bs) (numberOf b bs)) (p .2) big)

@@ -4,5 +4,7 @@ pub mod Answers
 pub mod Strays
 pub mod Offenders
 pub mod Refusing
+pub mod Interfaces
+pub mod Searched
 pub mod Worked
 pub mod Starts

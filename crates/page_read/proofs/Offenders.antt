@@ -10,6 +10,7 @@ use native.Mathlib.Omega.{arith}
 use lib.Dec.{eqb}
 use lib.ListN.{length}
 use Rattle.payload.specs.Payload.{numberOf}
+use Rattle.page_rows.specs.declared.Interface.{Interface}
 use Rattle.page_rows.specs.declared.Row.{Row}
 use Rattle.page_read.specs.declared.Offence.{Offence}
 use Rattle.page_read.specs.declared.Offence.the-variants.{Start, Nothing}
@@ -17,7 +18,7 @@ use Rattle.page_read.specs.declared.Judged.the-variants.{Frame, Refused}
 use Rattle.refusals.specs.declared.Refusal.the-variants.{NoLabel, UncoveredBit}
 use Rattle.page_rows.specs.Table.{rowAt, rowsOf, lengthOf, bitsAt, takes}
 use Rattle.page_rows.specs.Listed.{Among}
-use Rattle.page_read.specs.Judge.{unlabelled, offends, offender, strayBelow, judgedNumber, judgeOf}
+use Rattle.page_read.specs.Judge.{unlabelled, offends, offender, strayBelow, judgedNumber, judgeOn}
 use Rattle.page_read.specs.Refusing.{numberIn, SomeOffence, FirstOffence}
 use Rattle.page_read.specs.Steps.{offenceOf, cleared, judgedBy}
 use Rattle.page_rows.proofs.Rules.{not-both, Ordered, ordered}
@@ -110,21 +111,21 @@ judged-by k n h =
 -- ---- 02's words, over what reading answers
 
 -- THEOREM: refusal 5 carries the start bit of the first offending signal
-pub first-offence : (m : ℕ) (x : Bool) (bs : List ℕ) (s : ℕ) → judgeOf m x bs ≡ Refused (NoLabel s) → FirstOffence m x bs s
-first-offence m x bs s e =
-    go (reached m x bs (Refused (NoLabel s)) e (λ q. let z : _≡_ {A = ℕ} 0 1 = cc in omega arith) (λ q. let z : _≡_ {A = ℕ} 0 1 = cc in omega arith)
+pub first-offence : (iface : Interface) (m : ℕ) (x : Bool) (bs : List ℕ) (s : ℕ) → judgeOn iface m x bs ≡ Refused (NoLabel s) → FirstOffence iface m x bs s
+first-offence iface m x bs s e =
+    go (reached iface m x bs (Refused (NoLabel s)) e (λ q. let z : _≡_ {A = ℕ} 0 1 = cc in omega arith) (λ q. let z : _≡_ {A = ℕ} 0 1 = cc in omega arith)
     (λ q. let z : _≡_ {A = ℕ} 0 1 = cc in omega arith))
   where
-    go : Reached m x bs (Refused (NoLabel s)) → FirstOffence m x bs s
+    go : Reached iface m x bs (Refused (NoLabel s)) → FirstOffence iface m x bs s
     go c =
         let k = rowAt (c .place) .kind in
         let n = numberOf (rowAt (c .place) .big) bs in
-        let same : numberIn k bs ≡ n = reached-number m x bs (Refused (NoLabel s)) c in
+        let same : numberIn k bs ≡ n = reached-number iface m x bs (Refused (NoLabel s)) c in
         let f = fifth k (8 * length bs) n s (c .judged) in
         let o = offender-is (8 * lengthOf k) 0 n (rowsOf k) (ordered k) (f .0) in
         record {
           kind = k;
-          frame = reached-kind m x bs (Refused (NoLabel s)) c;
+          frame = reached-kind iface m x bs (Refused (NoLabel s)) c;
           signal = o .0;
           isSignal = record { isSignal = o .1; start = o .2 ∙ f .1 };
           offending = ap (λ (y : ℕ). offends y (o .0)) same ∙ o .3;
@@ -132,19 +133,19 @@ first-offence m x bs s e =
         }
 
 -- a frame of a kind with a signal that offends gets 5, with the lowest start
-pub offence-answer : (m : ℕ) (x : Bool) (bs : List ℕ) (o : SomeOffence m x bs) → judgeOf m x bs ≡ Refused (NoLabel (offender (numberIn (o .kind) bs) (rowsOf (o .kind))))
+pub offence-answer : (iface : Interface) (m : ℕ) (x : Bool) (bs : List ℕ) (o : SomeOffence iface m x bs) → judgeOn iface m x bs ≡ Refused (NoLabel (offender (numberIn (o .kind) bs) (rowsOf (o .kind))))
 unfolding judgedNumber
-offence-answer m x bs o =
-    of-kind m x bs (o .kind) (o .frame) ∙ rw (unlabelled-by (numberIn (o .kind) bs) (o .signal) (rowsOf (o .kind)) (o .isSignal) (o .offending))
+offence-answer iface m x bs o =
+    of-kind iface m x bs (o .kind) (o .frame) ∙ rw (unlabelled-by (numberIn (o .kind) bs) (o .signal) (rowsOf (o .kind)) (o .isSignal) (o .offending))
 
 -- THEOREM: and is given there
-pub offence-given : (m : ℕ) (x : Bool) (bs : List ℕ) (s : ℕ) → FirstOffence m x bs s → judgeOf m x bs ≡ Refused (NoLabel s)
-offence-given m x bs s f =
+pub offence-given : (iface : Interface) (m : ℕ) (x : Bool) (bs : List ℕ) (s : ℕ) → FirstOffence iface m x bs s → judgeOn iface m x bs ≡ Refused (NoLabel s)
+offence-given iface m x bs s f =
     let k = f .kind in
     let n = numberIn k bs in
     let a = f .isSignal .isSignal in
     let o = offender-is (8 * lengthOf k) 0 n (rowsOf k) (ordered k) (unlabelled-by n (f .signal) (rowsOf k) a (f .offending)) in
     let e : offender n (rowsOf k) ≡ s
     = omega (arith, offender-least n (f .signal) (rowsOf k) a (f .offending), f .isSignal .start, f .lowest (o .0) (o .1) (o .3), o .2) in
-    offence-answer m x bs (record { kind = k; frame = f .frame; signal = f .signal; isSignal = a; offending = f .offending })
+    offence-answer iface m x bs (record { kind = k; frame = f .frame; signal = f .signal; isSignal = a; offending = f .offending })
     ∙ ap (λ (y : ℕ). Refused (NoLabel y)) e

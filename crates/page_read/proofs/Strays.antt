@@ -12,12 +12,13 @@ use Rattle.payload.specs.Payload.{numberOf, bitAt, Bytes}
 use Rattle.payload.specs.Order.{place}
 use Rattle.signal.proofs.Complement.{half-of}
 use Rattle.payload.proofs.Words.{place-lt, place-place, bit-of, bit-past}
+use Rattle.page_rows.specs.declared.Interface.{Interface}
 use Rattle.page_rows.specs.declared.Row.{Row}
 use Rattle.page_read.specs.declared.Judged.the-variants.{Frame, Refused}
 use Rattle.refusals.specs.declared.Refusal.the-variants.{UncoveredBit}
 use Rattle.page_rows.specs.Table.{rowAt, rowsOf, lengthOf, bigOf, HasBit, covered}
 use Rattle.page_rows.specs.Listed.{Among}
-use Rattle.page_read.specs.Judge.{unlabelled, strayBelow, judgedNumber, judgeOf}
+use Rattle.page_read.specs.Judge.{unlabelled, strayBelow, judgedNumber, judgeOn}
 use Rattle.page_read.specs.Refusing.{numberIn, Uncovered}
 use Rattle.page_rows.proofs.Heads.{says}
 use Rattle.page_rows.proofs.PageBits.{no-signal, no-place}
@@ -54,15 +55,15 @@ bit-one k bs hb s e =
 -- ---- the theorems
 
 -- THEOREM: refusal 6 is given only where "a bit that no signal covers is 1"
-pub uncovered : (m : ℕ) (x : Bool) (bs : List ℕ) → Bytes bs → judgeOf m x bs ≡ Refused UncoveredBit → Uncovered m x bs
-uncovered m x bs hb e =
-    go (reached m x bs (Refused UncoveredBit) e (λ q. let z : _≡_ {A = ℕ} 0 1 = cc in omega arith) (λ q. let z : _≡_ {A = ℕ} 0 1 = cc in omega arith) (λ q. let z : _≡_ {A = ℕ} 0 1 = cc in omega arith))
+pub uncovered : (iface : Interface) (m : ℕ) (x : Bool) (bs : List ℕ) → Bytes bs → judgeOn iface m x bs ≡ Refused UncoveredBit → Uncovered iface m x bs
+uncovered iface m x bs hb e =
+    go (reached iface m x bs (Refused UncoveredBit) e (λ q. let z : _≡_ {A = ℕ} 0 1 = cc in omega arith) (λ q. let z : _≡_ {A = ℕ} 0 1 = cc in omega arith) (λ q. let z : _≡_ {A = ℕ} 0 1 = cc in omega arith))
   where
-    go : Reached m x bs (Refused UncoveredBit) → Uncovered m x bs
+    go : Reached iface m x bs (Refused UncoveredBit) → Uncovered iface m x bs
     go c =
         let k = rowAt (c .place) .kind in
-        let o = reached-kind m x bs (Refused UncoveredBit) c in
-        let n = reached-number m x bs (Refused UncoveredBit) c in
+        let o = reached-kind iface m x bs (Refused UncoveredBit) c in
+        let n = reached-number iface m x bs (Refused UncoveredBit) c in
         let w = says k in
         let d = sixth k (8 * length bs) (numberOf (rowAt (c .place) .big) bs) (c .judged) in
         let b = bit-one k bs hb (o .sized ∙ w .2)
@@ -78,10 +79,10 @@ uncovered m x bs hb e =
         }
 
 -- THEOREM: and given there
-pub uncovered-given : (m : ℕ) (x : Bool) (bs : List ℕ) → Bytes bs → Uncovered m x bs → judgeOf m x bs ≡ Refused UncoveredBit
+pub uncovered-given : (iface : Interface) (m : ℕ) (x : Bool) (bs : List ℕ) → Bytes bs → Uncovered iface m x bs → judgeOn iface m x bs ≡ Refused UncoveredBit
 unfolding judgedNumber
-uncovered-given m x bs hb u =
-    of-kind m x bs (u .kind) (u .frame)
+uncovered-given iface m x bs hb u =
+    of-kind iface m x bs (u .kind) (u .frame)
     ∙ rw (each-labelled (numberIn (u .kind) bs) (rowsOf (u .kind)) (u .labelled)) (go (strayBelow (8 * length bs) (numberIn (u .kind) bs) (rowsOf (u .kind))) refl)
   where
     go : (b : Bool) → strayBelow (8 * length bs) (numberIn (u .kind) bs) (rowsOf (u .kind)) ≡ b
@@ -95,16 +96,16 @@ uncovered-given m x bs hb u =
         absurd (omega (arith, z, u .isOne))
 
 -- THEOREM: in an accepted frame every bit that no signal has is 0
-pub covered-all : (m : ℕ) (x : Bool) (bs : List ℕ) (k n : ℕ) → judgeOf m x bs ≡ Frame k n → Bytes bs
+pub covered-all : (iface : Interface) (m : ℕ) (x : Bool) (bs : List ℕ) (k n : ℕ) → judgeOn iface m x bs ≡ Frame k n → Bytes bs
     → (b : ℕ) → ((r : Row) → Among r (rowsOf k) → HasBit r b → ⊥) → bitAt bs b ≡ 0
-covered-all m x bs k n e hb b u = go (reached-frame m x bs k n e) (half-of (8 * length bs) b)
+covered-all iface m x bs k n e hb b u = go (reached-frame iface m x bs k n e) (half-of (8 * length bs) b)
   where
-    go : Reached m x bs (Frame k n) → (b < 8 * length bs) ⊎ (8 * length bs ≤ b) → bitAt bs b ≡ 0
+    go : Reached iface m x bs (Frame k n) → (b < 8 * length bs) ⊎ (8 * length bs ≤ b) → bitAt bs b ≡ 0
     go c (inl l) =
         let j = rowAt (c .place) .kind in
         let w = says j in
         let t = taken j (8 * length bs) (numberOf (rowAt (c .place) .big) bs) k n (c .judged) in
-        bit-zero j bs b hb (reached-kind m x bs (Frame k n) c .sized ∙ w .2)
-        (ap (λ (y : ℕ). strayBelow (8 * length bs) y (rowsOf j)) (ap (λ (z : Bool). numberOf z bs) (sym (w .3)) ∙ reached-number m x bs (Frame k n) c) ∙ t .3) l
+        bit-zero j bs b hb (reached-kind iface m x bs (Frame k n) c .sized ∙ w .2)
+        (ap (λ (y : ℕ). strayBelow (8 * length bs) y (rowsOf j)) (ap (λ (z : Bool). numberOf z bs) (sym (w .3)) ∙ reached-number iface m x bs (Frame k n) c) ∙ t .3) l
         (subst (λ (y : ℕ). (q : Row) → Among q (rowsOf y) → HasBit q b → ⊥) (sym (t .0)) u)
     go c (inr l) = bit-past bs b l

@@ -12,11 +12,12 @@ use Rattle.signal.specs.Signal.{getBits}
 use Rattle.payload.specs.Payload.{leNumber, beNumber, leBytes, numberOf, bitAt, Bytes}
 use Rattle.payload.specs.Order.{walk, place}
 use Rattle.payload.proofs.Orders.{are-of}
+use Rattle.page_rows.specs.declared.Interface.the-variants.{Newer}
 use Rattle.page_rows.specs.Table.{rows, ofKind, firstAt, rowAt, rowsOf, lengthOf, bigOf, bitsAt, covered}
 use Rattle.page_rows.specs.Listed.{Among}
 use Rattle.page_rows.proofs.PageBits.{page-bit, no-signal}
 use Rattle.page_read.specs.declared.Judged.the-variants.{Frame, Refused}
-use Rattle.page_read.specs.Judge.{unlabelled, offender, strayBelow, judgedNumber, judgeOf}
+use Rattle.page_read.specs.Judge.{unlabelled, offender, strayBelow, judgedNumber, judgeOn}
 use Rattle.page_read.specs.Refusing.{FirstOffence, Uncovered}
 use Rattle.page_read.proofs.Strays.{covered-all}
 use Rattle.page_read.proofs.Offenders.{first-offence, offence-given}
@@ -36,9 +37,9 @@ bytes : Bytes duty × Bytes stray
 unfolding leBytes
 bytes = (are-of false 8 0x1582, are-of false 8 0x8000000000001582)
 
-computed : (judgeOf 6 false duty ≡ Frame 9 0x8215000000000000) × (judgeOf 6 false stray ≡ Refused UncoveredBit) × (judgeOf 0x6b001 true session ≡ Refused (NoLabel 0))
+computed : (judgeOn Newer 6 false duty ≡ Frame 9 0x8215000000000000) × (judgeOn Newer 6 false stray ≡ Refused UncoveredBit) × (judgeOn Newer 0x6b001 true session ≡ Refused (NoLabel 0))
     × (covered (rowsOf 9) (place (bigOf 9) (lengthOf 9) 63) ≡ false)
-unfolding rows ofKind firstAt lengthOf bigOf covered unlabelled offender strayBelow judgedNumber judgeOf getBits leNumber beNumber
+unfolding rows ofKind firstAt lengthOf bigOf covered unlabelled offender strayBelow judgedNumber judgeOn getBits leNumber beNumber
 computed = (refl, refl, refl, refl)
 
 -- the duty's lowest bit is bit 0 of byte 1
@@ -52,18 +53,18 @@ duty-bit = page-bit 9 duty (rowAt 30) 0 (first-row .0) (bytes .0) (first-row .1)
 
 -- the accepted frame has 0 there
 pub bit-63 : bitAt duty 63 ≡ 0
-bit-63 = covered-all 6 false duty 9 0x8215000000000000 (computed .0) (bytes .0) 63 (no-signal 9 63 (computed .3))
+bit-63 = covered-all Newer 6 false duty 9 0x8215000000000000 (computed .0) (bytes .0) 63 (no-signal 9 63 (computed .3))
 
 -- the other has 1 at a bit that no signal has
-pub strays : Uncovered 6 false stray
-strays = gives-6 6 false stray (bytes .1) .0 (UncoveredBit, computed .1, refl)
+pub strays : Uncovered Newer 6 false stray
+strays = gives-6 Newer 6 false stray (bytes .1) .0 (UncoveredBit, computed .1, refl)
 
 -- the protocol is the first that offends
-pub protocol : FirstOffence 0x6b001 true session 0
-protocol = first-offence 0x6b001 true session 0 (computed .2)
+pub protocol : FirstOffence Newer 0x6b001 true session 0
+protocol = first-offence Newer 0x6b001 true session 0 (computed .2)
 
-pub protocol-given : judgeOf 0x6b001 true session ≡ Refused (NoLabel 0)
-protocol-given = offence-given 0x6b001 true session 0 protocol
+pub protocol-given : judgeOn Newer 0x6b001 true session ≡ Refused (NoLabel 0)
+protocol-given = offence-given Newer 0x6b001 true session 0 protocol
 
 pub five : ((3 ≤ 5) × (5 ≤ 6)) ⊎ (_≡_ {A = ℕ} 5 15)
-five = reading-gives 0x6b001 true session 5 (NoLabel 0, computed .2, refl)
+five = reading-gives Newer 0x6b001 true session 5 (NoLabel 0, computed .2, refl)

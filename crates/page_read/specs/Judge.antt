@@ -6,6 +6,8 @@ use lib.Dec.{eqb, ltb}
 use lib.ListN.{length, getD}
 use Rattle.signal.specs.Signal.{getBits}
 use Rattle.payload.specs.Payload.{numberOf}
+use Rattle.page_rows.specs.declared.Interface.{Interface}
+use Rattle.page_rows.specs.declared.Interface.the-variants.{Newer}
 use Rattle.page_rows.specs.declared.Row.{Row}
 use Rattle.page_rows.specs.declared.Found.{Found}
 use Rattle.page_rows.specs.declared.Found.the-variants.{At, Nothing}
@@ -13,7 +15,8 @@ use Rattle.page_read.specs.declared.Judged.{Judged}
 use Rattle.page_read.specs.declared.Judged.the-variants.{Frame, Refused}
 use Rattle.refusals.specs.declared.Refusal.{Refusal}
 use Rattle.refusals.specs.declared.Refusal.the-variants.{UnknownIdentifier, TooShort, TooLong, NoLabel, UncoveredBit}
-use Rattle.page_rows.specs.Table.{rows, noRow, rowsOf, firstAt, hasId, bitsAt, covered, takes}
+use Rattle.page_rows.specs.Table.{rows, noRow, rowsOf, bitsAt, covered, takes}
+use Rattle.page_rows.specs.Interfaces.{withId}
 
 -- 5: "a label signal holds a number without a label"
 unfoldable pub unlabelled : ℕ → List Row → Bool
@@ -53,6 +56,11 @@ abbrev pub judgedAt : List ℕ → Found → Judged
 judgedAt bs (At i) = judgedRow (getD rows i noRow) bs
 judgedAt bs Nothing = Refused UnknownIdentifier
 
--- 3 first: "identifier not in the table", in this form; 02, Req 04: "Refusal 3 and E4 now read over the wider table"
+-- 3 first: "identifier not in the table", in this form; 02, Req 04: "Refusal 3 and E4 now read over the wider table". Of the interface's own pages alone: a
+-- reader without a post gives 3 for the other's identifiers
+unfoldable pub judgeOn : Interface → ℕ → Bool → List ℕ → Judged
+judgeOn iface m extended bs = judgedAt bs (withId iface m extended)
+
+-- on the newer interface: the pages of 000 and 004
 unfoldable pub judgeOf : ℕ → Bool → List ℕ → Judged
-judgeOf m extended bs = judgedAt bs (firstAt (hasId m extended) 0 rows)
+judgeOf m extended bs = judgedAt bs (withId Newer m extended)

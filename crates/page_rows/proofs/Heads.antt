@@ -1,5 +1,4 @@
--- What the messages say is what the rows say: of a kind (`says`), where its rows stand (`first-place`, `no-kind`), and which has an identifier (`id-found`,
--- `id-none`).
+-- What the messages say is what the rows say: of a kind (`says`), where its rows stand (`first-place`, `no-kind`), and which has an identifier (`id-place`).
 -- Assumes nothing.
 use mathlib.Core.Path.{_≡_, refl, sym, ap, ap₂, _∙_, subst}
 use mathlib.Core.Bool.{Bool, true, false, not, _&&_}
@@ -16,7 +15,7 @@ use Rattle.page_rows.specs.declared.Message.{Message}
 use Rattle.page_rows.specs.declared.Found.{Found}
 use Rattle.page_rows.specs.declared.Found.the-variants.{At, Nothing}
 use Rattle.page_rows.specs.declared.FoundMessage.the-variants as message
-use Rattle.page_rows.specs.Messages.{kindCount, messages, noMessage, messageOf, same, keyOf}
+use Rattle.page_rows.specs.Messages.{messageCount, messages, noMessage, messageOf, same, keyOf}
 use Rattle.page_rows.specs.Table.{rows, rowAt, hasKind, hasId, rowsOf, headRow, firstAt, kindFound, withMessage, identifierOf, extendedOf, lengthOf, bigOf}
 use Rattle.page_rows.specs.Rules.{every}
 use Rattle.page_rows.proofs.Rules.{both-true, same-true, rows-length, every-at, every-so, id-true}
@@ -30,7 +29,7 @@ use Rattle.page_rows.proofs.Below.{allBelow, below-at}
 abbrev pub agrees : Row → Bool
 agrees r =
     let m = messageOf (r .kind) in
-    ltb (r .kind) kindCount && eqb (m .0) (r .id) && same (m .1) (r .extended) && eqb (m .2) (r .bytes) && same (m .3) (r .big)
+    ltb (r .kind) messageCount && eqb (m .0) (r .id) && same (m .1) (r .extended) && eqb (m .2) (r .bytes) && same (m .3) (r .big)
 
 pub rows-agree : every agrees rows ≡ true
 unfolding rows
@@ -41,14 +40,14 @@ abbrev foundAt : ℕ → Found → Bool
 foundAt i (At j) = eqb j i
 foundAt i Nothing = false
 
-all-placed : allBelow (λ k. foundAt (messageOf k .4) (firstAt (hasKind k) 0 rows)) kindCount ≡ true
+all-placed : allBelow (λ k. foundAt (messageOf k .4) (firstAt (hasKind k) 0 rows)) messageCount ≡ true
 unfolding allBelow rows firstAt
 all-placed = refl
 
 -- ---- what they tell
 
 pub record Agreed (r : Row) : Type 0 where
-  pub kind : r .kind < kindCount
+  pub kind : r .kind < messageCount
   pub id : messageOf (r .kind) .0 ≡ r .id
   pub extended : messageOf (r .kind) .1 ≡ r .extended
   pub bytes : messageOf (r .kind) .2 ≡ r .bytes
@@ -57,7 +56,7 @@ pub record Agreed (r : Row) : Type 0 where
 pub agreed : (r : Row) → agrees r ≡ true → Agreed r
 agreed r e =
     let m = messageOf (r .kind) in
-    let a = ltb (r .kind) kindCount in
+    let a = ltb (r .kind) messageCount in
     let b = eqb (m .0) (r .id) in
     let d = same (m .1) (r .extended) in
     let f = eqb (m .2) (r .bytes) in
@@ -66,22 +65,22 @@ agreed r e =
     let u = both-true (a && b) d (s .0) in
     let v = both-true a b (u .0) in
     record {
-      kind = ltb-true (r .kind) kindCount (v .0);
+      kind = ltb-true (r .kind) messageCount (v .0);
       id = eqb-true (m .0) (r .id) (v .1);
       extended = same-true (m .1) (r .extended) (u .1);
       bytes = eqb-true (m .2) (r .bytes) (s .1);
       big = same-true (m .3) (r .big) (t .1);
     }
 
-pub first-place : (k : ℕ) → k < kindCount → firstAt (hasKind k) 0 rows ≡ At (messageOf k .4)
+pub first-place : (k : ℕ) → k < messageCount → firstAt (hasKind k) 0 rows ≡ At (messageOf k .4)
 first-place k h =
-    go (firstAt (hasKind k) 0 rows) (below-at (λ j. foundAt (messageOf j .4) (firstAt (hasKind j) 0 rows)) kindCount k all-placed h)
+    go (firstAt (hasKind k) 0 rows) (below-at (λ j. foundAt (messageOf j .4) (firstAt (hasKind j) 0 rows)) messageCount k all-placed h)
   where
     go : (f : Found) → foundAt (messageOf k .4) f ≡ true → f ≡ At (messageOf k .4)
     go (At j) e = ap At (eqb-true j (messageOf k .4) e)
     go Nothing e = absurd (let z : _≡_ {A = ℕ} 0 1 = cc in omega arith)
 
-pub no-kind : (k : ℕ) → kindCount ≤ k → firstAt (hasKind k) 0 rows ≡ Nothing
+pub no-kind : (k : ℕ) → messageCount ≤ k → firstAt (hasKind k) 0 rows ≡ Nothing
 no-kind k h =
     none-found (hasKind k) 0 rows
     (every-so agrees (λ r. not (hasKind k r)) (λ r e. ap not (ne-eqb (r .kind) k (λ q. omega (arith, agreed r e .kind)))) rows rows-agree)
@@ -93,9 +92,9 @@ Says k = (messageOf k .0 ≡ identifierOf k) × (messageOf k .1 ≡ extendedOf k
 
 pub says : (k : ℕ) → Says k
 unfolding identifierOf extendedOf lengthOf bigOf
-says k = go (half-of kindCount k)
+says k = go (half-of messageCount k)
   where
-    go : (k < kindCount) ⊎ (kindCount ≤ k) → Says k
+    go : (k < messageCount) ⊎ (messageCount ≤ k) → Says k
     go (inl h) =
         let e = first-place k h in
         let i = messageOf k .4 in
@@ -130,7 +129,7 @@ abbrev pub kindKey : ℕ → ℕ
 kindKey k = keyOf (messageOf k .0) (messageOf k .1)
 
 -- it is that of kind k, whose first row is the first with the identifier
-pub id-place : (m : ℕ) (x : Bool) (k : ℕ) → k < kindCount → kindKey k ≡ keyOf m x
+pub id-place : (m : ℕ) (x : Bool) (k : ℕ) → k < messageCount → kindKey k ≡ keyOf m x
     → (firstAt (hasId m x) 0 rows ≡ At (messageOf k .4)) × (rowAt (messageOf k .4) .kind ≡ k)
 id-place m x k h e =
     let p = first-place k h in
@@ -144,23 +143,6 @@ id-place m x k h e =
     = ap₂ (λ (j : ℕ) (y : Bool). firstAt (hasId j y) 0 rows) (sym (t .0) ∙ s .0) (sym (t .1) ∙ s .1) ∙ n .1 in
     (found ∙ ap At (sym at), ap (λ (j : ℕ). rowAt j .kind) at ∙ n .2)
 
-pub id-found : (m : ℕ) (x : Bool) (k : ℕ) → k < kindCount → kindKey k ≡ keyOf m x → At k ≡ kindFound (firstAt (hasId m x) 0 rows)
-id-found m x k h e = let p = id-place m x k h e in sym (ap kindFound (p .0) ∙ ap At (p .1))
-
--- it is that of no kind
-pub id-none : (m : ℕ) (x : Bool) → ((k : ℕ) → k < kindCount → kindKey k ≡ keyOf m x → ⊥) → Nothing ≡ kindFound (firstAt (hasId m x) 0 rows)
-id-none m x n = ap kindFound (sym (none-found (hasId m x) 0 rows (every-so agrees (λ r. not (hasId m x r)) one rows rows-agree)))
-  where
-    one : (r : Row) → agrees r ≡ true → not (hasId m x r) ≡ true
-    one r e = go (hasId m x r) refl
-      where
-        go : (b : Bool) → hasId m x r ≡ b → not b ≡ true
-        go true t =
-            let a = agreed r e in
-            let w = id-true m x r t in
-            absurd (n (r .kind) (a .kind) (ap₂ keyOf (a .id ∙ w .0) (a .extended ∙ sym (w .1))))
-        go false t = refl
-
 -- the message of a kind that was found is that of the row
 pub kind-message : (k : ℕ) (f : Found) → kindFound f ≡ At k → ((i : ℕ) → f ≡ At i → firstAt (hasKind (rowAt i .kind)) 0 rows ≡ At i)
     → message.At k (messageOf k .4) (messageOf k .2) (messageOf k .3) ≡ withMessage f
@@ -169,7 +151,7 @@ kind-message k (At i) e first =
     let p : firstAt (hasKind k) 0 rows ≡ At i = subst (λ (j : ℕ). firstAt (hasKind j) 0 rows ≡ At i) q (first i refl) in
     let f = found-in (hasKind k) i p in
     let a = agreed (rowAt i) (every-at agrees rows rows-agree i (rw rows-length (f .0))) in
-    let below : k < kindCount = subst (λ (j : ℕ). j < kindCount) q (a .kind) in
+    let below : k < messageCount = subst (λ (j : ℕ). j < messageCount) q (a .kind) in
     let place : At (messageOf k .4) ≡ At i = sym (first-place k below) ∙ p in
     let at : messageOf k .4 ≡ i = cc in
     ap₂ (λ (u v : ℕ). message.At u v (messageOf k .2) (messageOf k .3)) (sym q) at

@@ -7,3 +7,4 @@ pub mod Heads
 pub mod Walk
 pub mod PageBits
 pub mod Listed
+pub mod Interfaces

@@ -2,6 +2,8 @@ pub mod Messages
 pub mod Layout
 pub mod Charger
 pub mod Safety
+pub mod Older
 pub mod Table
 pub mod Listed
+pub mod Interfaces
 pub mod Rules

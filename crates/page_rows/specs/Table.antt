@@ -1,5 +1,5 @@
--- The table: 01, "The message and signal layouts are one constant table". Messages holds its messages, Charger and Safety its rows: identifiers, lengths,
--- starts, widths, signs and labels stand there and nowhere else.
+-- The table: 01, "The message and signal layouts are one constant table". Messages holds its messages, Charger, Safety and Older its rows: identifiers,
+-- lengths, starts, widths, signs and labels stand there and nowhere else.
 use Prim.Native.Nat.{ℕ, suc, _+_, _/_, _%_, _^_, _≤_, _<_}
 use mathlib.Core.Path.{_≡_}
 use mathlib.Core.Bool.{Bool, true, false, cond, _&&_, _||_}
@@ -17,20 +17,21 @@ use Rattle.page_rows.specs.Messages.{same}
 use Rattle.page_rows.specs.Layout.{row}
 use Rattle.page_rows.specs.Charger.{chargerCount, chargerRows}
 use Rattle.page_rows.specs.Safety.{safetyCount, safetyRows}
+use Rattle.page_rows.specs.Older.{olderCount, olderRows}
 
 -- what stands past the end of the table
 abbrev pub noRow : Row
 noRow = row 0 0 false 0 false 0 0 false 0
 
 abbrev pub rowCount : ℕ
-rowCount = chargerCount + safetyCount
+rowCount = chargerCount + safetyCount + olderCount
 
 -- no message has more signals
 abbrev pub signalCount : ℕ
 signalCount = 16
 
 unfoldable pub rows : List Row
-rows = chargerRows ++ safetyRows
+rows = chargerRows ++ (safetyRows ++ olderRows)
 
 abbrev pub rowAt : ℕ → Row
 rowAt i = getD rows i noRow

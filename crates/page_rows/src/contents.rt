@@ -2,12 +2,22 @@
 ghost use mathlib.Core.Path.{_≡_};
 ghost use lib.ListN.{getD};
 ghost use Rattle.page_rows.specs.Messages.{messages, noMessage, keyOf};
-ghost use Rattle.page_rows.specs.Table.{rows, firstAt, hasId, kindFound, withMessage};
+ghost use Rattle.page_rows.specs.declared.Interface.the-variants.{Newer, Older};
+ghost use Rattle.page_rows.specs.Table.{kindFound, withMessage};
+ghost use Rattle.page_rows.specs.Interfaces.{withId};
 use crate::Found;
 use crate::FoundMessage;
 use crate::Message;
 
-pub const KIND_COUNT: usize = 12;
+// The kinds of documents 000 and 004, and of all.
+const KIND_COUNT: usize = 12;
+
+pub const MESSAGE_COUNT: usize = 30;
+
+// The first kind of document 004, and how many messages stand from it on.
+const SAFETY_KIND: usize = 9;
+
+const OLDER_COUNT: usize = 21;
 
 // Document 000: extended identifiers, byte 0 lowest.
 const POWER_MODULES_STATUS: Message = Message(0x63000, true, 8, false, 0);
@@ -35,6 +45,43 @@ const CHARGE_STATE1: Message = Message(7, false, 8, true, 34);
 
 const PT1000_STATE: Message = Message(8, false, 8, true, 49);
 
+// Document 001: extended identifiers, byte 0 lowest.
+const OLD_POWER_MODULES_STATUS: Message = Message(0x60010, true, 8, false, 61);
+
+const OLD_POWER_MODULES_LIMITS: Message = Message(0x60011, true, 8, false, 67);
+
+const OLD_SEQUENCE_CONTROL: Message = Message(0x60012, true, 3, false, 70);
+
+const OLD_ADM_CS_SECC_OUTPUTS: Message = Message(0x60013, true, 8, false, 76);
+
+const OLD_NEW_CHARGE_SESSION: Message = Message(0x68001, true, 8, false, 81);
+
+const OLD_INSULATION_TEST: Message = Message(0x68002, true, 2, false, 87);
+
+const OLD_PRECHARGE: Message = Message(0x68003, true, 4, false, 88);
+
+const OLD_CHARGE_STATUS_CHANGE: Message = Message(0x68004, true, 1, false, 90);
+
+const OLD_CHARGING_LOOP: Message = Message(0x68005, true, 5, false, 91);
+
+const OLD_EMERGENCY_STOP: Message = Message(0x68006, true, 1, false, 94);
+
+const OLD_CHARGE_SESSION_FINISHED: Message = Message(0x68007, true, 1, false, 95);
+
+const OLD_ADVANTICS_CONTROLLER_STATUS: Message = Message(0x68009, true, 1, false, 96);
+
+const OLD_ADM_CO_CUI1_INPUTS: Message = Message(0x6800a, true, 8, false, 97);
+
+const OLD_ADM_CS_SECC_INPUTS: Message = Message(0x6800b, true, 8, false, 108);
+
+const OLD_EV_ID_CCS_PART2_DIN: Message = Message(0x6800c, true, 6, false, 116);
+
+const OLD_ADM_CS_SPCC_INPUTS: Message = Message(0x6800d, true, 8, false, 122);
+
+const OLD_CCS_EXTRA_INFORMATION: Message = Message(0x6800e, true, 8, false, 133);
+
+const OLD_MCS_EXTRA_INFORMATION: Message = Message(0x6800f, true, 8, false, 136);
+
 const MESSAGES: [Message; 12] = [
     POWER_MODULES_STATUS,
     DC_POWER_PARAMETERS,
@@ -50,6 +97,31 @@ const MESSAGES: [Message; 12] = [
     PT1000_STATE,
 ];
 
+// The messages of the older interface.
+const OLDER: [Message; 21] = [
+    CHARGE_CONTROL1,
+    CHARGE_STATE1,
+    PT1000_STATE,
+    OLD_POWER_MODULES_STATUS,
+    OLD_POWER_MODULES_LIMITS,
+    OLD_SEQUENCE_CONTROL,
+    OLD_ADM_CS_SECC_OUTPUTS,
+    OLD_NEW_CHARGE_SESSION,
+    OLD_INSULATION_TEST,
+    OLD_PRECHARGE,
+    OLD_CHARGE_STATUS_CHANGE,
+    OLD_CHARGING_LOOP,
+    OLD_EMERGENCY_STOP,
+    OLD_CHARGE_SESSION_FINISHED,
+    OLD_ADVANTICS_CONTROLLER_STATUS,
+    OLD_ADM_CO_CUI1_INPUTS,
+    OLD_ADM_CS_SECC_INPUTS,
+    OLD_EV_ID_CCS_PART2_DIN,
+    OLD_ADM_CS_SPCC_INPUTS,
+    OLD_CCS_EXTRA_INFORMATION,
+    OLD_MCS_EXTRA_INFORMATION,
+];
+
 // No message: what a number that is no kind says.
 const NO_MESSAGE: Message = Message(0, false, 0, false, 0);
 
@@ -59,6 +131,7 @@ pub fn message_at(kind: usize) -> Message
     ensures { λ m. ⌜ m ≡ getD messages kind noMessage ⌝ }
 {
     let messages = MESSAGES;
+    let older = OLDER;
     match kind {
         0 => messages[0],
         1 => messages[1],
@@ -72,6 +145,24 @@ pub fn message_at(kind: usize) -> Message
         9 => messages[9],
         10 => messages[10],
         11 => messages[11],
+        12 => older[3],
+        13 => older[4],
+        14 => older[5],
+        15 => older[6],
+        16 => older[7],
+        17 => older[8],
+        18 => older[9],
+        19 => older[10],
+        20 => older[11],
+        21 => older[12],
+        22 => older[13],
+        23 => older[14],
+        24 => older[15],
+        25 => older[16],
+        26 => older[17],
+        27 => older[18],
+        28 => older[19],
+        29 => older[20],
         _ => NO_MESSAGE,
     }
 }
@@ -86,9 +177,10 @@ fn key(id: u32, extended: bool) -> u64
     2 * (id as u64)
 }
 
-// The kind of the message with an identifier of this form. The array is copied once and searched in a loop, which the compiler unrolls to a jump.
+// The kind of the message with an identifier of this form, on the newer interface. The array is copied once and searched in a loop, which the compiler
+// unrolls to a jump.
 fn kind_with_id(id: u32, extended: bool) -> Found
-    ensures { λ r. ⌜ r ≡ kindFound (firstAt (hasId id extended) 0 rows) ⌝ }
+    ensures { λ r. ⌜ r ≡ kindFound (withId Newer id extended) ⌝ }
 {
     let wanted = key(id, extended);
     let messages = MESSAGES;
@@ -105,11 +197,41 @@ fn kind_with_id(id: u32, extended: bool) -> Found
     }
 }
 
-// The message with an identifier of this form.
+// And on the older one.
+fn older_kind_with_id(id: u32, extended: bool) -> Found
+    ensures { λ r. ⌜ r ≡ kindFound (withId Older id extended) ⌝ }
+{
+    let wanted = key(id, extended);
+    let messages = OLDER;
+    let mut k: usize = 0;
+    'messages: loop {
+        if OLDER_COUNT <= k {
+            break 'messages Found::Nothing;
+        }
+        let m = messages[k];
+        if key(m.0, m.1) == wanted {
+            let kind = SAFETY_KIND + k;
+            break 'messages Found::At(kind);
+        }
+        k += 1;
+    }
+}
+
+// The message with an identifier of this form, on the newer interface and on the older one.
 pub fn message_with_id(id: u32, extended: bool) -> FoundMessage
-    ensures { λ r. ⌜ r ≡ withMessage (firstAt (hasId id extended) 0 rows) ⌝ }
+    ensures { λ r. ⌜ r ≡ withMessage (withId Newer id extended) ⌝ }
 {
     let Found::At(k) = kind_with_id(id, extended) else {
+        return FoundMessage::Nothing;
+    };
+    let m = message_at(k);
+    FoundMessage::At(k, m.4, m.2, m.3)
+}
+
+pub fn older_with_id(id: u32, extended: bool) -> FoundMessage
+    ensures { λ r. ⌜ r ≡ withMessage (withId Older id extended) ⌝ }
+{
+    let Found::At(k) = older_kind_with_id(id, extended) else {
         return FoundMessage::Nothing;
     };
     let m = message_at(k);

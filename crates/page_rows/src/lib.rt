@@ -7,6 +7,7 @@ ghost use Rattle.page_rows.specs.Table.{identifierOf, lengthOf, extended
 mod contents; // contents.rt: the messages, where the rows of each begin, and the search by identifier
 mod charger; // charger.rt: the rows of document 000
 mod safety; // safety.rt: the rows of document 004
+mod older; // older.rt: the rows of document 001
 mod table; // table.rt: all of them, and the searches by kind and start
 
 pub use charger::COMMUNICATION_PROTOCOL;
@@ -21,6 +22,7 @@ pub use charger::STOP_ORIGIN;
 pub use charger::SYSTEM_ENABLE;
 pub use charger::VEHICLE_READY_FOR_CHARGING;
 pub use contents::message_with_id;
+pub use contents::older_with_id;
 pub use table::ROW_COUNT;
 pub use table::first_of_kind;
 pub use table::row_at;
@@ -67,6 +69,13 @@ const NO_ROW: Row = Row {
 };
 
 const NO_LINE: Line = Line(0, 0, 0, 0, false, 0);
+
+// 02, Req 11: "Set-up names a post's interface": the pages of document 000, or those of document 001, of the older controllers. The frames of the safety
+// controller, of document 004, belong to either.
+pub enum Interface {
+    Newer,
+    Older,
+}
 
 pub enum Found {
     At(usize),

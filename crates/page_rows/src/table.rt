@@ -1,4 +1,4 @@
-// The table: the rows of both documents, one behind the other, and the searches over them.
+// The table: the rows of all documents, one behind the other, and the searches over them.
 ghost use mathlib.Core.Path.{_≡_};
 ghost use lib.ListN.{getD};
 ghost use Rattle.page_rows.specs.Table.{rows, noRow, firstAt, hasKind, isSignal};
@@ -7,10 +7,11 @@ use crate::NO_ROW;
 use crate::Row;
 use crate::charger;
 use crate::contents;
+use crate::older;
 use crate::row_of;
 use crate::safety;
 
-pub const ROW_COUNT: usize = 61;
+pub const ROW_COUNT: usize = 139;
 
 pub fn row_at(i: usize) -> Row
     ensures { λ r. ⌜ r ≡ getD rows i noRow ⌝ }
@@ -21,7 +22,10 @@ pub fn row_at(i: usize) -> Row
     if i < charger::END {
         return row_of(charger::line_at(i));
     }
-    row_of(safety::line_at(i))
+    if i < safety::END {
+        return row_of(safety::line_at(i));
+    }
+    row_of(older::line_at(i))
 }
 
 // `row_at` again, for the loops that sift, unpack and seek and for the row that is changed: the compiler builds a function with a single call into its caller
@@ -36,7 +40,10 @@ pub fn row_to_sift(i: usize) -> Row
     if i < charger::END {
         return row_of(charger::line_at(i));
     }
-    row_of(safety::line_at(i))
+    if i < safety::END {
+        return row_of(safety::line_at(i));
+    }
+    row_of(older::line_at(i))
 }
 
 pub fn row_to_unpack(i: usize) -> Row
@@ -48,7 +55,10 @@ pub fn row_to_unpack(i: usize) -> Row
     if i < charger::END {
         return row_of(charger::line_at(i));
     }
-    row_of(safety::line_at(i))
+    if i < safety::END {
+        return row_of(safety::line_at(i));
+    }
+    row_of(older::line_at(i))
 }
 
 pub fn row_to_seek(i: usize) -> Row
@@ -60,7 +70,10 @@ pub fn row_to_seek(i: usize) -> Row
     if i < charger::END {
         return row_of(charger::line_at(i));
     }
-    row_of(safety::line_at(i))
+    if i < safety::END {
+        return row_of(safety::line_at(i));
+    }
+    row_of(older::line_at(i))
 }
 
 pub fn row_to_change(i: usize) -> Row
@@ -72,13 +85,16 @@ pub fn row_to_change(i: usize) -> Row
     if i < charger::END {
         return row_of(charger::line_at(i));
     }
-    row_of(safety::line_at(i))
+    if i < safety::END {
+        return row_of(safety::line_at(i));
+    }
+    row_of(older::line_at(i))
 }
 
 pub fn first_of_kind(kind: usize) -> Found
     ensures { λ r. ⌜ r ≡ firstAt (hasKind kind) 0 rows ⌝ }
 {
-    if contents::KIND_COUNT <= kind {
+    if contents::MESSAGE_COUNT <= kind {
         return Found::Nothing;
     }
     Found::At(contents::message_at(kind).4)

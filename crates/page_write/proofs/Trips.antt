@@ -1,5 +1,5 @@
 -- 01: "Every allowed frame is read to its one message; writing it gives the same bytes, and what is written reads back as itself",
--- of the raw numbers of every kind at once (`raws-back`, `raws-there`).
+-- of the raw numbers of every kind at once, on either interface (`back-on`, `raws-there`; `raws-back` on the newer one).
 -- Assumes nothing.
 use mathlib.Core.Path.{_≡_, refl, sym, ap, ap₂, _∙_, subst}
 use mathlib.Core.Bool.{Bool, true, false, cond, not, _&&_, _||_}
@@ -19,10 +19,14 @@ use Rattle.signal.specs.Raw.{fitsIn, bitsIn, valueIn}
 use Rattle.signal.proofs.Laws.{get-lt, get-get, get-zero, get-put, get-put-apart, bit-put, bit-kept, put-lt, same-bits, covers-in, Apart}
 use Rattle.signal.proofs.RawLaws.{value-bits, bits-value, value-fits, bits-lt}
 use Rattle.payload.proofs.Orders.{number-bound, length-of, number-of, bytes-of}
+use Rattle.page_rows.specs.declared.Interface.{Interface}
+use Rattle.page_rows.specs.declared.Interface.the-variants.{Newer}
 use Rattle.page_rows.specs.declared.Row.{Row}
 use Rattle.page_read.specs.declared.Judged.the-variants.{Frame}
-use Rattle.page_rows.specs.Table.{rows, noRow, rowsOf, headRow, identifierOf, extendedOf, lengthOf, bigOf, lowest, bitsAt, Fine, covered, takes}
-use Rattle.page_read.specs.Judge.{unlabelled, strayBelow, judgedNumber, judgeOf}
+use Rattle.page_rows.specs.declared.Found.the-variants.{At}
+use Rattle.page_rows.specs.Interfaces.{isOn, withId}
+use Rattle.page_rows.specs.Table.{rows, firstAt, hasId, noRow, rowsOf, headRow, identifierOf, extendedOf, lengthOf, bigOf, lowest, bitsAt, Fine, covered, takes}
+use Rattle.page_read.specs.Judge.{unlabelled, strayBelow, judgedNumber, judgeOn, judgeOf}
 use Rattle.page_rows.specs.Table.{signalCount}
 use Rattle.page_write.specs.Raws.{wholeAt, wholesOf, pad, rawsOf, allBy, rowTakes, allTake, putRaw, packedOn, canWrite}
 use Rattle.page_rows.specs.Listed.{Among}
@@ -30,35 +34,45 @@ use Rattle.page_write.specs.Taken.{Taken}
 use Rattle.page_write.specs.Trips.{Back, There}
 use Rattle.page_rows.proofs.Rules.{both-true, either-false, not-both, Ordered, ordered, apart-sym, few}
 use Rattle.page_rows.proofs.Firsts.{id-kind, first-kind, first-id, known}
+use Rattle.page_rows.proofs.Interfaces.{found-own, found-has}
 use Rattle.page_read.proofs.Gaps.{stray-none, stray-zero}
 use Rattle.page_read.proofs.Answers.{reached-frame, taken}
+use Rattle.page_read.proofs.Interfaces.{newer, on-own}
 
 -- ---- an accepted frame
 
-pub accepted : (m : ℕ) (extended : Bool) (bs : List ℕ) (k n : ℕ) → judgeOf m extended bs ≡ Frame k n → Taken m extended bs k n
+pub accepted-on : (iface : Interface) (m : ℕ) (extended : Bool) (bs : List ℕ) (k n : ℕ) → judgeOn iface m extended bs ≡ Frame k n → Taken iface m extended bs k n
 unfolding identifierOf extendedOf lengthOf bigOf
-accepted m extended bs k n e =
-    let c = reached-frame m extended bs k n e in
+accepted-on iface m extended bs k n e =
+    let c = reached-frame iface m extended bs k n e in
     let r = getD rows (c .place) noRow in
     let t = taken (r .kind) (8 * length bs) (numberOf (r .big) bs) k n (c .judged) in
-    let f = first-id m extended (c .place) (c .found) in
+    let w = found-has iface m extended (c .place) (c .found) .first in
+    let f = first-id m extended (c .place) w in
     let h : headRow (rowsOf k) ≡ r = ap (λ (x : ℕ). headRow (rowsOf x)) (sym (t .0)) ∙ f .3 in
     record {
+      own = on-own iface m extended bs k n e;
       identifier = ap (λ (x : Row). x .id) h ∙ f .1;
       form = ap (λ (x : Row). x .extended) h ∙ f .4;
       sized = c .sized ∙ sym (ap (λ (x : Row). x .bytes) h);
       number = sym (t .1) ∙ ap (λ (x : Row). numberOf (x .big) bs) (sym h);
-      some = subst (λ (x : ℕ). 1 ≤ length (rowsOf x)) (t .0) (first-kind (r .kind) (c .place) (id-kind m extended (c .place) (c .found)) .3);
+      some = subst (λ (x : ℕ). 1 ≤ length (rowsOf x)) (t .0) (first-kind (r .kind) (c .place) (id-kind m extended (c .place) w) .3);
       labelled = ap₂ (λ (x y : ℕ). unlabelled x (rowsOf y)) (sym (t .1)) (sym (t .0)) ∙ t .2;
       clean = ap₂ (λ (x y : ℕ). strayBelow (8 * length bs) x (rowsOf y)) (sym (t .1)) (sym (t .0)) ∙ t .3;
     }
 
 -- and the other way: what passes all that is accepted
-pub accepts : (m : ℕ) (extended : Bool) (bs : List ℕ) (k n : ℕ) → Taken m extended bs k n → judgeOf m extended bs ≡ Frame k n
-unfolding judgeOf judgedNumber
-accepts m extended bs k n t =
+pub accepts : (iface : Interface) (m : ℕ) (extended : Bool) (bs : List ℕ) (k n : ℕ) → Taken iface m extended bs k n → judgeOn iface m extended bs ≡ Frame k n
+unfolding judgeOn judgedNumber
+accepts iface m extended bs k n t =
     let c = known k (t .some) in
-    rw (← t .identifier, ← t .form, c .1, c .3, eq-eqb (length bs) (lengthOf k) (t .sized), c .2, c .4, ← t .number, t .labelled, t .clean)
+    let f : withId iface (identifierOf k) (extendedOf k) ≡ At (c .0)
+    = found-own iface (firstAt (hasId (identifierOf k) (extendedOf k)) 0 rows) (c .0) (c .1) (ap (isOn iface) (c .2) ∙ t .own) in
+    rw (← t .identifier, ← t .form, f, c .3, eq-eqb (length bs) (lengthOf k) (t .sized), c .2, c .4, ← t .number, t .labelled, t .clean)
+
+-- on the newer interface
+pub accepted : (m : ℕ) (extended : Bool) (bs : List ℕ) (k n : ℕ) → judgeOf m extended bs ≡ Frame k n → Taken Newer m extended bs k n
+accepted m extended bs k n e = accepted-on Newer m extended bs k n (sym (newer m extended bs) ∙ e)
 
 -- ---- numbers put in their signals' places
 
@@ -293,11 +307,11 @@ pub packed-lt : (k : ℕ) (zs : List ℤ) → canWrite k zs ≡ true → packedO
 packed-lt k zs e = packed-on-lt (8 * lengthOf k) 0 0 (rowsOf k) zs (ordered k) (can-write k zs e .1) (pow-pos (8 * lengthOf k))
 
 -- THEOREM: an accepted frame's raw numbers can be written, and give its number and its bytes again
-pub raws-back : (m : ℕ) (extended : Bool) (bs : List ℕ) (k n : ℕ) → judgeOf m extended bs ≡ Frame k n → Bytes bs → Back k n bs
+pub back-on : (iface : Interface) (m : ℕ) (extended : Bool) (bs : List ℕ) (k n : ℕ) → judgeOn iface m extended bs ≡ Frame k n → Bytes bs → Back k n bs
 unfolding rawsOf
-raws-back m extended bs k n e hb = go (accepted m extended bs k n e)
+back-on iface m extended bs k n e hb = go (accepted-on iface m extended bs k n e)
   where
-    go : Taken m extended bs k n → Back k n bs
+    go : Taken iface m extended bs k n → Back k n bs
     go t =
         let rs = rowsOf k in
         let zs = wholesOf n rs in
@@ -311,6 +325,9 @@ raws-back m extended bs k n e hb = go (accepted m extended bs k n e)
           bytes = ap₂ (bytesOf (bigOf k)) (sym (t .sized)) (t .number) ∙ bytes-of (bigOf k) bs hb;
         }
 
+pub raws-back : (m : ℕ) (extended : Bool) (bs : List ℕ) (k n : ℕ) → judgeOf m extended bs ≡ Frame k n → Bytes bs → Back k n bs
+raws-back m extended bs k n e hb = back-on Newer m extended bs k n (sym (newer m extended bs) ∙ e) hb
+
 -- THEOREM: raw numbers that can be written make a frame that is accepted, and that has them again
 pub raws-there : (k : ℕ) (zs : List ℤ) → canWrite k zs ≡ true → There k zs (packedOn 0 (rowsOf k) zs)
 raws-there k zs e = go (packedOn 0 (rowsOf k) zs) refl (can-write k zs e)
@@ -323,7 +340,8 @@ raws-there k zs e = go (packedOn 0 (rowsOf k) zs) refl (can-write k zs e)
         let bs = bytesOf (bigOf k) (lengthOf k) n in
         let sz : length (bytesOf (bigOf k) (lengthOf k) n) ≡ lengthOf k = length-of (bigOf k) (lengthOf k) n in
         record {
-          reads = accepts (identifierOf k) (extendedOf k) bs k n (record {
+          reads = λ iface own. accepts iface (identifierOf k) (extendedOf k) bs k n (record {
+            own = own;
             identifier = refl;
             form = refl;
             sized = sz;

@@ -23,7 +23,7 @@ use Rattle.page_change.specs.Change.{changeOf, bytesAfter}
 use Rattle.page_bounds.proofs.Bounds.{SmallJudged, SmallWritten, judge-small, change-small, write-small}
 use Rattle.plain_words.specs.Words.{answers, refuses, isAccepted, Within, Told}
 use Rattle.plain_words.proofs.WordLaws.{either, word-tells, not-accepted}
-use Rattle.plain_frames.specs.Plain.{readOutcome, rawsLeft, readWord, rawsAfter, writtenOutcome, writeOutcome, writeWord, bufferLeft, changedOutcome, changeWord}
+use Rattle.plain_frames.specs.Plain.{readOutcome, rawsLeft, readWord, rawsAfter, writtenOutcome, isReady, writeOutcome, writeWord, bufferLeft, changedOutcome, changeWord}
 
 -- ---- reading
 
@@ -56,7 +56,7 @@ module _ (m : ℕ) (x : Bool) (bs : List ℕ) (raws : List ℤ) where
 module _ (k : ℕ) (raws : List ℤ) (buf : List ℕ) where
   pub write-within : Within 8 (writeOutcome k raws buf)
   write-within =
-      either (Within 8) (leb signalCount (length raws)) (go (writeRawsOf k (take signalCount raws) buf) (write-small k (take signalCount raws) buf)) (omega arith)
+      either (Within 8) (isReady k (length raws)) (go (writeRawsOf k (take signalCount raws) buf) (write-small k (take signalCount raws) buf)) (omega arith)
     where
       go : (w : Written) → SmallWritten w → Within 8 (writtenOutcome w)
       go (written.Wrote i n) l = l
@@ -69,7 +69,7 @@ module _ (k : ℕ) (raws : List ℤ) (buf : List ℕ) where
   pub write-refused : 65536 ≤ writeWord k raws buf → bufferLeft k raws buf ≡ buf
   unfolding writeWord bufferLeft writeRawsOf bufferAfter storedIn
   write-refused l =
-      go (leb signalCount (length raws)) (canWrite k (take signalCount raws)) (leb (lengthOf k) (length buf))
+      go (isReady k (length raws)) (canWrite k (take signalCount raws)) (leb (lengthOf k) (length buf))
       (not-accepted 8 (writeOutcome k raws buf) (omega arith) write-within l)
     where
       after : List ℕ

@@ -1,8 +1,8 @@
 -- Frames over the C interface, in numbers and bytes alone: reading to raw numbers, writing from them, changing one signal.
 use Prim.Native.Nat.{ℕ}
-use mathlib.Core.Bool.{Bool, cond}
+use mathlib.Core.Bool.{Bool, cond, _&&_}
 use mathlib.Core.List.{List, _++_}
-use lib.Dec.{leb}
+use lib.Dec.{leb, ltb}
 use lib.IntN.{ℤ}
 use lib.ListN.{length, take, drop}
 use Rattle.refusals.specs.declared.Refusal.the-variants.{NoRawNumber, ShortBuffer}
@@ -11,6 +11,7 @@ use Rattle.page_read.specs.declared.Judged.the-variants as judged
 use Rattle.page_write.specs.declared.Written.{Written}
 use Rattle.page_write.specs.declared.Written.the-variants as written
 use Rattle.page_read.specs.Judge.{judgeOf}
+use Rattle.page_rows.specs.Messages.{kindCount}
 use Rattle.page_rows.specs.Table.{signalCount}
 use Rattle.page_write.specs.Raws.{rawsOf, writeRawsOf, bufferAfter}
 use Rattle.page_change.specs.Change.{changeOf}
@@ -32,20 +33,23 @@ readWord m x bs raws = outcomeWord (readOutcome (judgeOf m x bs) (length raws))
 unfoldable pub rawsAfter : ℕ → Bool → List ℕ → List ℤ → List ℤ
 rawsAfter m x bs raws = rawsLeft (judgeOf m x bs) raws
 
--- ---- writing: the number of bytes, or the refusal; 7 too where the lent numbers are too few
+-- ---- writing: the number of bytes, or the refusal; 7 too where the lent numbers are too few, and for a kind that the pages of 000 and 004 have not
+
+abbrev pub isReady : ℕ → ℕ → Bool
+isReady k places = ltb k kindCount && leb signalCount places
 
 abbrev pub writtenOutcome : Written → Outcome
 writtenOutcome (written.Wrote i n) = answers n
 writtenOutcome (written.Refused w) = refuses w
 
 abbrev pub writeOutcome : ℕ → List ℤ → List ℕ → Outcome
-writeOutcome k raws buf = cond (leb signalCount (length raws)) (writtenOutcome (writeRawsOf k (take signalCount raws) buf)) (refuses NoRawNumber)
+writeOutcome k raws buf = cond (isReady k (length raws)) (writtenOutcome (writeRawsOf k (take signalCount raws) buf)) (refuses NoRawNumber)
 
 unfoldable pub writeWord : ℕ → List ℤ → List ℕ → ℕ
 writeWord k raws buf = outcomeWord (writeOutcome k raws buf)
 
 unfoldable pub bufferLeft : ℕ → List ℤ → List ℕ → List ℕ
-bufferLeft k raws buf = cond (leb signalCount (length raws)) (bufferAfter k (take signalCount raws) buf) buf
+bufferLeft k raws buf = cond (isReady k (length raws)) (bufferAfter k (take signalCount raws) buf) buf
 
 -- ---- changing: 0, or the refusal
 

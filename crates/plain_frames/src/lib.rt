@@ -5,7 +5,7 @@ ghost use Prim.Native.Nat.{_≤_};
 ghost use lib.ListN.{length, take, drop};
 ghost use Rattle.page_rows.specs.Table.{signalCount};
 ghost use Rattle.page_change.specs.Change.{changeOf, bytesAfter};
-ghost use Rattle.plain_frames.specs.Plain.{readWord, rawsAfter, writeWord, bufferLeft, changeWord};
+ghost use Rattle.plain_frames.specs.Plain.{readWord, rawsAfter, isReady, writeWord, bufferLeft, changeWord};
 use page_read::Judged;
 use page_write::Written;
 use plain_words::refusal_word;
@@ -13,6 +13,9 @@ use refusals::Refusal;
 
 // The places that a message's raw numbers have, as in `page_write::raws_of`.
 const SIGNALS: usize = 16;
+
+// The kinds of the pages of 000 and 004: those of 001 stand behind them in the table.
+const KINDS: u32 = 12;
 
 fn store_raws(raws: &mut [i64], zs: [i64; SIGNALS])
     requires { ⌜ signalCount ≤ length (now raws) ⌝ }
@@ -57,13 +60,23 @@ pub extern "C" fn rokemaipu_read(id: u32, extended: bool, payload: &[u8], raws: 
     }
 }
 
+// The kind is one of these pages', and there is a number for each of its signals.
+fn is_ready(kind: u32, places: usize) -> bool
+    ensures { λ r. ⌜ r ≡ isReady kind places ⌝ }
+{
+    if KINDS <= kind {
+        return false;
+    }
+    SIGNALS <= places
+}
+
 // The frame of a kind from its signals' raw numbers, from index 0 of buf on; answers its number of bytes.
 #[no_mangle]
 pub extern "C" fn rokemaipu_write(kind: u32, raws: &[i64], buf: &mut [u8]) -> u32
     ensures { λ r. ⌜ (r ≡ writeWord kind (now (raws .entry)) (now (buf .entry)))
         × (now (buf .exit) ≡ bufferLeft kind (now (raws .entry)) (now (buf .entry))) ⌝ }
 {
-    if raws.len() < SIGNALS {
+    if !is_ready(kind, raws.len()) {
         return refusal_word(Refusal::NoRawNumber);
     }
     let zs = load_raws(raws);

@@ -11,7 +11,9 @@ use Rattle.page_rows.specs.declared.Found.{Found}
 use Rattle.page_rows.specs.declared.Found.the-variants.{At, Nothing}
 use Rattle.page_read.specs.declared.Judged.{Judged}
 use Rattle.page_read.specs.declared.Judged.the-variants as judged
-use Rattle.page_rows.specs.Table.{rows, rowsOf, noRow, firstAt, hasId}
+use Rattle.page_rows.specs.declared.Interface.the-variants.{Newer}
+use Rattle.page_rows.specs.Table.{rows, rowsOf, noRow}
+use Rattle.page_rows.specs.Interfaces.{withId}
 use Rattle.page_read.specs.Judge.{unlabelled, offends, offender, strayBelow, judgedNumber, judgedAt, judgeOf}
 use Rattle.rule_limits.specs.declared.PlainLimits.{PlainLimits}
 use Rattle.rules.specs.History.{Event, History, frame, tick}
@@ -93,7 +95,7 @@ number-small k bits n =
 
 judged-small : (m : ℕ) (extended : Bool) (bs : List ℕ) → Unread-small (judgeOf m extended bs)
 unfolding judgeOf
-judged-small m extended bs = at-place (firstAt (hasId m extended) 0 rows)
+judged-small m extended bs = at-place (withId Newer m extended)
   where
     at-place : (f : Found) → Unread-small (judgedAt bs f)
     at-place Nothing = (omega arith, omega arith)

@@ -1,22 +1,24 @@
--- `plain_frames::rokemaipu_write` meets its contract: 7 where the lent numbers are too few, else the pages' writer's answer as a word, over the
+-- `plain_frames::rokemaipu_write` meets its contract: 7 where the kind is none of its pages' or the lent numbers are too few, else the pages' writer's answer as a word, over the
 -- bytes that it leaves.
 use borrow.Author.Needs.{needs}
-use borrow.Author.Tests.{le-leb, lt-leb}
+use borrow.Author.Tests.{leb-true, not-true, not-false}
 use native.Mathlib.Omega.{arith}
 use mathlib.Core.Path.{_≡_, sym, ap, _∙_, subst}
 use mathlib.Core.Bool.{Bool, true, false, cond}
 use mathlib.Core.List.{List}
 use Prim.Native.Nat.{ℕ, _≤_}
-use lib.Dec.{leb}
+use lib.Dec.{leb, ltb}
 use lib.IntN.{ℤ}
 use lib.ListN.{length, take}
 use Rattle.refusals.specs.declared.Refusal.the-variants.{NoRawNumber}
 use Rattle.page_write.specs.declared.Written.{Written}
+use Rattle.page_rows.specs.Messages.{kindCount}
 use Rattle.page_rows.specs.Table.{signalCount}
+use Rattle.page_rows.proofs.Rules.{both-true}
 use Rattle.page_write.specs.Raws.{writeRawsOf, bufferAfter}
 use Rattle.page_bounds.proofs.Bounds.{SmallWritten, write-small}
 use Rattle.plain_words.specs.Words.{refuses, outcomeWord}
-use Rattle.plain_frames.specs.Plain.{writtenOutcome, writeWord, bufferLeft}
+use Rattle.plain_frames.specs.Plain.{writtenOutcome, isReady, writeWord, bufferLeft}
 use Rattle.plain_frames.proofs.rokemaipu_write.Statement.{statement}
 use Rattle.plain_frames.proofs.rokemaipu_write.Tie as tie
 
@@ -24,8 +26,8 @@ use Rattle.plain_frames.proofs.rokemaipu_write.Tie as tie
 abbrev Ends : ℕ → List ℤ → List ℕ → ℕ → List ℕ → Type 0
 Ends k raws buf r after = (r ≡ writeWord k raws buf) × (after ≡ bufferLeft k raws buf)
 
--- by whether the lent numbers are enough
-enough : (k : ℕ) (raws : List ℤ) (buf : List ℕ) (b : Bool) → leb signalCount (length raws) ≡ b
+-- by whether the kind is one of these pages', and the lent numbers are enough
+enough : (k : ℕ) (raws : List ℤ) (buf : List ℕ) (b : Bool) → isReady k (length raws) ≡ b
     → Ends k raws buf
     (outcomeWord (cond b (writtenOutcome (writeRawsOf k (take signalCount raws) buf)) (refuses NoRawNumber)))
     (cond b (bufferAfter k (take signalCount raws) buf) buf)
@@ -35,16 +37,29 @@ enough k raws buf b e = (
   sym (ap (λ (x : Bool). cond x (bufferAfter k (take signalCount raws) buf) buf) e),
 )
 
-written : {zs : List ℤ} {w v : Written} {after : List ℕ} (k : ℕ) (raws : List ℤ) (buf : List ℕ) → signalCount ≤ length raws → zs ≡ take signalCount raws
+written : {zs : List ℤ} {w v : Written} {after : List ℕ} (k : ℕ) (raws : List ℤ) (buf : List ℕ) → isReady k (length raws) ≡ true → zs ≡ take signalCount raws
     → (w ≡ writeRawsOf k zs buf) × (after ≡ bufferAfter k zs buf) → w ≡ v → Ends k raws buf (outcomeWord (writtenOutcome v)) after
 written k raws buf l f g h =
-    let e = enough k raws buf true (le-leb _ _ l) in (
+    let e = enough k raws buf true l in (
       ap (λ (q : Written). outcomeWord (writtenOutcome q)) (sym h ∙ g .0 ∙ ap (λ (q : List ℤ). writeRawsOf k q buf) f) ∙ e .0,
       g .1 ∙ ap (λ (q : List ℤ). bufferAfter k q buf) f ∙ e .1,
     )
 
 start : (c : tie.After-write-raws) → tie.Start
-start c = c .before .before .before .before .before
+start c = c .before .before .before .before .before .before
+
+long : (k n : ℕ) → isReady k n ≡ true → signalCount ≤ n
+long k n e = leb-true signalCount n (both-true (ltb k kindCount) (leb signalCount n) e .1)
+
+load-raws-requires : tie.Need-load-raws-requires
+load-raws-requires c κs =
+    let y = c .before in
+    let a = y .before .before .args in
+    long (a .kind) (length (a .raws .now)) (sym (y .is-ready .ensures) ∙ not-false (y .is-ready .result) (c .if1 .left))
+
+-- the numbers are loaded where all is ready
+ready : (r : tie.After-load-raws) → isReady (r .before .before .before .before .args .kind) (length (r .before .before .before .before .args .raws .now)) ≡ true
+ready r = let i = r .before in sym (i .before .is-ready .ensures) ∙ not-false (i .before .is-ready .result) (i .if1 .left)
 
 -- by the variant that the writer answered
 answered : {v : Written} (c : tie.After-write-raws) → c .write-raws .result ≡ v
@@ -53,12 +68,14 @@ unfolding start
 answered c h =
     let a = start c .args in
     let r = c .before .before in
-    written (a .kind) (a .raws .now) (a .buf .now) (r .before .if1 .left) (r .load-raws .ensures) (c .write-raws .ensures) h
+    written (a .kind) (a .raws .now) (a .buf .now) (ready r) (r .load-raws .ensures) (c .write-raws .ensures) h
 
 returns : tie.Need-returns
 returns c =
-    let a = c .before .before .before .args in
-    let e = enough (a .kind) (a .raws .now) (a .buf .now) false (lt-leb _ _ (c .before .if1 .taken)) in
+    let i = c .before in
+    let y = i .before in
+    let a = y .before .before .args in
+    let e = enough (a .kind) (a .raws .now) (a .buf .now) false (sym (y .is-ready .ensures) ∙ not-true (y .is-ready .result) (i .if1 .taken)) in
     (c .refusal-word .ensures ∙ e .0, e .1)
 
 -- a message has at most 8 bytes, and their number fits
@@ -88,8 +105,9 @@ rokemaipu-write-spec =
     tie.close
     (tie.spec
     (λ c κs. search needs)
-    returns
     (λ c κs. search needs)
+    returns
+    load-raws-requires
     (λ c κs. search needs)
     (λ c. search needs)
     cast-result

@@ -1,13 +1,17 @@
 -- `page_rows::contents::kind_with_id` meets its contract. The loop's invariant: no message before `k` has the identifier. The measure is what is left of
 -- the messages.
-use mathlib.Core.Path.{_≡_, sym, _∙_, subst}
+use mathlib.Core.Path.{_≡_, sym, ap, ap₂, _∙_, subst}
 use mathlib.Core.Logic.{_⊎_, inl, inr}
 use Prim.Native.Nat.{ℕ, _+_, _-_, _<_, _≤_}
 use native.Mathlib.Omega.{arith}
 use borrow.Author.Needs.{needs}
+use borrow.Author.Tests.{ltb-true, lt-ltb}
 use Rattle.signal.proofs.Complement.{half-of}
+use Rattle.page_rows.specs.declared.Message.{Message}
+use Rattle.page_rows.specs.declared.Interface.the-variants.{Newer}
 use Rattle.page_rows.specs.Messages.{kindCount, messageOf, keyOf}
-use Rattle.page_rows.proofs.Heads.{id-found, id-none}
+use Rattle.page_rows.specs.Table.{kindFound}
+use Rattle.page_rows.proofs.Interfaces.{newer-message, on-found, on-none}
 use Rattle.page_rows.proofs.contents.kind_with_id.Statement.{statement}
 use Rattle.page_rows.proofs.contents.kind_with_id.Tie as tie
 
@@ -52,14 +56,16 @@ messages-again c =
     let a = n .before .before .before in
     let w = a .before in
     let g = w .before .args in
-    one-more (λ j. keyOf (messageOf j .0) (messageOf j .1) ≡ keyOf (g .id) (g .extended)) (a .messages .k) (a .messages .inv)
-    (λ e. c .if2 .left (n .key2 .ensures ∙ e ∙ sym (w .key .ensures)))
+    let k = a .messages .k in
+    one-more (λ j. keyOf (messageOf j .0) (messageOf j .1) ≡ keyOf (g .id) (g .extended)) k (a .messages .inv)
+    (λ e. c .if2 .left (n .key2 .ensures ∙ ap (λ (m : Message). keyOf (m .0) (m .1)) (newer-message k (omega arith)) ∙ e ∙ sym (w .key .ensures)))
 
 returns : tie.Need-returns Inv-messages μ-messages
 returns c =
     let a = c .before in
     let g = a .before .before .args in
-    id-none (g .id) (g .extended) (λ j h. a .messages .inv j (omega (arith, c .if1 .taken)))
+    sym (ap kindFound (on-none Newer (g .id) (g .extended)
+    (λ j h. a .messages .inv j (omega (arith, c .if1 .taken, ltb-true j kindCount (h .own))) (ap₂ keyOf (h .listed .identifier) (h .listed .form)))))
 
 returns-2 : tie.Need-returns-2 Inv-messages μ-messages
 returns-2 c =
@@ -67,7 +73,10 @@ returns-2 c =
     let a = n .before .before .before in
     let w = a .before in
     let g = w .before .args in
-    id-found (g .id) (g .extended) (a .messages .k) (omega arith) (sym (n .key2 .ensures) ∙ c .if2 .taken ∙ w .key .ensures)
+    let k = a .messages .k in
+    let below : k < kindCount = omega arith in
+    on-found Newer (g .id) (g .extended) k (omega arith) (lt-ltb k kindCount below)
+    (ap (λ (m : Message). keyOf (m .0) (m .1)) (sym (newer-message k below)) ∙ sym (n .key2 .ensures) ∙ c .if2 .taken ∙ w .key .ensures)
 
 pub kind-with-id-spec : {M : Type 1} → statement M
 kind-with-id-spec =

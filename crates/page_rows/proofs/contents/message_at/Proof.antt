@@ -2,7 +2,7 @@
 use mathlib.Core.Path.{sym}
 use lib.ListN.{List·getD-eq-default}
 use native.Mathlib.Omega.{arith}
-use Rattle.page_rows.specs.Messages.{kindCount, messages, noMessage, messageOf}
+use Rattle.page_rows.specs.Messages.{messageCount, messages, noMessage, messageOf}
 use Rattle.page_rows.proofs.Keys.{at-key, past-keys}
 use Rattle.page_rows.proofs.contents.message_at.Statement.{statement}
 use Rattle.page_rows.proofs.contents.message_at.Tie as tie
@@ -11,6 +11,24 @@ pub message-at-spec : {M : Type 1} → statement M
 message-at-spec =
     tie.close
     (tie.spec
+    (λ c. omega arith)
+    (λ c. omega arith)
+    (λ c. omega arith)
+    (λ c. omega arith)
+    (λ c. omega arith)
+    (λ c. omega arith)
+    (λ c. omega arith)
+    (λ c. omega arith)
+    (λ c. omega arith)
+    (λ c. omega arith)
+    (λ c. omega arith)
+    (λ c. omega arith)
+    (λ c. omega arith)
+    (λ c. omega arith)
+    (λ c. omega arith)
+    (λ c. omega arith)
+    (λ c. omega arith)
+    (λ c. omega arith)
     (λ c. omega arith)
     (λ c. omega arith)
     (λ c. omega arith)
@@ -35,4 +53,22 @@ message-at-spec =
     (λ c. at-key messageOf 9 (c .before .match .keys10))
     (λ c. at-key messageOf 10 (c .before .match .keys11))
     (λ c. at-key messageOf 11 (c .before .match .keys12))
-    (λ c. sym (List·getD-eq-default messages noMessage (past-keys kindCount (c .before .args .kind) (c .match .rest)))))
+    (λ c. at-key messageOf 12 (c .before .match .keys13))
+    (λ c. at-key messageOf 13 (c .before .match .keys14))
+    (λ c. at-key messageOf 14 (c .before .match .keys15))
+    (λ c. at-key messageOf 15 (c .before .match .keys16))
+    (λ c. at-key messageOf 16 (c .before .match .keys17))
+    (λ c. at-key messageOf 17 (c .before .match .keys18))
+    (λ c. at-key messageOf 18 (c .before .match .keys19))
+    (λ c. at-key messageOf 19 (c .before .match .keys20))
+    (λ c. at-key messageOf 20 (c .before .match .keys21))
+    (λ c. at-key messageOf 21 (c .before .match .keys22))
+    (λ c. at-key messageOf 22 (c .before .match .keys23))
+    (λ c. at-key messageOf 23 (c .before .match .keys24))
+    (λ c. at-key messageOf 24 (c .before .match .keys25))
+    (λ c. at-key messageOf 25 (c .before .match .keys26))
+    (λ c. at-key messageOf 26 (c .before .match .keys27))
+    (λ c. at-key messageOf 27 (c .before .match .keys28))
+    (λ c. at-key messageOf 28 (c .before .match .keys29))
+    (λ c. at-key messageOf 29 (c .before .match .keys30))
+    (λ c. sym (List·getD-eq-default messages noMessage (past-keys messageCount (c .before .args .kind) (c .match .rest)))))

@@ -1,0 +1,5 @@
+pub mod Each
+pub mod Trips
+pub mod Changing
+pub mod Refusing
+pub mod Worked

@@ -1,0 +1,2 @@
+pub mod KindNumbers
+pub mod Labels

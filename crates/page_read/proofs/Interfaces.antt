@@ -1,0 +1,54 @@
+-- 02, Req 11: what an interface accepts is a frame of one of its own kinds (`on-own`), and a frame of a kind that it has is accepted there with the same answer
+-- as on any other (`on-other`); no frame of a kind that it does not have is ever a message on it. `judgeOf` is the newer one (`newer`).
+-- Assumes nothing.
+use mathlib.Core.Path.{_≡_, refl, sym, ap, _∙_, subst}
+use mathlib.Core.Bool.{Bool, true, false}
+use mathlib.Core.List.{List}
+use Prim.Native.Nat.{ℕ, _*_, _<_}
+use lib.ListN.{length}
+use Rattle.payload.specs.Payload.{numberOf}
+use Rattle.page_rows.specs.declared.Interface.{Interface}
+use Rattle.page_rows.specs.declared.Interface.the-variants.{Newer}
+use Rattle.page_rows.specs.Messages.{messageCount}
+use Rattle.page_rows.specs.Table.{rows, rowAt, firstAt, hasId}
+use Rattle.page_rows.specs.Interfaces.{isOn, withId}
+use Rattle.page_rows.proofs.Interfaces.{found-own, found-has}
+use Rattle.page_read.specs.declared.Judged.the-variants.{Frame}
+use Rattle.page_read.specs.Judge.{judgedAt, judgeOn, judgeOf}
+use Rattle.page_read.proofs.Answers.{Reached, reached-frame, taken}
+
+pub newer : (m : ℕ) (x : Bool) (bs : List ℕ) → judgeOf m x bs ≡ judgeOn Newer m x bs
+unfolding judgeOf judgeOn
+newer m x bs = refl
+
+-- THEOREM: an accepted frame is of a kind that the interface has
+pub on-own : (iface : Interface) (m : ℕ) (x : Bool) (bs : List ℕ) (k n : ℕ) → judgeOn iface m x bs ≡ Frame k n → isOn iface k ≡ true
+on-own iface m x bs k n e =
+    let c = reached-frame iface m x bs k n e in
+    let i = c .place in
+    let t = taken (rowAt i .kind) (8 * length bs) (numberOf (rowAt i .big) bs) k n (c .judged) in
+    ap (isOn iface) (sym (t .0)) ∙ found-has iface m x i (c .found) .has .own
+
+-- and one of the table's
+pub on-table : (iface : Interface) (m : ℕ) (x : Bool) (bs : List ℕ) (k n : ℕ) → judgeOn iface m x bs ≡ Frame k n → k < messageCount
+on-table iface m x bs k n e =
+    let c = reached-frame iface m x bs k n e in
+    let i = c .place in
+    let t = taken (rowAt i .kind) (8 * length bs) (numberOf (rowAt i .big) bs) k n (c .judged) in
+    subst (λ (j : ℕ). j < messageCount) (t .0) (found-has iface m x i (c .found) .has .listed .inTable)
+
+-- where two interfaces find the same row they answer the same
+same-found : (iface other : Interface) (m : ℕ) (x : Bool) (bs : List ℕ) → withId other m x ≡ withId iface m x → judgeOn other m x bs ≡ judgeOn iface m x bs
+unfolding judgeOn
+same-found iface other m x bs e = ap (judgedAt bs) e
+
+-- THEOREM: an interface that has the kind answers as the other does
+pub on-other : (iface other : Interface) (m : ℕ) (x : Bool) (bs : List ℕ) (k n : ℕ) → judgeOn iface m x bs ≡ Frame k n → isOn other k ≡ true
+    → judgeOn other m x bs ≡ Frame k n
+on-other iface other m x bs k n e o =
+    let c = reached-frame iface m x bs k n e in
+    let i = c .place in
+    let t = taken (rowAt i .kind) (8 * length bs) (numberOf (rowAt i .big) bs) k n (c .judged) in
+    let first = found-has iface m x i (c .found) .first in
+    let there = found-own other (firstAt (hasId m x) 0 rows) i first (ap (isOn other) (t .0) ∙ o) in
+    same-found iface other m x bs (there ∙ sym (c .found)) ∙ e

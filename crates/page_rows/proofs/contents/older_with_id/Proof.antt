@@ -1,0 +1,46 @@
+-- `page_rows::contents::older_with_id` meets its contract: what the kind that was found says of its message.
+use mathlib.Core.Path.{sym, ap, _∙_}
+use borrow.Author.Needs.{needs}
+use Rattle.page_rows.specs.declared.Message.{Message}
+use Rattle.page_rows.specs.declared.Found.the-variants.{At}
+use Rattle.page_rows.specs.declared.FoundMessage.the-variants as message
+use Rattle.page_rows.specs.declared.Interface.the-variants.{Older}
+use Rattle.page_rows.specs.Table.{rows, firstAt, hasId}
+use Rattle.page_rows.specs.Interfaces.{withId}
+use Rattle.page_rows.proofs.Firsts.{id-kind}
+use Rattle.page_rows.proofs.Heads.{kind-message, kind-nothing}
+use Rattle.page_rows.proofs.Interfaces.{own-found}
+use Rattle.page_rows.proofs.contents.older_with_id.Statement.{statement}
+use Rattle.page_rows.proofs.contents.older_with_id.Tie as tie
+
+older-kind-with-id-requires : tie.Need-older-kind-with-id-requires
+older-kind-with-id-requires c κs = search needs
+
+enum-known-k : tie.Need-enum-known-k
+enum-known-k c = search needs
+
+enum-told : tie.Need-enum-told
+enum-told c = search needs
+
+returns : tie.Need-returns
+returns c =
+    let f = c .before .before in
+    let a = f .before .args in
+    kind-nothing (withId Older (a .id) (a .extended)) (sym (f .older-kind-with-id .ensures) ∙ c .enum-told .given .1)
+
+message-at-requires : tie.Need-message-at-requires
+message-at-requires c κs = search needs
+
+returns-2 : tie.Need-returns-2
+returns-2 c =
+    let k = c .before .before in
+    let f = k .before .before in
+    let a = f .before .args in
+    let kind = k .k .given .0 .0 in
+    ap (λ (m : Message). message.At kind (m .4) (m .2) (m .3)) (c .message-at .ensures)
+    ∙ kind-message kind (withId Older (a .id) (a .extended)) (sym (f .older-kind-with-id .ensures) ∙ k .k .given .1) (λ i e. id-kind (a .id) (a .extended) i (own-found Older (firstAt (hasId (a .id) (a .extended)) 0 rows) i e .0))
+
+pub older-with-id-spec : {M : Type 1} → statement M
+older-with-id-spec =
+    tie.close
+    (tie.spec older-kind-with-id-requires enum-known-k enum-told returns message-at-requires returns-2)
