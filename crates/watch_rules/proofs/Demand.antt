@@ -66,7 +66,7 @@ pub every-record : (rs : List Request) (i : ℕ) → lookUpOf (run rs) i ≡ loo
 every-record rs i = lookUp-right (run rs) (accepted rs) i (run-kept rs)
 
 module _ (rs : List Request) (i c : ℕ) (lim : PlainLimits) (h : History) (low : i < postCount) (own : standing i (accepted rs) ≡ held c lim h) where
-  feed-own : (t : ℕ) (a : Arriving) → feed01 (accepted rs) c t a ≡ answerIn (held c lim h) t a
+  pub feed-own : (t : ℕ) (a : Arriving) → feed01 (accepted rs) c t a ≡ answerIn (held c lim h) t a
   unfolding feed01
   feed-own t a =
       let has : holdsIn (standing i (accepted rs)) c ≡ true = ap (λ (x : Standing). holdsIn x c) own ∙ eq-eqb c c refl in

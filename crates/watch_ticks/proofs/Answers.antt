@@ -3,7 +3,7 @@ use Prim.Native.Nat.{ℕ, _<_}
 use mathlib.Core.Path.{_≡_, refl, sym, ap, subst, _∙_}
 use mathlib.Core.List.{List, [], _∷_, map}
 use mathlib.Core.Bool.{Bool, true, false, cond, true≢false}
-use borrow.Author.Tests.{eqb-true, eq-eqb, lt-ltb}
+use borrow.Author.Tests.{eqb-true, eq-eqb}
 use Rattle.refusals.specs.declared.Refusal.the-variants.{Earlier, CountFull}
 use Rattle.rule_limits.specs.declared.PlainLimits.{PlainLimits}
 use Rattle.rules.specs.History.{Event, History}
@@ -17,10 +17,10 @@ use Rattle.watch_rules.specs.declared.Setting.the-variants as setting
 use Rattle.watch_rules.specs.declared.Arrival.{Arrival}
 use Rattle.watch_rules.specs.declared.Arrival.the-variants.{Tick, Frame, Unread}
 use Rattle.watch_rules.specs.Table.{postCount, Arriving, framing, ticking}
-use Rattle.watch_rules.specs.Steps.{Standing, free, held, standing, holdsIn, holder, answerIn, counted01, found01, feed01, eventIn, feedSteps, InRange}
+use Rattle.watch_rules.specs.Steps.{Standing, free, held, standing, holdsIn, holder, answerIn, counted01, found01, feed01, eventIn, feedSteps}
 use Rattle.watch_rules.specs.Run.{Request, setUp, release, frame, tick, Reply, set, fed, reply, run, reply01, accepted, isRefusal, concerns}
 use Rattle.watch_rules.proofs.Standings.{standing-event, held-on, holder-is}
-use Rattle.watch_rules.proofs.Demand.{run-kept, every-answer, refused-nothing, others-standing, counted-none, counted-setUp, counted-release}
+use Rattle.watch_rules.proofs.Demand.{run-kept, every-answer, feed-own, refused-nothing, others-standing, counted-none, counted-setUp, counted-release}
 use Rattle.watch_ticks.specs.Marks.{judged}
 use Rattle.watch_ticks.specs.Answers.{answersAfter, answersTo}
 
@@ -58,17 +58,11 @@ module _ (rs : List Request) (i : ℕ) (low : i < postCount) where
     is-holder : holder (accepted rs) c ≡ i
     is-holder = holder-is (accepted rs) (run-kept rs .apart) i c low (ap (λ (x : Standing). holdsIn x c) own ∙ eq-eqb c c refl)
 
-    answers-own : feed01 (accepted rs) c t a ≡ answerIn (held c lim h) t a
-    unfolding feed01
-    answers-own =
-        let range : InRange (held c lim h) = subst InRange own (run-kept rs .ranges i low) in
-        rw (is-holder, lt-ltb i postCount low, own, range .0)
-
     arrived : isRefusal (fed (feed01 (accepted rs) c t a)) ≡ false
         → (feed01 (accepted rs) c t a ≡ Findings (findings01 lim h (eventIn h t (a lim)))) × (standing i (feedSteps (accepted rs) c t a) ≡ held c lim (eventIn h t (a lim) ∷ h))
     unfolding feedSteps
     arrived q =
-        let z : feed01 (accepted rs) c t a ≡ Findings (findings01 lim h (eventIn h t (a lim))) = answers-own ∙ answer-is lim h c t a (ap (λ (w : Answer). isRefusal (fed w)) (sym answers-own) ∙ q) in
+        let z : feed01 (accepted rs) c t a ≡ Findings (findings01 lim h (eventIn h t (a lim))) = feed-own rs i c lim h low own t a ∙ answer-is lim h c t a (ap (λ (w : Answer). isRefusal (fed w)) (sym (feed-own rs i c lim h low own t a)) ∙ q) in
         (z, rw (z, is-holder, own) (standing-event (accepted rs) i c lim h (eventIn h t (a lim)) own))
 
   -- ---- one request
