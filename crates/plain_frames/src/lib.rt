@@ -11,8 +11,6 @@ use page_write::Written;
 use plain_words::refusal_word;
 use refusals::Refusal;
 
-mod older; // older.rt: the same by the pages of the older interface
-
 // The places that a message's raw numbers have, as in `page_write::raws_of`.
 const SIGNALS: usize = 16;
 

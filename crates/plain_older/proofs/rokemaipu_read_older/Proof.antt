@@ -1,4 +1,4 @@
--- `plain_frames::older::rokemaipu_read_older` meets its contract: the reader's refusal as a word, then 8, else the kind, with the raw numbers stored.
+-- `plain_older::rokemaipu_read_older` meets its contract: the reader's refusal as a word, then 8, else the kind, with the raw numbers stored.
 use borrow.Author.Needs.{needs}
 use borrow.Author.Tests.{le-leb, lt-leb}
 use native.Mathlib.Omega.{arith}
@@ -18,10 +18,10 @@ use Rattle.page_rows.specs.Table.{signalCount}
 use Rattle.page_write.specs.Raws.{rawsOf}
 use Rattle.page_bounds.proofs.Bounds.{SmallBelow, judge-small-on}
 use Rattle.plain_words.specs.Words.{answers, refuses, outcomeWord}
 use Rattle.plain_frames.specs.Plain.{readOutcome, rawsLeft}
-use Rattle.plain_frames.specs.Older.{readWordOlder, rawsAfterOlder}
-use Rattle.plain_frames.proofs.older.rokemaipu_read_older.Statement.{statement}
-use Rattle.plain_frames.proofs.older.rokemaipu_read_older.Tie as tie
+use Rattle.plain_older.specs.Older.{readWordOlder, rawsAfterOlder}
+use Rattle.plain_older.proofs.rokemaipu_read_older.Statement.{statement}
+use Rattle.plain_older.proofs.rokemaipu_read_older.Tie as tie
 
 -- the answer and the lent numbers
 abbrev Ends : ℕ → Bool → List ℕ → List ℤ → ℕ → List ℤ → Type 0

@@ -1,4 +1,4 @@
--- `plain_frames::older::rokemaipu_change_older` meets its contract: the answer of the pages' change as a word, over the bytes that it leaves.
+-- `plain_older::rokemaipu_change_older` meets its contract: the answer of the pages' change as a word, over the bytes that it leaves.
 use borrow.Author.Needs.{needs}
 use mathlib.Core.Path.{_≡_, sym, ap, _∙_}
 use mathlib.Core.Bool.{Bool}
@@ -10,10 +10,10 @@ use Rattle.page_rows.specs.declared.Interface.the-variants.{Older}
 use Rattle.page_read.specs.declared.Judged.{Judged}
 use Rattle.page_change.specs.Change.{changeOn, bytesAfter}
 use Rattle.plain_words.specs.Words.{outcomeWord}
 use Rattle.plain_frames.specs.Plain.{changedOutcome}
-use Rattle.plain_frames.specs.Older.{changeWordOlder}
-use Rattle.plain_frames.proofs.older.rokemaipu_change_older.Statement.{statement}
-use Rattle.plain_frames.proofs.older.rokemaipu_change_older.Tie as tie
+use Rattle.plain_older.specs.Older.{changeWordOlder}
+use Rattle.plain_older.proofs.rokemaipu_change_older.Statement.{statement}
+use Rattle.plain_older.proofs.rokemaipu_change_older.Tie as tie
 
 -- the answer as a word, and the bytes
 abbrev Ends : ℕ → Bool → List ℕ → ℕ → ℤ → ℕ → List ℕ → Type 0

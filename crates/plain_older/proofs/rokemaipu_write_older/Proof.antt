@@ -1,4 +1,4 @@
--- `plain_frames::older::rokemaipu_write_older` meets its contract: 7 where the kind is none of its pages' or the lent numbers are too few, else the pages'
+-- `plain_older::rokemaipu_write_older` meets its contract: 7 where the kind is none of its pages' or the lent numbers are too few, else the pages'
 -- writer's answer as a word, over the bytes that it leaves.
 use borrow.Author.Needs.{needs}
 use borrow.Author.Tests.{leb-true, not-true, not-false}
@@ -18,10 +18,10 @@ use Rattle.page_rows.proofs.Rules.{both-true}
 use Rattle.page_write.specs.Raws.{writeRawsOf, bufferAfter}
 use Rattle.page_bounds.proofs.Bounds.{SmallWritten, write-small}
 use Rattle.plain_words.specs.Words.{refuses, outcomeWord}
 use Rattle.plain_frames.specs.Plain.{writtenOutcome}
-use Rattle.plain_frames.specs.Older.{isReadyOlder, writeWordOlder, bufferLeftOlder}
-use Rattle.plain_frames.proofs.older.rokemaipu_write_older.Statement.{statement}
-use Rattle.plain_frames.proofs.older.rokemaipu_write_older.Tie as tie
+use Rattle.plain_older.specs.Older.{isReadyOlder, writeWordOlder, bufferLeftOlder}
+use Rattle.plain_older.proofs.rokemaipu_write_older.Statement.{statement}
+use Rattle.plain_older.proofs.rokemaipu_write_older.Tie as tie
 
 -- the answer and the buffer
 abbrev Ends : ℕ → List ℤ → List ℕ → ℕ → List ℕ → Type 0

@@ -1,19 +1,48 @@
-// The same by the pages of the older interface, those of 004 and 001 (02, Req 11).
+// Frames of the older controllers over the C interface (02, Req 11), in numbers and bytes alone, by the pages of 004 and 001. For C callers that need no table.
+// Apart from `plain_frames`: a function that two entries of one archive call is not built into either, by which reading a frame took a fifth longer.
 ghost use mathlib.Core.Path.{_≡_};
+ghost use mathlib.Core.List.{_++_};
+ghost use Prim.Native.Nat.{_≤_};
+ghost use lib.ListN.{length, take, drop};
 ghost use Rattle.page_rows.specs.declared.Interface.the-variants.{Older};
+ghost use Rattle.page_rows.specs.Table.{signalCount};
 ghost use Rattle.page_change.specs.Change.{changeOn, bytesAfter};
-ghost use Rattle.plain_frames.specs.Older.{readWordOlder, rawsAfterOlder, isReadyOlder, writeWordOlder, bufferLeftOlder, changeWordOlder};
-use crate::SIGNALS;
-use crate::load_raws;
-use crate::store_raws;
+ghost use Rattle.plain_older.specs.Older.{readWordOlder, rawsAfterOlder, isReadyOlder, writeWordOlder, bufferLeftOlder, changeWordOlder};
 use page_read::Judged;
 use page_rows::Interface;
 use page_write::Written;
 use plain_words::refusal_word;
 use refusals::Refusal;
 
+// The places that a message's raw numbers have, as in `page_write::raws_of`.
+const SIGNALS: usize = 16;
+
 // The first of its kinds.
 const SAFETY_KIND: u32 = 9;
+
+fn store_raws(raws: &mut [i64], zs: [i64; SIGNALS])
+    requires { ⌜ signalCount ≤ length (now raws) ⌝ }
+    ensures { λ _. ⌜ now (raws .exit) ≡ zs ++ drop signalCount (now (raws .entry)) ⌝ }
+{
+    let mut j: usize = 0;
+    while j < SIGNALS {
+        raws[j] = zs[j];
+        j += 1;
+    }
+}
+
+fn load_raws(raws: &[i64]) -> [i64; SIGNALS]
+    requires { ⌜ signalCount ≤ length (now raws) ⌝ }
+    ensures { λ r. ⌜ r ≡ take signalCount (now (raws .entry)) ⌝ }
+{
+    let mut zs = [0i64; SIGNALS];
+    let mut j: usize = 0;
+    while j < SIGNALS {
+        zs[j] = raws[j];
+        j += 1;
+    }
+    zs
+}
 
 // The kind of a frame, 9 to 29, and its signals' raw numbers in the first 16 places of raws, zeros behind them.
 #[no_mangle]
