@@ -1,7 +1,7 @@
 -- 01: "Every allowed frame is read to its one message; writing it gives the same bytes, and what is written reads back as itself"
 -- (`read-write`, `write-read`, `one-message`), of every kind at once, each in its form and byte order. A refused message leaves the buffer whole
 -- (`write-refused`). By the laws of any type of older (message_laws/proofs/Typed.antt). Assumes nothing.
-use mathlib.Core.Path.{_≡_, refl, sym, ap, _∙_}
+use mathlib.Core.Path.{_≡_, refl, ap}
 use mathlib.Core.Bool.{Bool}
 use mathlib.Core.List.{List}
 use Prim.Native.Nat.{ℕ}
@@ -11,7 +11,6 @@ use lib.ListN.{length, take, drop}
 use Rattle.payload.specs.Payload.{Bytes}
 use Rattle.refusals.specs.declared.Refusal.{Refusal}
 use Rattle.page_rows.specs.declared.Interface.the-variants.{Older}
-use Rattle.page_rows.specs.Interfaces.{isOn}
 use Rattle.page_rows.specs.Table.{lengthOf}
 use Rattle.page_read.specs.declared.Judged.{Judged}
 use Rattle.page_read.specs.declared.Judged.the-variants as judged
@@ -20,7 +19,7 @@ use Rattle.page_read.proofs.Interfaces.{on-own, on-table}
 use Rattle.page_write.specs.declared.Written.the-variants as written
 use Rattle.older_types.specs.declared.Message.{Message}
 use Rattle.older_types.specs.KindNumbers.{kindOf}
-use Rattle.older_build.specs.Built.{messageOf, builtOf}
+use Rattle.older_build.specs.Built.{messageOf}
 use Rattle.older.specs.declared.Reading.the-variants.{Accepted}
 use Rattle.older.specs.Read.{readingOf, readOf}
 use Rattle.older.specs.Write.{writeOf, bufferAfter}

@@ -4,9 +4,8 @@ use mathlib.Core.Path.{_≡_, refl}
 use mathlib.Core.Bool.{true, false}
 use mathlib.Core.List.{List, [], _∷_}
 use Prim.Native.Nat.{ℕ, _<_}
-use native.Mathlib.Omega.{arith}
 use lib.Dec.{lit≤}
-use lib.IntN.{ℤ, pos, negsuc}
+use lib.IntN.{negsuc}
 use lib.ListN.{length, getD, take, drop}
 use Rattle.refusals.specs.declared.Refusal.the-variants.{UncoveredBit}
 use Rattle.signal.specs.Signal.{getBits, putBits}
@@ -19,7 +18,7 @@ use Rattle.page_rows.specs.Messages.{messageCount}
 use Rattle.page_rows.specs.Table.{rows, ofKind, firstAt, rowsOf, noRow, covered, identifierOf, extendedOf, lengthOf, bigOf}
 use Rattle.page_read.specs.declared.Judged.the-variants.{Frame, Refused}
 use Rattle.page_read.specs.Judge.{unlabelled, offender, strayBelow, judgedNumber, judgeOn}
-use Rattle.page_read.specs.Refusing.{Gives, Uncovered}
+use Rattle.page_read.specs.Refusing.{Uncovered}
 use Rattle.page_read.proofs.Interfaces.{on-own, on-table, on-other}
 use Rattle.page_read.proofs.Refusing.{gives-6}
 use Rattle.page_write.specs.declared.Written.the-variants as written

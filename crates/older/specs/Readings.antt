@@ -20,7 +20,6 @@ use Rattle.signal.specs.Twos.{toSigned, ofSigned}
 use Rattle.message_types.specs.declared.SystemEnable.the-variants.{Allowed}
 use Rattle.message_types.specs.declared.Protocol.the-variants as protocol
 use Rattle.message_types.specs.declared.Plug.the-variants as plug
-use Rattle.message_types.specs.declared.ChargeControl1.{ChargeControl1}
 use Rattle.older_types.specs.declared.PowerModulesStatus.{PowerModulesStatus}
 use Rattle.older_types.specs.declared.PowerModulesLimits.{PowerModulesLimits}
 use Rattle.older_types.specs.declared.SequenceControl.{SequenceControl}

@@ -1,5 +1,5 @@
--- `plain_frames::rokemaipu_write` meets its contract: 7 where the kind is none of its pages' or the lent numbers are too few, else the pages' writer's answer as a word, over the
--- bytes that it leaves.
+-- `plain_frames::rokemaipu_write` meets its contract: 7 where the kind is none of its pages' or the lent numbers are too few, else the pages' writer's answer
+-- as a word, over the bytes that it leaves.
 use borrow.Author.Needs.{needs}
 use borrow.Author.Tests.{leb-true, not-true, not-false}
 use native.Mathlib.Omega.{arith}

@@ -1,0 +1,65 @@
+-- 02, Req 11: an identifier that only the other interface has is refused with 3 by the reader, of whatever length and content (`foreign-refused`), is one of
+-- the other's (`foreign-has`), and none of this one's (`foreign-not`). Assumes nothing.
+use mathlib.Core.Path.{_≡_, refl, sym, ap, _∙_}
+use mathlib.Core.Bool.{Bool, true, false, cond}
+use mathlib.Core.List.{List}
+use Prim.Native.Nat.{ℕ}
+use native.Mathlib.Omega.{arith}
+use borrow.Author.Tests.{not-true, ltb-false, leb-false, le-leb, lt-ltb}
+use Rattle.refusals.specs.declared.Refusal.the-variants.{UnknownIdentifier}
+use Rattle.page_rows.specs.declared.Interface.{Interface}
+use Rattle.page_rows.specs.declared.Interface.the-variants.{Newer, Older}
+use Rattle.page_rows.specs.declared.Found.{Found}
+use Rattle.page_rows.specs.declared.Found.the-variants.{At, Nothing}
+use Rattle.page_rows.specs.Messages.{kindCount}
+use Rattle.page_rows.specs.Table.{rows, rowAt, firstAt, hasId}
+use Rattle.page_rows.specs.Interfaces.{safetyKind, isOn, foundOn, Has}
+use Rattle.page_rows.proofs.Rules.{not-both}
+use Rattle.page_rows.proofs.Interfaces.{has-found, own-found}
+use Rattle.page_rows.proofs.Listed.{found-listed}
+use Rattle.page_read.specs.declared.Judged.the-variants.{Refused}
+use Rattle.page_read.specs.Judge.{judgedAt, judgeOn}
+use Rattle.page_interfaces.specs.Foreign.{foreignAt, isForeign, other}
+
+-- a kind that one has not, the other has
+pub either-has : (iface : Interface) (k : ℕ) → isOn iface k ≡ false → isOn (other iface) k ≡ true
+either-has Newer k e = le-leb safetyKind k (omega (arith, ltb-false k kindCount e))
+either-has Older k e = lt-ltb k kindCount (omega (arith, leb-false safetyKind k e))
+
+-- the row that has the identifier
+record Row-found (iface : Interface) (m : ℕ) (x : Bool) : Type 0 where
+  place : ℕ
+  first : firstAt (hasId m x) 0 rows ≡ At place
+  lacking : isOn iface (rowAt place .kind) ≡ false
+
+row-found : (iface : Interface) (m : ℕ) (x : Bool) → isForeign iface m x ≡ true → Row-found iface m x
+unfolding isForeign
+row-found iface m x e = go (firstAt (hasId m x) 0 rows) refl e
+  where
+    go : (f : Found) → firstAt (hasId m x) 0 rows ≡ f → foreignAt iface f ≡ true → Row-found iface m x
+    go (At i) q e = record { place = i; first = q; lacking = not-true (isOn iface (rowAt i .kind)) e }
+    go Nothing q e = absurd (not-both false e refl)
+
+-- THEOREM: the other interface has it
+pub foreign-has : (iface : Interface) (m : ℕ) (x : Bool) → isForeign iface m x ≡ true → (k : ℕ) × Has (other iface) m x k
+foreign-has iface m x e =
+    let r = row-found iface m x e in
+    let k = rowAt (r .place) .kind in
+    (k, record { listed = found-listed m x (r .place) (r .first) .listed; own = either-has iface k (r .lacking) })
+
+-- THEOREM: this one has not
+pub foreign-not : (iface : Interface) (m : ℕ) (x : Bool) → isForeign iface m x ≡ true → (k : ℕ) → Has iface m x k → ⊥
+foreign-not iface m x e k h =
+    let r = row-found iface m x e in
+    let p = has-found iface m x k h in
+    let o = own-found iface (firstAt (hasId m x) 0 rows) (p .0) (p .1) in
+    let same : At (r .place) ≡ At (p .0) = sym (r .first) ∙ o .0 in
+    let at : r .place ≡ p .0 = cc in
+    not-both (isOn iface (rowAt (p .0) .kind)) (o .1) (ap (λ (i : ℕ). isOn iface (rowAt i .kind)) (sym at) ∙ r .lacking)
+
+-- THEOREM: the reader gives 3, of whatever length and content
+pub foreign-refused : (iface : Interface) (m : ℕ) (x : Bool) (bs : List ℕ) → isForeign iface m x ≡ true → judgeOn iface m x bs ≡ Refused UnknownIdentifier
+unfolding judgeOn
+foreign-refused iface m x bs e =
+    let r = row-found iface m x e in
+    ap (λ (f : Found). judgedAt bs (foundOn iface f)) (r .first) ∙ ap (λ (b : Bool). judgedAt bs (cond b (At (r .place)) Nothing)) (r .lacking)

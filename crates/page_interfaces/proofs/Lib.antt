@@ -1,0 +1,3 @@
+pub mod Lacking
+pub mod Foreign
+pub mod Worked

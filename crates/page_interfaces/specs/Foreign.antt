@@ -1,0 +1,22 @@
+-- 02, Req 11: "A frame whose identifier only the other interface has". The exact identifier and its form count.
+use Prim.Native.Nat.{ℕ}
+use mathlib.Core.Bool.{Bool, false, not}
+use Rattle.page_rows.specs.declared.Interface.{Interface}
+use Rattle.page_rows.specs.declared.Interface.the-variants.{Newer, Older}
+use Rattle.page_rows.specs.declared.Found.{Found}
+use Rattle.page_rows.specs.declared.Found.the-variants.{At, Nothing}
+use Rattle.page_rows.specs.Table.{rows, rowAt, firstAt, hasId}
+use Rattle.page_rows.specs.Interfaces.{isOn}
+
+abbrev pub foreignAt : Interface → Found → Bool
+foreignAt iface (At i) = not (isOn iface (rowAt i .kind))
+foreignAt iface Nothing = false
+
+-- the table has the identifier, and the interface has not
+unfoldable pub isForeign : Interface → ℕ → Bool → Bool
+isForeign iface m x = foreignAt iface (firstAt (hasId m x) 0 rows)
+
+-- the other of the two
+abbrev pub other : Interface → Interface
+other Newer = Older
+other Older = Newer
