@@ -3,7 +3,7 @@
 # make test   what .ci/run runs: the tables against the maker's documents, the layout of the files, the gate, the C tests, nightlog, replay, compare and
 #             the desk against the second program, recordings of candump, exit statuses, the pages of the nights; its last line is 'N passed, 0 failed'
 # make check  the proofs and the programs, without the must-fail edits
-# make lib    target/lib/librokemaipu.a, and rokemaipu.h and rokemaipu_pages.h beside it, for C and Rust
+# make lib    librokemaipu.a and rokemaipu.pc in target/lib/x86_64 and target/lib/aarch64, and rokemaipu.h and rokemaipu_pages.h in target/lib, for C and Rust
 # make bench  the library and the replay beside plain C in one run; BEFORE=REVISION, the library beside that revision of itself too
 # make report a night as a page, target/report/NAME.html: NIGHT and POSTS as above; PICTURE=FILE.png takes a picture of it too
 
