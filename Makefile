@@ -4,6 +4,7 @@
 #             the desk against the second program, recordings of candump, exit statuses, the pages of the nights; its last line is 'N passed, 0 failed'
 # make check  the proofs and the programs, without the must-fail edits
 # make lib    librokemaipu.a and rokemaipu.pc in target/lib/x86_64 and target/lib/aarch64, and rokemaipu.h and rokemaipu_pages.h in target/lib, for C and Rust
+# make programs  desk, nightlog, replay and compare for both processors: target/bin and target/bin/aarch64
 # make bench  the library and the replay beside plain C in one run; BEFORE=REVISION, the library beside that revision of itself too
 # make report a night as a page, target/report/NAME.html: NIGHT and POSTS as above; PICTURE=FILE.png takes a picture of it too
 
@@ -12,7 +13,7 @@ night = $(basename $(notdir $(NIGHT)))
 LOG ?= $(or $(filter %.log,$(NIGHT)),nights/$(night).log)
 POSTS ?= $(basename $(LOG)).posts
 
-.PHONY: run test check lib bench report replay
+.PHONY: run test check lib programs bench report replay
 
 run: replay
 	@tools/replay $(POSTS) $(LOG)
@@ -21,6 +22,7 @@ replay:
 	@[ -x target/bin/replay ] || echo "proving and building the replay: about 8 minutes, once" >&2
 	@rt check replay > replay.log 2>&1 || { cat replay.log; rm -f replay.log; exit 1; }
 	@rm -f replay.log
+	@[ "$$(uname -m)" != aarch64 ] || ! command -v $(CC) >/dev/null || tools/build replay >/dev/null
 
 test:
 	@tests/run
@@ -30,6 +32,9 @@ check:
 
 lib:
 	@tools/lib
+
+programs:
+	@tools/build
 
 bench: lib replay
 	@mkdir -p target/bench
