@@ -3,7 +3,11 @@
 # make test   what .ci/run runs: the tables against the maker's documents, the layout of the files, the gate, the C tests, nightlog, replay, compare and
 #             the desk against the second program, recordings of candump, exit statuses, the pages of the nights; its last line is 'N passed, 0 failed'
 # make check  the proofs and the programs, without the must-fail edits
-# make lib    target/lib/librokemaipu.a, and rokemaipu.h and rokemaipu_pages.h beside it, for C and Rust
+# make lib    librokemaipu.a and rokemaipu.pc in target/lib/x86_64 and target/lib/aarch64, and rokemaipu.h and rokemaipu_pages.h in target/lib, for C and Rust
+# make programs  desk, nightlog, replay and compare for both processors: target/bin and target/bin/aarch64
+# make install    programs with their wrappers, the library, manual pages: PREFIX (/usr/local), DESTDIR, PROCESSOR and PROGRAM_PREFIX as packaging/install says
+# make uninstall  what make install installed, by the same words
+# make deb        target/deb/rokemaipu_VERSION_ARCH.deb for amd64 and arm64, of the same install
 # make bench  the library and the replay beside plain C in one run; BEFORE=REVISION, the library beside that revision of itself too
 # make report a night as a page, target/report/NAME.html: NIGHT and POSTS as above; PICTURE=FILE.png takes a picture of it too
 
@@ -12,7 +16,7 @@ night = $(basename $(notdir $(NIGHT)))
 LOG ?= $(or $(filter %.log,$(NIGHT)),nights/$(night).log)
 POSTS ?= $(basename $(LOG)).posts
 
-.PHONY: run test check lib bench report replay
+.PHONY: run test check lib programs install uninstall deb bench report replay
 
 run: replay
 	@tools/replay $(POSTS) $(LOG)
@@ -21,6 +25,7 @@ replay:
 	@[ -x target/bin/replay ] || echo "proving and building the replay: about 8 minutes, once" >&2
 	@rt check replay > replay.log 2>&1 || { cat replay.log; rm -f replay.log; exit 1; }
 	@rm -f replay.log
+	@[ "$$(uname -m)" != aarch64 ] || ! command -v $(CC) >/dev/null || tools/build replay >/dev/null
 
 test:
 	@tests/run
@@ -30,6 +35,20 @@ check:
 
 lib:
 	@tools/lib
+
+programs:
+	@tools/build
+
+export PREFIX DESTDIR PROCESSOR PROGRAM_PREFIX
+
+install:
+	@packaging/install
+
+uninstall:
+	@packaging/install --remove
+
+deb:
+	@packaging/deb
 
 bench: lib replay
 	@mkdir -p target/bench

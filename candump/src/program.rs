@@ -31,12 +31,16 @@ impl Program {
     }
 }
 
+/// The product's, which stands in VERSION: this folder takes nothing from outside, and the tests hold both together.
+const VERSION: &str = "1.02";
+
 pub fn run(program: &Program) -> ExitCode {
-    let done = match arguments::parse(std::env::args_os().skip(1).collect(), program.options, program.filters) {
+    let words: Vec<_> = std::env::args_os().skip(1).collect();
+    let version = words.first().is_some_and(|word| word == "--version");
+    let done = match arguments::parse(words, program.options, program.filters) {
+        _ if version => told(&format!("{} (Rokemaipu) {VERSION}\n", program.name)),
         Ok(Some(call)) => (program.run)(&call),
-        Ok(None) => {
-            io::stdout().write_all(program.usage.as_bytes()).map(|()| Done::All).map_err(|error| error.to_string())
-        }
+        Ok(None) => told(program.usage),
         Err(wrong) => Err(format!("{wrong}\n{}", program.usage.trim_end())),
     };
     match done {
@@ -46,4 +50,8 @@ pub fn run(program: &Program) -> ExitCode {
             ExitCode::from(CANNOT)
         }
     }
+}
+
+fn told(words: &str) -> Result<Done, String> {
+    io::stdout().write_all(words.as_bytes()).map(|()| Done::All).map_err(|error| error.to_string())
 }

@@ -27,8 +27,10 @@ static void add_any(records *r, uint32_t *time) {
     uint8_t payload[8];
     for (int i = 0; i < 8; i++) payload[i] = (uint8_t)(below(3) ? below(6) : below(256));
     if (k == 5) payload[6] = (uint8_t)(below(4) ? 0x40 | 1u << below(4) : below(256));
-    if (k >= 10) return add_frame(r, at, channel, 6 + below(4), false, payload, below(8) ? 8 : below(9));
-    add_frame(r, at, channel, ids[k], below(30) != 0 || ids[k] > 2047, payload, below(12) ? sizes[k] : below(9));
+    /* one after the other: compilers differ in which argument they work out first */
+    uint32_t first = k >= 10 ? 6 + below(4) : below(30), length = k >= 10 ? (below(8) ? 8 : below(9)) : below(12) ? sizes[k] : below(9);
+    if (k >= 10) return add_frame(r, at, channel, first, false, payload, length);
+    add_frame(r, at, channel, ids[k], first != 0 || ids[k] > 2047, payload, length);
 }
 
 static records some(size_t most) {
@@ -164,7 +166,8 @@ static void cuts(void) {
     for (int turn = 0; turn < 3000; turn++) {
         records s = r;
         uint64_t e[ROKEMAIPU_ENTRY_NUMBERS];
-        s.bytes[below((uint32_t)s.size)] = (uint8_t)next();
+        uint32_t place = below((uint32_t)s.size);
+        s.bytes[place] = (uint8_t)next();
         size_t at = 0;
         uint32_t answer;
         s.count = 0;

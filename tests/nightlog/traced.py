@@ -183,7 +183,12 @@ def said(command, before, lines=LINES[:2], log=None):
     with open(FILE, 'rb') as file:
         left = file.read()
     os.remove(FILE)
-    return ''.join(line for line in run.stderr.decode().splitlines(True) if not line.startswith('strace: ')), left
+    return own_words(run.stderr), left
+
+
+def own_words(stderr):
+    """What the program said: strace tells of each path that it was given."""
+    return ''.join(line for line in stderr.decode().splitlines(True) if not line.startswith('strace: '))
 
 
 def failures(command):
@@ -199,7 +204,7 @@ def failures(command):
          ['flushing its folder: Input/output error', 'flushing: Input/output error', '2 records appended, 0 flushed, the name of the file not'], whole),
         ('a cut that cannot be flushed', failing('fsync:error=EIO'), whole + PIECE, ['flushing: Input/output error'], whole),
         ('a cut that fails', failing('ftruncate:error=EIO'), whole + PIECE, ['cutting back: Input/output error'], whole + PIECE),
-        ('a length that is not known', failing('lseek:error=EIO:when=2'), b'', ['finding its length: Input/output error', '0 records appended'], b''),
+        ('a length that is not known', failing('lseek:error=EIO:when=2', FILE), b'', ['finding its length: Input/output error', '0 records appended'], b''),
         ('a write that fails', failing('write:error=ENOSPC:when=2', FILE), b'', ['writing line 2: No space left on device', '1 records appended'], whole[:4]),
     ]:
         got = said(command, injected, log=log)
@@ -213,11 +218,11 @@ def another(command):
     log, other = record(LINES[0]) + PIECE, record(LINES[3])
     with open(FILE, 'wb') as file:
         file.write(log)
-    run = subprocess.Popen([*failing('lseek:delay_enter=1500000:when=2', trace='trace'), *command, 'append', FILE], stdin=subprocess.PIPE, stderr=subprocess.PIPE)
+    run = subprocess.Popen([*failing('lseek:delay_enter=1500000:when=2', FILE, trace='trace'), *command, 'append', FILE], stdin=subprocess.PIPE, stderr=subprocess.PIPE)
     wait_for(run, lambda: os.path.exists('trace') and 'SEEK_END) ' in open('trace').read())
     with open(FILE, 'ab') as file:
         file.write(other)
-    words = run.communicate(b'tick 1 1\n', timeout=30)[1].decode()
+    words = own_words(run.communicate(b'tick 1 1\n', timeout=30)[1])
     want = f'nightlog: {FILE}: {len(log + other)} bytes where this program left {len(log)}: another one writes to it\n'
     with open(FILE, 'rb') as file:
         left = file.read()

@@ -1,5 +1,5 @@
 """Every program of tools/ tells how it is called: `--help` prints its usage on standard output, with status 0; a wrong call prints it on standard error,
-with status 2."""
+with status 2. And `--version` prints the version that stands in VERSION."""
 import os
 import subprocess
 import unittest
@@ -18,12 +18,18 @@ def called(tool, *words):
 
 class Helped(unittest.TestCase):
     def test_help(self):
-        self.assertEqual([tool.name for tool in TOOLS], ['candump2log', 'compare', 'desk', 'lib', 'log2candump', 'night', 'nightlog', 'replay', 'report'])
+        self.assertEqual([tool.name for tool in TOOLS], ['build', 'candump2log', 'compare', 'desk', 'lib', 'log2candump', 'night', 'nightlog', 'replay', 'report'])
         for tool in TOOLS:
             status, usage, said = called(tool, '--help')
             self.assertEqual((status, said), (0, ''), tool)
             self.assertTrue(usage.startswith(f'usage: {tool.name}'), usage)
             self.assertIn('Exit status: 0 ', usage)
+
+    def test_version(self):
+        version = (ROOT / 'VERSION').read_text()
+        self.assertRegex(version, r'\A\d+\.\d\d\n\Z')
+        for tool in TOOLS:
+            self.assertEqual(called(tool, '--version'), (0, f'{tool.name} (Rokemaipu) {version}', ''))
 
     def test_wrong_calls(self):
         """Those that ask the program itself are held in statuses.py."""

@@ -28,6 +28,7 @@ class Standing:
         self.root = Path(folder.name)
         shutil.copytree(ROOT / 'tools', self.root / 'tools')
         shutil.copytree(ROOT / 'report', self.root / 'report')
+        shutil.copy(ROOT / 'VERSION', self.root)
         (self.root / 'tools/machine.py').write_text(MACHINE)
         (self.root / 'target/bin').mkdir(parents=True)
 

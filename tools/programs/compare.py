@@ -17,7 +17,7 @@ be read or written, or the call is wrong.
 import sys
 
 from messages import Messages
-from passing import FAILED, WELL, run
+from passing import FAILED, WELL, asked, run
 
 SAME, DIFFER = 0, 1
 
@@ -39,8 +39,7 @@ class Judge:
 
 
 def main(words):
-    if words[:1] == ['--help']:
-        print(__doc__.split('\n\n', 1)[1], end='')
+    if asked('compare', words, __doc__.split('\n\n', 1)[1]):
         return WELL
     judge = Judge()
     done = run('compare', words, Messages([], judge.said).hear, Messages([], judge.told).hear)

@@ -1,7 +1,8 @@
 """The desk, by target/bin/desk, with an exit status.
 
 usage: desk [lent] < SCRIPT
-  answers each step of SCRIPT with a line; lent runs the steps on a lent table
+  SCRIPT   steps, a line for each; every one is answered with a line
+  lent     runs the steps on a lent table
 Exit status: 0 all well; 1 a line that is no step (?), a set-up that is refused, or a log of logr or replay that is cut or bad;
 2 something could not be read or written, or the call is wrong. Any other refusal is an answer like every other.
 """
@@ -9,7 +10,7 @@ import sys
 from collections import deque
 
 from messages import Messages
-from passing import FAILED, PARTLY, WELL, run
+from passing import FAILED, PARTLY, WELL, asked, run
 
 # more than the words of the steps that are told apart
 HEAD = 8
@@ -53,8 +54,7 @@ class Judge:
 
 
 def main(words):
-    if words[:1] == ['--help']:
-        print(__doc__.split('\n\n', 1)[1], end='')
+    if asked('desk', words, __doc__.split('\n\n', 1)[1]):
         return WELL
     judge = Judge()
     done = run('desk', words, Messages([], judge.said).hear, Messages([], judge.answered).hear, judge.script.hear)

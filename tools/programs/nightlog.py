@@ -12,7 +12,7 @@ import re
 import sys
 
 from messages import Messages
-from passing import FAILED, PARTLY, WELL, run
+from passing import FAILED, PARTLY, WELL, asked, run
 
 LEFT_OUT = re.compile(rb'nightlog: line \d+: (no frame or tick|no line feed|R\d+)')
 OF_A_LINE = re.compile(rb'nightlog: line \d+: .+')
@@ -48,8 +48,7 @@ class Judge:
 
 
 def main(words):
-    if words[:1] == ['--help']:
-        print(__doc__.split('\n\n', 1)[1], end='')
+    if asked('nightlog', words, __doc__.split('\n\n', 1)[1]):
         return WELL
     judge = Judge(words)
     done = run('nightlog', words, Messages([judge.about], judge.said).hear, Messages([], judge.counted).hear if words[:1] == ['check'] else None)

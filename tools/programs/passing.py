@@ -13,6 +13,7 @@ from pathlib import Path
 
 sys.path.append(str(Path(__file__).resolve().parents[1]))
 
+from asked import asked
 from machine import PROGRAMS, command
 
 # all well; the log is cut or bad, a line was left out, a set-up refused; could not be read or written, wrong usage

@@ -15,7 +15,7 @@ from pathlib import Path
 sys.path.append(str(Path(__file__).resolve().parents[2]))
 
 from messages import Messages
-from passing import FAILED, PARTLY, WELL, die_by, run, say, write_all
+from passing import FAILED, PARTLY, WELL, asked, die_by, run, say, write_all
 from report.words import FINDINGS, MALFORMED, REFUSALS, SET_UPS
 
 # how far a long log is, on a line that the next one goes over, and the line wiped
@@ -71,8 +71,7 @@ def in_words(message):
 
 
 def main(words):
-    if words[:1] == ['--help']:
-        print(__doc__.split('\n\n', 1)[1], end='')
+    if asked('replay', words, __doc__.split('\n\n', 1)[1]):
         return WELL
     only_lines = words[:1] == ['--lines']
     files = words[1:] if only_lines else words
