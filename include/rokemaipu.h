@@ -324,10 +324,14 @@ uint32_t rokemaipu_write(uint32_t kind, const int64_t *raws, size_t places, uint
  * with 13, 7, and 5 for the new label, with the start bit of the changed signal. */
 uint32_t rokemaipu_change(uint32_t id, bool extended, uint8_t *payload, size_t length, uint32_t start, int64_t raw);
 
-/* The same by the pages of the older controllers, document 001, whose kinds are 12 to 29 in the document's order; 9 to 11, of the safety controller, are read,
- * written and changed by either. An identifier that only the other pages have gets 3, and a kind 7. */
+/* Reads a frame by the pages of the older controllers, document 001, as rokemaipu_read does by the newer ones'. Their kinds are 12 to 29, in the document's
+ * order; 9 to 11, of the safety controller, are of either. Refuses with 3 also an identifier that only the newer pages have. */
 uint32_t rokemaipu_read_older(uint32_t id, bool extended, const uint8_t *payload, size_t length, int64_t *raws, size_t places);
+
+/* Writes the frame of a kind of these pages likewise. Refuses with 7 also a kind that only the newer pages have. */
 uint32_t rokemaipu_write_older(uint32_t kind, const int64_t *raws, size_t places, uint8_t *buffer, size_t room);
+
+/* Changes a signal of a frame of these pages likewise. */
 uint32_t rokemaipu_change_older(uint32_t id, bool extended, uint8_t *payload, size_t length, uint32_t start, int64_t raw);
 
 /* ---- for the service screen: what is no part of a message */
