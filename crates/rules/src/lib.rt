@@ -1,5 +1,6 @@
 // 01's session watch, one post: definitions and laws, and no function. Read with 01 beside it, in this order:
-//   specs/History.antt    a post's accepted frames and ticks, newest first, and looking back over them: the session, times
+//   specs/History.antt    a post's accepted frames and ticks, newest first, and looking back over them: the session
+//   specs/Times.antt      their times, which do not come round as those that are received do
 //   specs/Rules.antt      F1 to F11, each over the history before an event and the event
 //   specs/Counts.antt     02's counts: the events of a history, and of how many of them a rule finds something
 //   specs/Record.antt     the record that is handed out, and the post that the table keeps, each read off the history
