@@ -86,17 +86,17 @@ static void ages(void) {
     puts("ages: up to the largest and no further; a hundred days, ticked every hour");
 }
 
-/* a time of the caller's own making: the table's clock has 64 bits, and comes round there */
+/* a table of the caller's own making: its clock has 64 bits, and comes round there */
 static void any_clock(void) {
-    rokemaipu_table t;
-    memset(&t, 0, sizeof t);
-    for (int turn = 0; turn < 100000 && !bad; turn++) {
-        begin(&t);
-        rokemaipu_head *h = &t.posts[0].head;
-        h->heard = 1, h->time = below(3) ? some_time() : UINT64_MAX - below(3000000000u);
+    rokemaipu_table *t = (rokemaipu_table *)fenced((size_t)sysconf(_SC_PAGESIZE));
+    rokemaipu_head *h = &t->posts[0].head;
+    for (int turn = 0; turn < 20000 && !bad; turn++) {
+        random_table(t);
+        for (int i = 0; i < ROKEMAIPU_POSTS; i++) t->posts[i].head.used = !i;
+        h->channel = 4, h->heard = 1, h->counts[0] = below(1000), h->time = below(3) ? some_time() : UINT64_MAX - below(3000000000u);
         uint64_t from = h->time;
         uint32_t later = below(2) ? (uint32_t)next() : 0x7fffffff + below(3), time = (uint32_t)from + later;
-        IS(rokemaipu_tick(&t, 4, time), later >> 31 ? R(2) : 0);
+        IS(rokemaipu_refusal(rokemaipu_tick(t, 4, time)), later >> 31 ? 2 : 0);
         IS(h->time == (later >> 31 ? from : from + later), true);
     }
     puts("any clock: later by the wrapped difference, in 64 bits");

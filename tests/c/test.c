@@ -14,7 +14,7 @@ static bool same_table(const rokemaipu_table *a, const rokemaipu_table *b) { ret
 
 static void layout(void) {
     IS(rokemaipu_layout(), ROKEMAIPU_LAYOUT);
-    IS(rokemaipu_layout(), 3976 + 8 * (1ull << 32) + 12 * (1ull << 40) + 2 * (1ull << 48));
+    IS(rokemaipu_layout(), 3976 + 8 * (1ull << 32) + 12 * (1ull << 40) + 3 * (1ull << 48));
     rokemaipu_table t, zero;
     memset(&t, 0, sizeof t);
     memset(&zero, 0, sizeof zero);

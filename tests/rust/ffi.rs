@@ -82,7 +82,7 @@ pub struct Replay {
 }
 
 /// What `rokemaipu_layout` answers where the library has this table.
-pub const LAYOUT: u64 = std::mem::size_of::<Table>() as u64 + ((POSTS as u64) << 32) + ((KINDS as u64) << 40) + (2 << 48);
+pub const LAYOUT: u64 = std::mem::size_of::<Table>() as u64 + ((POSTS as u64) << 32) + ((KINDS as u64) << 40) + (3 << 48);
 
 impl Table {
     /// Zeroed memory is the empty table.
@@ -114,6 +114,9 @@ extern "C" {
     pub fn rokemaipu_read(id: u32, extended: bool, payload: *const u8, length: usize, raws: *mut i64, places: usize) -> u32;
     pub fn rokemaipu_write(kind: u32, raws: *const i64, places: usize, buffer: *mut u8, room: usize) -> u32;
     pub fn rokemaipu_change(id: u32, extended: bool, payload: *mut u8, length: usize, start: u32, raw: i64) -> u32;
+    pub fn rokemaipu_read_older(id: u32, extended: bool, payload: *const u8, length: usize, raws: *mut i64, places: usize) -> u32;
+    pub fn rokemaipu_write_older(kind: u32, raws: *const i64, places: usize, buffer: *mut u8, room: usize) -> u32;
+    pub fn rokemaipu_change_older(id: u32, extended: bool, payload: *mut u8, length: usize, start: u32, raw: i64) -> u32;
     pub fn rokemaipu_probe_used(raw: i16) -> bool;
     pub fn rokemaipu_probe_degrees(raw: i16) -> f32;
     pub fn rokemaipu_limited_duty(raw: u16) -> u16;
