@@ -144,6 +144,28 @@ enum rokemaipu_kind {
     ROKEMAIPU_PT1000_STATE = 11            /* standard 8 */
 };
 
+/* Kinds of the older controllers' messages, in the order of document 001, for rokemaipu_read_older and its like: extended frames. No post keeps them. */
+enum rokemaipu_older_kind {
+    ROKEMAIPU_OLDER_POWER_MODULES_STATUS = 12,    /* 0x60010 */
+    ROKEMAIPU_OLDER_POWER_MODULES_LIMITS = 13,    /* 0x60011 */
+    ROKEMAIPU_OLDER_SEQUENCE_CONTROL = 14,        /* 0x60012 */
+    ROKEMAIPU_OLDER_ADM_CS_SECC_OUTPUTS = 15,     /* 0x60013 */
+    ROKEMAIPU_OLDER_NEW_CHARGE_SESSION = 16,      /* 0x68001 */
+    ROKEMAIPU_OLDER_INSULATION_TEST = 17,         /* 0x68002 */
+    ROKEMAIPU_OLDER_PRECHARGE = 18,               /* 0x68003 */
+    ROKEMAIPU_OLDER_CHARGE_STATUS_CHANGE = 19,    /* 0x68004 */
+    ROKEMAIPU_OLDER_CHARGING_LOOP = 20,           /* 0x68005 */
+    ROKEMAIPU_OLDER_EMERGENCY_STOP = 21,          /* 0x68006 */
+    ROKEMAIPU_OLDER_CHARGE_SESSION_FINISHED = 22, /* 0x68007 */
+    ROKEMAIPU_OLDER_CONTROLLER_STATUS = 23,       /* 0x68009 */
+    ROKEMAIPU_OLDER_ADM_CO_CUI1_INPUTS = 24,      /* 0x6800a */
+    ROKEMAIPU_OLDER_ADM_CS_SECC_INPUTS = 25,      /* 0x6800b */
+    ROKEMAIPU_OLDER_EV_ID = 26,                   /* 0x6800c */
+    ROKEMAIPU_OLDER_ADM_CS_SPCC_INPUTS = 27,      /* 0x6800d */
+    ROKEMAIPU_OLDER_CCS_EXTRA_INFORMATION = 28,   /* 0x6800e */
+    ROKEMAIPU_OLDER_MCS_EXTRA_INFORMATION = 29    /* 0x6800f */
+};
+
 /* Kinds of insulation sensors. In a table of your own making every other number counts as measuring. */
 enum rokemaipu_sensor {
     ROKEMAIPU_MEASURING = 0, /* finding 9 is under 100 Ohm per volt */
@@ -324,8 +346,8 @@ uint32_t rokemaipu_write(uint32_t kind, const int64_t *raws, size_t places, uint
  * with 13, 7, and 5 for the new label, with the start bit of the changed signal. */
 uint32_t rokemaipu_change(uint32_t id, bool extended, uint8_t *payload, size_t length, uint32_t start, int64_t raw);
 
-/* Reads a frame by the pages of the older controllers, document 001, as rokemaipu_read does by the newer ones'. Their kinds are 12 to 29, in the document's
- * order; 9 to 11, of the safety controller, are of either. Refuses with 3 also an identifier that only the newer pages have. */
+/* Reads a frame by the pages of the older controllers, document 001, as rokemaipu_read does by the newer ones'. Their kinds are those of
+ * rokemaipu_older_kind; 9 to 11, of the safety controller, are of either. Refuses with 3 also an identifier that only the newer pages have. */
 uint32_t rokemaipu_read_older(uint32_t id, bool extended, const uint8_t *payload, size_t length, int64_t *raws, size_t places);
 
 /* Writes the frame of a kind of these pages likewise. Refuses with 7 also a kind that only the newer pages have. */

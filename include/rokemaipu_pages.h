@@ -1,4 +1,4 @@
-/* The maker's pages (documents 000 and 004), for whoever has raw numbers: rokemaipu_read puts them into these places, and rokemaipu_write takes
+/* The maker's pages (documents 000, 004 and 001), for whoever has raw numbers: rokemaipu_read puts them into these places, and rokemaipu_write takes
  * them from there, in the order of the page. An enum for each message has the places of its signals, with what 1 stands for; an enum for
  * each signal with labels has the labels' numbers, and any other number in that signal gets refusal 5. Included by rokemaipu.h. */
 #ifndef ROKEMAIPU_PAGES_H
@@ -200,4 +200,207 @@ enum rokemaipu_pt1000_state {
     ROKEMAIPU_PT4_CHARGING_STOPPED = 10, /* 0 or 1 */
     ROKEMAIPU_PT4_SELFTEST_FAILED = 11   /* 0 or 1 */
 };
+
+/* ---- document 001, the pages of the older controllers, for rokemaipu_read_older and rokemaipu_write_older. Labels that are those of a signal above have its
+ * enum. */
+
+/* Power_Modules_Status: extended 0x60010, 8 bytes */
+enum rokemaipu_older_power_modules_status {
+    ROKEMAIPU_OLDER_POWER_MODULES_STATUS_PRESENT_VOLTAGE = 0,           /* 0.1 V */
+    ROKEMAIPU_OLDER_POWER_MODULES_STATUS_PRESENT_CURRENT = 1,           /* 0.1 A, signed */
+    ROKEMAIPU_OLDER_POWER_MODULES_STATUS_POWER_MODULES_TEMPERATURE = 2, /* °C plus 40 */
+    ROKEMAIPU_OLDER_POWER_MODULES_STATUS_ENCLOSURE_TEMPERATURE = 3,     /* °C plus 40 */
+    ROKEMAIPU_OLDER_POWER_MODULES_STATUS_SYSTEM_ENABLE = 4,             /* of rokemaipu_system_enable */
+    ROKEMAIPU_OLDER_POWER_MODULES_STATUS_INSULATION_RESISTANCE = 5      /* 2 kOhm */
+};
+
+/* Power_Modules_Limits: extended 0x60011, 8 bytes */
+enum rokemaipu_older_power_modules_limits {
+    ROKEMAIPU_OLDER_POWER_MODULES_LIMITS_MAXIMUM_VOLTAGE = 0, /* 0.1 V */
+    ROKEMAIPU_OLDER_POWER_MODULES_LIMITS_MAXIMUM_CURRENT = 1, /* 0.1 A, signed */
+    ROKEMAIPU_OLDER_POWER_MODULES_LIMITS_RESERVED = 2         /* as it is */
+};
+
+/* Sequence_Control: extended 0x60012, 3 bytes */
+enum rokemaipu_older_sequence_control {
+    ROKEMAIPU_OLDER_SEQUENCE_CONTROL_START_CHARGE_AUTHORISATION = 0, /* of rokemaipu_older_sequence_control_start_charge_authorisation */
+    ROKEMAIPU_OLDER_SEQUENCE_CONTROL_CHADEMO_START_BUTTON = 1,       /* of rokemaipu_older_sequence_control_chademo_start_button */
+    ROKEMAIPU_OLDER_SEQUENCE_CONTROL_CCS_AUTHORISATION_DONE = 2,     /* of rokemaipu_older_sequence_control_ccs_authorisation_done */
+    ROKEMAIPU_OLDER_SEQUENCE_CONTROL_CCS_AUTHORISATION_VALID = 3,    /* of rokemaipu_older_sequence_control_ccs_authorisation_valid */
+    ROKEMAIPU_OLDER_SEQUENCE_CONTROL_CHARGE_PARAMETERS_DONE = 4,     /* of rokemaipu_older_sequence_control_charge_parameters_done */
+    ROKEMAIPU_OLDER_SEQUENCE_CONTROL_USER_STOP_BUTTON = 5            /* of rokemaipu_older_sequence_control_user_stop_button */
+};
+enum rokemaipu_older_sequence_control_start_charge_authorisation {
+    ROKEMAIPU_OLDER_SEQUENCE_CONTROL_START_CHARGE_AUTHORISATION_NOT_ALLOWED = 0,
+    ROKEMAIPU_OLDER_SEQUENCE_CONTROL_START_CHARGE_AUTHORISATION_ALLOWED = 1
+};
+enum rokemaipu_older_sequence_control_chademo_start_button {
+    ROKEMAIPU_OLDER_SEQUENCE_CONTROL_CHADEMO_START_BUTTON_NOT_PRESSED = 0,
+    ROKEMAIPU_OLDER_SEQUENCE_CONTROL_CHADEMO_START_BUTTON_PRESSED = 1
+};
+enum rokemaipu_older_sequence_control_ccs_authorisation_done {
+    ROKEMAIPU_OLDER_SEQUENCE_CONTROL_CCS_AUTHORISATION_DONE_NOT_DONE = 0,
+    ROKEMAIPU_OLDER_SEQUENCE_CONTROL_CCS_AUTHORISATION_DONE_DONE = 1
+};
+enum rokemaipu_older_sequence_control_ccs_authorisation_valid {
+    ROKEMAIPU_OLDER_SEQUENCE_CONTROL_CCS_AUTHORISATION_VALID_INVALID = 0,
+    ROKEMAIPU_OLDER_SEQUENCE_CONTROL_CCS_AUTHORISATION_VALID_VALID = 1
+};
+enum rokemaipu_older_sequence_control_charge_parameters_done {
+    ROKEMAIPU_OLDER_SEQUENCE_CONTROL_CHARGE_PARAMETERS_DONE_NOT_DONE = 0,
+    ROKEMAIPU_OLDER_SEQUENCE_CONTROL_CHARGE_PARAMETERS_DONE_DONE = 1
+};
+enum rokemaipu_older_sequence_control_user_stop_button {
+    ROKEMAIPU_OLDER_SEQUENCE_CONTROL_USER_STOP_BUTTON_NOT_PRESSED = 0,
+    ROKEMAIPU_OLDER_SEQUENCE_CONTROL_USER_STOP_BUTTON_PRESSED = 1
+};
+
+/* ADM_CS_SECC_Outputs: extended 0x60013, 8 bytes */
+enum rokemaipu_older_adm_cs_secc_outputs {
+    ROKEMAIPU_OLDER_ADM_CS_SECC_OUTPUTS_DIGITAL_OUTPUT1 = 0, /* 0 or 1 */
+    ROKEMAIPU_OLDER_ADM_CS_SECC_OUTPUTS_DIGITAL_OUTPUT2 = 1, /* 0 or 1 */
+    ROKEMAIPU_OLDER_ADM_CS_SECC_OUTPUTS_DIGITAL_OUTPUT3 = 2, /* 0 or 1 */
+    ROKEMAIPU_OLDER_ADM_CS_SECC_OUTPUTS_DIGITAL_OUTPUT4 = 3, /* 0 or 1 */
+    ROKEMAIPU_OLDER_ADM_CS_SECC_OUTPUTS_RESERVED = 4         /* as it is */
+};
+
+/* New_Charge_Session: extended 0x68001, 8 bytes */
+enum rokemaipu_older_new_charge_session {
+    ROKEMAIPU_OLDER_NEW_CHARGE_SESSION_COMMUNICATION_PROTOCOL = 0, /* of rokemaipu_communication_protocol */
+    ROKEMAIPU_OLDER_NEW_CHARGE_SESSION_PLUG_AND_PINS = 1,          /* of rokemaipu_plug_and_pins */
+    ROKEMAIPU_OLDER_NEW_CHARGE_SESSION_EV_MAXIMUM_VOLTAGE = 2,     /* 0.1 V */
+    ROKEMAIPU_OLDER_NEW_CHARGE_SESSION_EV_MAXIMUM_CURRENT = 3,     /* 0.1 A */
+    ROKEMAIPU_OLDER_NEW_CHARGE_SESSION_BATTERY_CAPACITY = 4,       /* 2 kWh */
+    ROKEMAIPU_OLDER_NEW_CHARGE_SESSION_STATE_OF_CHARGE = 5         /* % */
+};
+
+/* Insulation_Test: extended 0x68002, 2 bytes */
+enum rokemaipu_older_insulation_test {
+    ROKEMAIPU_OLDER_INSULATION_TEST_TEST_VOLTAGE = 0 /* 0.1 V */
+};
+
+/* Precharge: extended 0x68003, 4 bytes */
+enum rokemaipu_older_precharge {
+    ROKEMAIPU_OLDER_PRECHARGE_TARGET_VOLTAGE = 0, /* 0.1 V */
+    ROKEMAIPU_OLDER_PRECHARGE_MAXIMUM_CURRENT = 1 /* 0.1 A */
+};
+
+/* Charge_Status_Change: extended 0x68004, 1 byte */
+enum rokemaipu_older_charge_status_change {
+    ROKEMAIPU_OLDER_CHARGE_STATUS_CHANGE_VEHICLE_READY_FOR_CHARGING = 0 /* of rokemaipu_vehicle_ready_for_charging */
+};
+
+/* Charging_Loop: extended 0x68005, 5 bytes */
+enum rokemaipu_older_charging_loop {
+    ROKEMAIPU_OLDER_CHARGING_LOOP_TARGET_VOLTAGE = 0, /* 0.1 V */
+    ROKEMAIPU_OLDER_CHARGING_LOOP_TARGET_CURRENT = 1, /* 0.1 A, signed */
+    ROKEMAIPU_OLDER_CHARGING_LOOP_STATE_OF_CHARGE = 2 /* % */
+};
+
+/* Emergency_Stop: extended 0x68006, 1 byte */
+enum rokemaipu_older_emergency_stop {
+    ROKEMAIPU_OLDER_EMERGENCY_STOP_ORIGIN = 0 /* of rokemaipu_stop_origin */
+};
+
+/* Charge_Session_Finished: extended 0x68007, 1 byte */
+enum rokemaipu_older_charge_session_finished {
+    ROKEMAIPU_OLDER_CHARGE_SESSION_FINISHED_STATE = 0 /* of rokemaipu_finished_state */
+};
+
+/* Advantics_Controller_Status: extended 0x68009, 1 byte */
+enum rokemaipu_older_controller_status {
+    ROKEMAIPU_OLDER_CONTROLLER_STATUS_STATE = 0 /* of rokemaipu_controller_state */
+};
+
+/* ADM_CO_CUI1_Inputs: extended 0x6800a, 8 bytes */
+enum rokemaipu_older_adm_co_cui1_inputs {
+    ROKEMAIPU_OLDER_ADM_CO_CUI1_INPUTS_SWITCH0 = 0,             /* 0 or 1 */
+    ROKEMAIPU_OLDER_ADM_CO_CUI1_INPUTS_SWITCH1 = 1,             /* 0 or 1 */
+    ROKEMAIPU_OLDER_ADM_CO_CUI1_INPUTS_SWITCH2 = 2,             /* 0 or 1 */
+    ROKEMAIPU_OLDER_ADM_CO_CUI1_INPUTS_SWITCH3 = 3,             /* 0 or 1 */
+    ROKEMAIPU_OLDER_ADM_CO_CUI1_INPUTS_SWITCH4 = 4,             /* 0 or 1 */
+    ROKEMAIPU_OLDER_ADM_CO_CUI1_INPUTS_SWITCH5 = 5,             /* 0 or 1 */
+    ROKEMAIPU_OLDER_ADM_CO_CUI1_INPUTS_RESERVED = 6,            /* as it is */
+    ROKEMAIPU_OLDER_ADM_CO_CUI1_INPUTS_COLIBRI_TEMPERATURE = 7, /* °C plus 40 */
+    ROKEMAIPU_OLDER_ADM_CO_CUI1_INPUTS_CPU_TEMPERATURE = 8,     /* °C plus 40 */
+    ROKEMAIPU_OLDER_ADM_CO_CUI1_INPUTS_PISTOL_PTC1 = 9,         /* °C plus 40 */
+    ROKEMAIPU_OLDER_ADM_CO_CUI1_INPUTS_PISTOL_PTC2 = 10         /* °C plus 40 */
+};
+
+/* ADM_CS_SECC_Inputs: extended 0x6800b, 8 bytes */
+enum rokemaipu_older_adm_cs_secc_inputs {
+    ROKEMAIPU_OLDER_ADM_CS_SECC_INPUTS_DIGITAL_INPUT1 = 0,  /* 0 or 1 */
+    ROKEMAIPU_OLDER_ADM_CS_SECC_INPUTS_DIGITAL_INPUT2 = 1,  /* 0 or 1 */
+    ROKEMAIPU_OLDER_ADM_CS_SECC_INPUTS_DIGITAL_INPUT3 = 2,  /* 0 or 1 */
+    ROKEMAIPU_OLDER_ADM_CS_SECC_INPUTS_DIGITAL_INPUT4 = 3,  /* 0 or 1 */
+    ROKEMAIPU_OLDER_ADM_CS_SECC_INPUTS_RESERVED = 4,        /* as it is */
+    ROKEMAIPU_OLDER_ADM_CS_SECC_INPUTS_CPU_TEMPERATURE = 5, /* °C plus 40 */
+    ROKEMAIPU_OLDER_ADM_CS_SECC_INPUTS_PISTOL_PTC1 = 6,     /* °C plus 40 */
+    ROKEMAIPU_OLDER_ADM_CS_SECC_INPUTS_PISTOL_PTC2 = 7      /* °C plus 40 */
+};
+
+/* EV_ID_CCS_Part2_DIN: extended 0x6800c, 6 bytes */
+enum rokemaipu_older_ev_id {
+    ROKEMAIPU_OLDER_EV_ID_BYTE0 = 0, /* as it is */
+    ROKEMAIPU_OLDER_EV_ID_BYTE1 = 1, /* as it is */
+    ROKEMAIPU_OLDER_EV_ID_BYTE2 = 2, /* as it is */
+    ROKEMAIPU_OLDER_EV_ID_BYTE3 = 3, /* as it is */
+    ROKEMAIPU_OLDER_EV_ID_BYTE4 = 4, /* as it is */
+    ROKEMAIPU_OLDER_EV_ID_BYTE5 = 5  /* as it is */
+};
+
+/* ADM_CS_SPCC_Inputs: extended 0x6800d, 8 bytes */
+enum rokemaipu_older_adm_cs_spcc_inputs {
+    ROKEMAIPU_OLDER_ADM_CS_SPCC_INPUTS_DIGITAL_INPUT1 = 0,   /* 0 or 1 */
+    ROKEMAIPU_OLDER_ADM_CS_SPCC_INPUTS_DIGITAL_INPUT2 = 1,   /* 0 or 1 */
+    ROKEMAIPU_OLDER_ADM_CS_SPCC_INPUTS_DIGITAL_INPUT3 = 2,   /* 0 or 1 */
+    ROKEMAIPU_OLDER_ADM_CS_SPCC_INPUTS_DIGITAL_INPUT4 = 3,   /* 0 or 1 */
+    ROKEMAIPU_OLDER_ADM_CS_SPCC_INPUTS_RESERVED = 4,         /* as it is */
+    ROKEMAIPU_OLDER_ADM_CS_SPCC_INPUTS_CPU_TEMPERATURE0 = 5, /* °C plus 40 */
+    ROKEMAIPU_OLDER_ADM_CS_SPCC_INPUTS_CPU_TEMPERATURE1 = 6, /* °C plus 40 */
+    ROKEMAIPU_OLDER_ADM_CS_SPCC_INPUTS_PT1K_A = 7,           /* °C plus 40 */
+    ROKEMAIPU_OLDER_ADM_CS_SPCC_INPUTS_PT1K_B = 8,           /* °C plus 40 */
+    ROKEMAIPU_OLDER_ADM_CS_SPCC_INPUTS_PT1KS_C = 9,          /* °C plus 40 */
+    ROKEMAIPU_OLDER_ADM_CS_SPCC_INPUTS_PT1KS_D = 10          /* °C plus 40 */
+};
+
+/* CCS_Extra_Information: extended 0x6800e, 8 bytes */
+enum rokemaipu_older_ccs_extra_information {
+    ROKEMAIPU_OLDER_CCS_EXTRA_INFORMATION_CP_STATE = 0,      /* of rokemaipu_older_ccs_extra_information_cp_state */
+    ROKEMAIPU_OLDER_CCS_EXTRA_INFORMATION_CP_DUTY_CYCLE = 1, /* 0.1 % */
+    ROKEMAIPU_OLDER_CCS_EXTRA_INFORMATION_RESERVED = 2       /* as it is */
+};
+enum rokemaipu_older_ccs_extra_information_cp_state {
+    ROKEMAIPU_OLDER_CCS_EXTRA_INFORMATION_CP_STATE_E_OR_F = 0,
+    ROKEMAIPU_OLDER_CCS_EXTRA_INFORMATION_CP_STATE_D = 3,
+    ROKEMAIPU_OLDER_CCS_EXTRA_INFORMATION_CP_STATE_C = 6,
+    ROKEMAIPU_OLDER_CCS_EXTRA_INFORMATION_CP_STATE_B = 9,
+    ROKEMAIPU_OLDER_CCS_EXTRA_INFORMATION_CP_STATE_A = 12
+};
+
+/* MCS_Extra_Information: extended 0x6800f, 8 bytes */
+enum rokemaipu_older_mcs_extra_information {
+    ROKEMAIPU_OLDER_MCS_EXTRA_INFORMATION_CE_STATE = 0, /* of rokemaipu_older_mcs_extra_information_ce_state */
+    ROKEMAIPU_OLDER_MCS_EXTRA_INFORMATION_ID_STATE = 1, /* of rokemaipu_older_mcs_extra_information_id_state */
+    ROKEMAIPU_OLDER_MCS_EXTRA_INFORMATION_RESERVED = 2  /* as it is */
+};
+enum rokemaipu_older_mcs_extra_information_ce_state {
+    ROKEMAIPU_OLDER_MCS_EXTRA_INFORMATION_CE_STATE_UNDEFINED = 0,
+    ROKEMAIPU_OLDER_MCS_EXTRA_INFORMATION_CE_STATE_A = 1,
+    ROKEMAIPU_OLDER_MCS_EXTRA_INFORMATION_CE_STATE_B0 = 2,
+    ROKEMAIPU_OLDER_MCS_EXTRA_INFORMATION_CE_STATE_B0_AUX = 3,
+    ROKEMAIPU_OLDER_MCS_EXTRA_INFORMATION_CE_STATE_B = 4,
+    ROKEMAIPU_OLDER_MCS_EXTRA_INFORMATION_CE_STATE_B_AUX = 5,
+    ROKEMAIPU_OLDER_MCS_EXTRA_INFORMATION_CE_STATE_C = 6,
+    ROKEMAIPU_OLDER_MCS_EXTRA_INFORMATION_CE_STATE_C_AUX = 7,
+    ROKEMAIPU_OLDER_MCS_EXTRA_INFORMATION_CE_STATE_EC = 8,
+    ROKEMAIPU_OLDER_MCS_EXTRA_INFORMATION_CE_STATE_E = 9
+};
+enum rokemaipu_older_mcs_extra_information_id_state {
+    ROKEMAIPU_OLDER_MCS_EXTRA_INFORMATION_ID_STATE_UNMATED = 0,
+    ROKEMAIPU_OLDER_MCS_EXTRA_INFORMATION_ID_STATE_MATED = 1,
+    ROKEMAIPU_OLDER_MCS_EXTRA_INFORMATION_ID_STATE_MATED_EVAUX = 2,
+    ROKEMAIPU_OLDER_MCS_EXTRA_INFORMATION_ID_STATE_MATED_EVSEAUX = 3
+};
+
 #endif

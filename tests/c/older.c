@@ -2,7 +2,7 @@
  * and identifiers, kinds and bits that are not theirs. Prints a line for each part and 'ok', or says what was wrong and where, and exits 1. */
 #include "fence.h"
 
-enum { FIRST = 12, OLDER = 18 };
+enum { FIRST = ROKEMAIPU_OLDER_POWER_MODULES_STATUS, OLDER = ROKEMAIPU_OLDER_MCS_EXTRA_INFORMATION + 1 - FIRST };
 static const struct { uint32_t id; size_t length; } pages[OLDER] = {{0x60010, 8}, {0x60011, 8}, {0x60012, 3}, {0x60013, 8}, {0x68001, 8}, {0x68002, 2},
     {0x68003, 4}, {0x68004, 1}, {0x68005, 5}, {0x68006, 1}, {0x68007, 1}, {0x68009, 1}, {0x6800a, 8}, {0x6800b, 8}, {0x6800c, 6}, {0x6800d, 8}, {0x6800e, 8},
     {0x6800f, 8}};
@@ -38,6 +38,10 @@ static void trips(void) {
 static void others(void) {
     int64_t raws[ROKEMAIPU_SIGNALS] = {0};
     uint8_t status[8] = {0xa0, 0x0f, 0x83, 0xff, 0x41, 0, 1, 0x64}, control[3] = {0}, safety[8] = {0x82, 0x15, 0, 0, 0, 0, 0, 0}, lent[8];
+    IS(rokemaipu_read_older(0x60010, true, status, 8, raws, ROKEMAIPU_SIGNALS), ROKEMAIPU_OLDER_POWER_MODULES_STATUS); /* E1's bytes */
+    IS(raws[ROKEMAIPU_OLDER_POWER_MODULES_STATUS_PRESENT_VOLTAGE] == 4000 && raws[ROKEMAIPU_OLDER_POWER_MODULES_STATUS_PRESENT_CURRENT] == -125, true);
+    IS(raws[ROKEMAIPU_OLDER_POWER_MODULES_STATUS_POWER_MODULES_TEMPERATURE] == 65 && raws[ROKEMAIPU_OLDER_POWER_MODULES_STATUS_INSULATION_RESISTANCE] == 100, true);
+    IS(raws[ROKEMAIPU_OLDER_POWER_MODULES_STATUS_SYSTEM_ENABLE], ROKEMAIPU_SYSTEM_ENABLE_ALLOWED);
     IS(rokemaipu_read_older(0x63000, true, status, 8, raws, ROKEMAIPU_SIGNALS), R(3));
     IS(rokemaipu_read_older(0x60010, false, status, 8, raws, ROKEMAIPU_SIGNALS), R(3)); /* the exact form counts */
     IS(rokemaipu_read_older(6, false, safety, 8, raws, ROKEMAIPU_SIGNALS), ROKEMAIPU_CHARGE_CONTROL_1); /* the safety controller's are of either */
@@ -46,7 +50,7 @@ static void others(void) {
     for (uint32_t kind = 0; kind < 9; kind++) IS(rokemaipu_write_older(kind, raws, ROKEMAIPU_SIGNALS, lent, 8), R(7));
     IS(rokemaipu_write_older(FIRST + OLDER, raws, ROKEMAIPU_SIGNALS, lent, 8), R(7));
     IS(rokemaipu_read_older(0x60012, true, control, 3, raws, ROKEMAIPU_SIGNALS - 1), R(8));
-    IS(rokemaipu_read_older(0x60012, true, control, 3, raws, ROKEMAIPU_SIGNALS), FIRST + 2);
+    IS(rokemaipu_read_older(0x60012, true, control, 3, raws, ROKEMAIPU_SIGNALS), ROKEMAIPU_OLDER_SEQUENCE_CONTROL);
     for (uint32_t bit = 0; bit < 24; bit++) {
         bool covered = !((bit >= 2 && bit <= 7) || (bit >= 11 && bit <= 15) || bit >= 17);
         uint8_t one[3] = {0};
