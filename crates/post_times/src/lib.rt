@@ -35,15 +35,11 @@ fn ms_between(now: u64, from: u64) -> u64
     if from <= now { now - from } else { 0 }
 }
 
-// Where an event that is received at a time stands: the first one there, each later one that much later than the latest.
+// Where an event that is received at a time stands: that much later than the latest; a head that was not heard has the time 0.
 pub fn stamp(h: Head, time: u32) -> u64
     ensures { λ r. ⌜ r ≡ stampIn h time ⌝ }
 {
-    if is_set(h.heard as u64) {
-        std::num::wrapping_add_u64(h.time, ms_later(time, h.time) as u64)
-    } else {
-        time as u64
-    }
+    std::num::wrapping_add_u64(h.time, ms_later(time, h.time) as u64)
 }
 
 // ---- 2

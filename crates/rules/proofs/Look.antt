@@ -145,7 +145,7 @@ module _ (c : ℕ) (lim : PlainLimits) where
   -- the sum does not come round in 64 bits
   pub stamp-look : (h : History) (t : ℕ) → Unrolled h → isFull h ≡ false → stampIn (headOf c lim h) t ≡ stampOf h t
   unfolding stampIn headAt
-  stamp-look [] t un room = refl
+  stamp-look [] t un room = omega arith
   stamp-look (e ∷ h) t un room = omega (arith, stamp-fits (e ∷ h) t un room)
 
   pub tick-look : (h : History) (t : ℕ) → Unrolled h → isFull h ≡ false

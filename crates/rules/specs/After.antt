@@ -63,9 +63,9 @@ sessionAfter s k n =
 
 -- ---- the head
 
--- where an event that is received at t stands, in 64 bits
+-- where an event that is received at t stands, in 64 bits; a post that was not heard has the time 0, so that its first event stands at t
 unfoldable pub stampIn : Head → ℕ → ℕ
-stampIn p t = cond (isSet (p .heard)) ((p .time + wrapped t (p .time)) % 18446744073709551616) (receivedOf t)
+stampIn p t = (p .time + wrapped t (p .time)) % 18446744073709551616
 
 unfoldable pub agedTo : Head → ℕ → Head
 agedTo p t =
