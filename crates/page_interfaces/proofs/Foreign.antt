@@ -6,6 +6,7 @@ use mathlib.Core.List.{List}
 use Prim.Native.Nat.{ℕ}
 use native.Mathlib.Omega.{arith}
 use borrow.Author.Tests.{not-true, ltb-false, leb-false, le-leb, lt-ltb}
+use Rattle.refusals.specs.declared.Refusal.{Refusal}
 use Rattle.refusals.specs.declared.Refusal.the-variants.{UnknownIdentifier}
 use Rattle.page_rows.specs.declared.Interface.{Interface}
 use Rattle.page_rows.specs.declared.Interface.the-variants.{Newer, Older}
@@ -17,9 +18,9 @@ use Rattle.page_rows.specs.Interfaces.{safetyKind, isOn, foundOn, Has}
 use Rattle.page_rows.proofs.Rules.{not-both}
 use Rattle.page_rows.proofs.Interfaces.{has-found, own-found}
 use Rattle.page_rows.proofs.Listed.{found-listed}
-use Rattle.page_read.specs.declared.Judged.the-variants.{Refused}
+use Rattle.page_read.specs.declared.Judged.the-variants.{Frame, Refused}
 use Rattle.page_read.specs.Judge.{judgedAt, judgeOn}
-use Rattle.page_interfaces.specs.Foreign.{foreignAt, isForeign, other}
+use Rattle.page_interfaces.specs.Foreign.{foreignAt, isForeign, other, turnedDown, judgeFor}
 
 -- a kind that one has not, the other has
 pub either-has : (iface : Interface) (k : ℕ) → isOn iface k ≡ false → isOn (other iface) k ≡ true
@@ -63,3 +64,21 @@ unfolding judgeOn
 foreign-refused iface m x bs e =
     let r = row-found iface m x e in
     ap (λ (f : Found). judgedAt bs (foundOn iface f)) (r .first) ∙ ap (λ (b : Bool). judgedAt bs (cond b (At (r .place)) Nothing)) (r .lacking)
+
+-- THEOREM: a frame that the interface's own pages read is none of the other's alone
+pub read-own : (iface : Interface) (m : ℕ) (x : Bool) (bs : List ℕ) (k n : ℕ) → judgeOn iface m x bs ≡ Frame k n → isForeign iface m x ≡ false
+read-own iface m x bs k n e = go (isForeign iface m x) refl
+  where
+    go : (b : Bool) → isForeign iface m x ≡ b → b ≡ false
+    go true f = let z : Refused UnknownIdentifier ≡ Frame k n = sym (foreign-refused iface m x bs f) ∙ e in absurd (let y : _≡_ {A = ℕ} 0 1 = cc in omega arith)
+    go false f = refl
+
+-- ---- what a post reads, from what its own pages say
+
+pub frame-for : (iface : Interface) (m : ℕ) (x : Bool) (bs : List ℕ) (k n : ℕ) → judgeOn iface m x bs ≡ Frame k n → Frame k n ≡ judgeFor iface m x bs
+unfolding judgeFor
+frame-for iface m x bs k n e = rw (read-own iface m x bs k n e) (sym e)
+
+pub refused-for : (iface : Interface) (m : ℕ) (x : Bool) (bs : List ℕ) (w : Refusal) → judgeOn iface m x bs ≡ Refused w → turnedDown iface m x w ≡ judgeFor iface m x bs
+unfolding judgeFor
+refused-for iface m x bs w e = rw e

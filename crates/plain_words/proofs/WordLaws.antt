@@ -8,7 +8,7 @@ use native.Mathlib.Omega.{arith}
 use lib.Dec.{ltb}
 use borrow.Author.Tests.{lt-ltb, le-ltb}
 use Rattle.refusals.specs.declared.Refusal.{Refusal}
-use Rattle.refusals.specs.declared.Refusal.the-variants.{ChannelFree, Earlier, UnknownIdentifier, TooShort, NoLabel, UncoveredBit, NoRawNumber, ShortBuffer, NoSuchPost, NoSuchChannel, ChannelTaken, LimitOutside, NoSignal, NotSetUp, TooLong, IllNumber, LogChannel, LogStandard, LogExtended, LogLength, LogTick, BatchBytes, BatchRecord, BatchAnswers, CountFull, CompareLog, CompareRecords, CompareRoom}
+use Rattle.refusals.specs.declared.Refusal.the-variants.{ChannelFree, Earlier, UnknownIdentifier, TooShort, NoLabel, UncoveredBit, NoRawNumber, ShortBuffer, NoSuchPost, NoSuchChannel, ChannelTaken, LimitOutside, NoSignal, NotSetUp, TooLong, IllNumber, LogChannel, LogStandard, LogExtended, LogLength, LogTick, BatchBytes, BatchRecord, BatchAnswers, CountFull, CompareLog, CompareRecords, CompareRoom, OtherInterface}
 use Rattle.refusals.specs.Refusals.{numberOf}
 use Rattle.plain_words.specs.Words.{Outcome, answers, refuses, refusalWord, outcomeWord, numberIn, startIn, isAccepted, numberGiven, startGiven, Within, Told}
 
@@ -46,6 +46,7 @@ number-small CountFull = omega arith
 number-small CompareLog = omega arith
 number-small CompareRecords = omega arith
 number-small CompareRoom = omega arith
+number-small OtherInterface = omega arith
 
 pub word-tells : (most : ℕ) (o : Outcome) → most < 65536 → Within most o → Told most o (outcomeWord o)
 word-tells most (answers n) l h =

@@ -9,10 +9,11 @@ ghost use Rattle.rules.specs.After.{afterTick, afterFrame, newPost, freePost, f
 mod step; // step.rt: a head after one event more
 
 use rule_limits::PlainLimits;
+use rule_pages::place_by;
 use rules::AfterEvent;
 use rules::COUNTS;
 use rules::Head;
-use rules::KINDS;
+use rules::PLACES;
 use rules::Post;
 
 // A post that nothing was heard of.
@@ -34,7 +35,7 @@ fn new_post(used: u32, channel: u32, limits: PlainLimits) -> Post
     };
     Post {
         head,
-        latest: [none; KINDS],
+        latest: [none; PLACES],
     }
 }
 
@@ -48,6 +49,7 @@ pub fn free_post() -> Post
         discharge: 0,
         silence: 0,
         sensor: 0,
+        interface: 0,
     };
     new_post(0, 0, limits)
 }
@@ -71,24 +73,25 @@ pub fn tick(h: Head, time: u32) -> AfterEvent
     AfterEvent {
         head: counted,
         slot,
-        at: KINDS,
+        at: PLACES,
         findings,
     }
 }
 
-pub fn frame(h: Head, time: u32, kind: usize, raw: u64) -> AfterEvent
+pub fn frame(h: Head, time: u32, kind: u32, raw: u64) -> AfterEvent
     ensures by_record { λ r. ⌜ r ≡ afterFrame h time kind raw ⌝ }
     ensures by_history { λ r. ⌜ AfterRight h (frameAt time kind raw) r ⌝ }
 {
+    let k = kind as usize;
     let g = step::aged(h, post_times::stamp(h, time));
-    let findings = post_times::any_findings(g) + post_findings::message_findings(g, kind, raw);
-    let slot = step::slot_at(g.time, raw);
-    let f = step::with_frame(g, kind, slot);
+    let findings = post_times::any_findings(g) + post_findings::message_findings(g, k, raw);
+    let slot = step::slot_at(g.time, kind, raw);
+    let f = step::with_frame(g, k, slot);
     let counted = step::with_counts(f, findings);
     AfterEvent {
         head: counted,
         slot,
-        at: kind,
+        at: place_by(k),
         findings,
     }
 }

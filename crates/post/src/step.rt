@@ -1,15 +1,12 @@
 // A head after one event more.
 ghost use mathlib.Core.Path.{_≡_};
 ghost use Prim.Native.Nat.{_<_};
+ghost use Rattle.rule_pages.specs.declared.Role.the-variants.{Limits, Controller};
 ghost use Rattle.rules.specs.Record.{unknown, slotAt, closedSession};
-ghost use Rattle.rules.specs.After.{keptCount, keptPut, openedBy, sessionAfter, agedTo, putAt, withFrame, withCounts};
-use message_types::CONTROL;
-use message_types::CONTROLLER;
-use message_types::FINISHED;
-use message_types::PARAMETERS;
-use message_types::SESSION;
-use message_types::STATUS;
+ghost use Rattle.rules.specs.After.{keptCount, keptPut, openedBy, sessionAfter, agedTo, putFor, withFrame, withCounts};
 use rule_asks::is_set;
+use rule_pages::Role;
+use rule_pages::role_of;
 use rules::CONTROL_PLACE;
 use rules::Head;
 use rules::KEPT;
@@ -22,16 +19,18 @@ pub fn no_slot() -> Slot
 {
     Slot {
         known: 0,
+        kind: 0,
         time: 0,
         raw: 0,
     }
 }
 
-pub fn slot_at(time: u64, raw: u64) -> Slot
-    ensures { λ r. ⌜ r ≡ slotAt time raw ⌝ }
+pub fn slot_at(time: u64, kind: u32, raw: u64) -> Slot
+    ensures { λ r. ⌜ r ≡ slotAt time kind raw ⌝ }
 {
     Slot {
         known: 1,
+        kind,
         time,
         raw,
     }
@@ -76,19 +75,15 @@ fn opened_by(s: Session, n: Slot) -> Session
 fn session_after(s: Session, kind: usize, n: Slot) -> Session
     ensures { λ r. ⌜ r ≡ sessionAfter s kind n ⌝ }
 {
-    if kind == STATUS {
-        return kept_put(s, STATUS_PLACE, n);
+    match role_of(kind) {
+        Role::Status => kept_put(s, STATUS_PLACE, n),
+        Role::Opening => opened_by(s, n),
+        Role::Command => kept_put(s, CONTROL_PLACE, n),
+        Role::Finished => no_session(),
+        Role::Limits => s,
+        Role::Controller => s,
+        Role::Other => s,
     }
-    if kind == SESSION {
-        return opened_by(s, n);
-    }
-    if kind == CONTROL {
-        return kept_put(s, CONTROL_PLACE, n);
-    }
-    if kind == FINISHED {
-        return no_session();
-    }
-    s
 }
 
 // The head at an event's time.
@@ -101,10 +96,32 @@ pub fn aged(h: Head, time: u64) -> Head
     g
 }
 
-fn put_at(place: usize, kind: usize, n: Slot, l: Slot) -> Slot
-    ensures { λ r. ⌜ r ≡ putAt place kind n l ⌝ }
+fn controller_after(kind: usize, n: Slot, l: Slot) -> Slot
+    ensures { λ r. ⌜ r ≡ putFor Controller kind n l ⌝ }
 {
-    if kind == place { n } else { l }
+    match role_of(kind) {
+        Role::Controller => n,
+        Role::Other => l,
+        Role::Status => l,
+        Role::Limits => l,
+        Role::Opening => l,
+        Role::Command => l,
+        Role::Finished => l,
+    }
+}
+
+fn limits_after(kind: usize, n: Slot, l: Slot) -> Slot
+    ensures { λ r. ⌜ r ≡ putFor Limits kind n l ⌝ }
+{
+    match role_of(kind) {
+        Role::Limits => n,
+        Role::Other => l,
+        Role::Status => l,
+        Role::Controller => l,
+        Role::Opening => l,
+        Role::Command => l,
+        Role::Finished => l,
+    }
 }
 
 // The head with a frame that came at its time.
@@ -115,8 +132,8 @@ pub fn with_frame(h: Head, kind: usize, n: Slot) -> Head
     let c = h.controller;
     let p = h.parameters;
     let mut g = h;
-    g.controller = put_at(CONTROLLER, kind, n, c);
-    g.parameters = put_at(PARAMETERS, kind, n, p);
+    g.controller = controller_after(kind, n, c);
+    g.parameters = limits_after(kind, n, p);
     g.session = session_after(s, kind, n);
     g
 }

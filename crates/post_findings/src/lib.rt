@@ -2,16 +2,18 @@
 ghost use mathlib.Core.Path.{_≡_};
 ghost use Prim.Native.Nat.{_≤_};
 ghost use Rattle.rules.specs.After.{unreadyAfter, unreadyIn, carryingAfter, carryingIn, limitIn, controlFindings, statusFindings, openingFindings, finishedFindings, messageFindings};
-use message_types::CONTROL;
 use message_types::DcPowerControl;
-use message_types::FINISHED;
 use message_types::NewChargeSession;
 use message_types::PowerModulesStatus;
-use message_types::SESSION;
-use message_types::STATUS;
 use rule_asks::*;
 use rule_limits::cap;
 use rule_limits::kept::sensor_of;
+use rule_pages::Role;
+use rule_pages::command_by;
+use rule_pages::limits_by;
+use rule_pages::opening_by;
+use rule_pages::role_of;
+use rule_pages::status_by;
 use rules::CONTROL_PLACE;
 use rules::Head;
 use rules::STATUS_PLACE;
@@ -23,8 +25,8 @@ use rules::Slot;
 fn voltage_limit(most: u32, l: Slot) -> u32
     ensures { λ r. ⌜ r ≡ limitIn most (λ q. q .voltage) l ⌝ }
 {
-    if is_set(l.known) {
-        cap(most, message_parts::parameters_in(l.raw).voltage)
+    if is_set(l.known as u64) {
+        cap(most, limits_by(l.kind as usize, l.raw).voltage)
     } else {
         most
     }
@@ -33,8 +35,8 @@ fn voltage_limit(most: u32, l: Slot) -> u32
 fn charge_limit(most: u32, l: Slot) -> u32
     ensures { λ r. ⌜ r ≡ limitIn most (λ q. q .charge) l ⌝ }
 {
-    if is_set(l.known) {
-        cap(most, message_parts::parameters_in(l.raw).charge)
+    if is_set(l.known as u64) {
+        cap(most, limits_by(l.kind as usize, l.raw).charge)
     } else {
         most
     }
@@ -43,8 +45,8 @@ fn charge_limit(most: u32, l: Slot) -> u32
 fn discharge_limit(most: u32, l: Slot) -> u32
     ensures { λ r. ⌜ r ≡ limitIn most (λ q. q .discharge) l ⌝ }
 {
-    if is_set(l.known) {
-        cap(most, message_parts::parameters_in(l.raw).discharge)
+    if is_set(l.known as u64) {
+        cap(most, limits_by(l.kind as usize, l.raw).discharge)
     } else {
         most
     }
@@ -55,8 +57,8 @@ fn discharge_limit(most: u32, l: Slot) -> u32
 fn unready_after(l: Slot) -> bool
     ensures { λ r. ⌜ r ≡ unreadyAfter l ⌝ }
 {
-    if is_set(l.known) {
-        let x = message_parts::status_in(l.raw).enable;
+    if is_set(l.known as u64) {
+        let x = status_by(l.kind as usize, l.raw).enable;
         return negated(allowed(x));
     }
     true
@@ -95,8 +97,8 @@ fn control_findings(h: Head, d: DcPowerControl) -> u32
 fn carrying_after(l: Slot) -> bool
     ensures { λ r. ⌜ r ≡ carryingAfter l ⌝ }
 {
-    if is_set(l.known) {
-        let f = message_parts::control_in(l.raw).function;
+    if is_set(l.known as u64) {
+        let f = command_by(l.kind as usize, l.raw).function;
         return carrying(f);
     }
     false
@@ -152,17 +154,13 @@ pub fn message_findings(h: Head, kind: usize, raw: u64) -> u32
     ensures { λ r. ⌜ (r ≡ messageFindings h kind raw) × (r ≤ 1024) ⌝ }
 {
     let s = h.session;
-    if kind == STATUS {
-        return status_findings(h, message_parts::status_in(raw));
+    match role_of(kind) {
+        Role::Status => status_findings(h, status_by(kind, raw)),
+        Role::Opening => opening_findings(s, opening_by(kind, raw)),
+        Role::Command => control_findings(h, command_by(kind, raw)),
+        Role::Finished => finished_findings(s),
+        Role::Limits => 0,
+        Role::Controller => 0,
+        Role::Other => 0,
     }
-    if kind == SESSION {
-        return opening_findings(s, message_parts::session_in(raw));
-    }
-    if kind == CONTROL {
-        return control_findings(h, message_parts::control_in(raw));
-    }
-    if kind == FINISHED {
-        return finished_findings(s);
-    }
-    0
 }

@@ -5,11 +5,9 @@ ghost use mathlib.Core.Path.{_≡_};
 ghost use Prim.Native.Nat.{_+_};
 ghost use Rattle.rules.specs.History.{countFrom};
 ghost use Rattle.rules.specs.Times.{receivedOf, ageOf};
-ghost use Rattle.rules.specs.Record.{kindCount, unknown};
+ghost use Rattle.rules.specs.Record.{placeCount, datedAt, unknown};
 ghost use Rattle.rules.specs.Right.{RecordRight};
 ghost use Rattle.rules.specs.After.{datedIn, partIn, lastIn, findingCount, postRecord};
-use message_types::CONTROL;
-use message_types::STATUS;
 use rule_asks::is_set;
 use rule_limits::kept::limits_in;
 use rules::CONTROL_PLACE;
@@ -17,10 +15,10 @@ use rules::COUNTS;
 use rules::Dated;
 use rules::FINDINGS;
 use rules::Head;
-use rules::KINDS;
 use rules::LastTime;
 use rules::Latest;
 use rules::OpenSession;
+use rules::PLACES;
 use rules::Post;
 use rules::Record;
 use rules::STATUS_PLACE;
@@ -49,15 +47,22 @@ pub fn age(now: u64, from: u64) -> u32
     ms as u32
 }
 
-fn dated(now: u64, kind: usize, l: Slot) -> Dated
-    ensures { λ r. ⌜ r ≡ datedIn now kind l ⌝ }
+// A frame by its message: of documents 000 and 004, or of 001.
+fn dated_at(time: u32, ms: u32, kind: usize, raw: u64) -> Dated
+    ensures { λ r. ⌜ r ≡ datedAt time ms kind raw ⌝ }
 {
-    if is_set(l.known) {
-        Dated::At(
-            received(l.time),
-            age(now, l.time),
-            message_build::message_of(kind, l.raw),
-        )
+    if kind < older_types::STATUS {
+        Dated::At(time, ms, message_build::message_of(kind, raw))
+    } else {
+        Dated::OlderAt(time, ms, older_build::message_of(kind, raw))
+    }
+}
+
+fn dated(now: u64, l: Slot) -> Dated
+    ensures { λ r. ⌜ r ≡ datedIn now l ⌝ }
+{
+    if is_set(l.known as u64) {
+        dated_at(received(l.time), age(now, l.time), l.kind as usize, l.raw)
     } else {
         Dated::Nothing
     }
@@ -74,8 +79,8 @@ fn part(now: u64, s: Session) -> SessionPart
     let n = message_parts::session_in(s.first);
     let protocol = n.protocol;
     let plug = n.plug;
-    let status = dated(now, STATUS, st);
-    let control = dated(now, CONTROL, ct);
+    let status = dated(now, st);
+    let control = dated(now, ct);
     SessionPart::Opened(OpenSession {
         since: received(s.since),
         age: age(now, s.since),
@@ -89,25 +94,25 @@ fn part(now: u64, s: Session) -> SessionPart
 fn last_time(h: Head) -> LastTime
     ensures { λ r. ⌜ r ≡ lastIn h ⌝ }
 {
-    if is_set(h.heard as u64) {
+    if is_set(h.heard) {
         LastTime::At(received(h.time))
     } else {
         LastTime::Never
     }
 }
 
-// The latest frame of each kind, by its message.
-fn messages_of(now: u64, slots: [Slot; KINDS]) -> [Latest; KINDS]
-    ensures { λ r. ⌜ r ≡ map (λ k. record { message = datedIn now k (getD slots k unknown) }) (countFrom 0 kindCount) ⌝ }
+// The latest frame of each place, by its message.
+fn messages_of(now: u64, slots: [Slot; PLACES]) -> [Latest; PLACES]
+    ensures { λ r. ⌜ r ≡ map (λ j. record { message = datedIn now (getD slots j unknown) }) (countFrom 0 placeCount) ⌝ }
 {
     let mut latest = [Latest {
         message: Dated::Nothing,
-    }; KINDS];
+    }; PLACES];
     let mut k: usize = 0;
-    while k < KINDS {
+    while k < PLACES {
         let l = slots[k];
         latest[k] = Latest {
-            message: dated(now, k, l),
+            message: dated(now, l),
         };
         k += 1;
     }

@@ -47,7 +47,7 @@ pub fn stamp(h: Head, time: u32) -> u64
 pub fn is_early(h: Head, time: u32) -> bool
     ensures { λ r. ⌜ r ≡ isEarly h time ⌝ }
 {
-    if is_set(h.heard as u64) {
+    if is_set(h.heard) {
         is_earlier(time, h.time)
     } else {
         false
@@ -59,7 +59,7 @@ pub fn is_early(h: Head, time: u32) -> bool
 fn later(since: u64, st: Slot) -> u64
     ensures { λ r. ⌜ r ≡ laterOf since st ⌝ }
 {
-    if is_set(st.known) {
+    if is_set(st.known as u64) {
         if since < st.time {
             return st.time;
         }
@@ -84,7 +84,7 @@ fn silent(s: Session, w: u32, now: u64) -> bool
 fn late(l: Slot, now: u64) -> bool
     ensures { λ r. ⌜ r ≡ lateAfter l now ⌝ }
 {
-    if is_set(l.known) {
+    if is_set(l.known as u64) {
         200 < ms_between(now, l.time)
     } else {
         false

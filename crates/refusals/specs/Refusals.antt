@@ -1,7 +1,7 @@
 -- 01, "Numbers given back": the number of each refusal, and the start bit that 5 carries.
 use Prim.Native.Nat.{ℕ}
 use Rattle.refusals.specs.declared.Refusal.{Refusal}
-use Rattle.refusals.specs.declared.Refusal.the-variants.{ChannelFree, Earlier, UnknownIdentifier, TooShort, NoLabel, UncoveredBit, NoRawNumber, ShortBuffer, NoSuchPost, NoSuchChannel, ChannelTaken, LimitOutside, NoSignal, NotSetUp, TooLong, IllNumber, LogChannel, LogStandard, LogExtended, LogLength, LogTick, BatchBytes, BatchRecord, BatchAnswers, CountFull, CompareLog, CompareRecords, CompareRoom}
+use Rattle.refusals.specs.declared.Refusal.the-variants.{ChannelFree, Earlier, UnknownIdentifier, TooShort, NoLabel, UncoveredBit, NoRawNumber, ShortBuffer, NoSuchPost, NoSuchChannel, ChannelTaken, LimitOutside, NoSignal, NotSetUp, TooLong, IllNumber, LogChannel, LogStandard, LogExtended, LogLength, LogTick, BatchBytes, BatchRecord, BatchAnswers, CountFull, CompareLog, CompareRecords, CompareRoom, OtherInterface}
 
 abbrev pub numberOf : Refusal → ℕ
 -- channel above 31, or held by no post
@@ -59,6 +59,8 @@ numberOf CountFull = 25
 numberOf CompareLog = 26
 numberOf CompareRecords = 27
 numberOf CompareRoom = 28
+-- ---- 02, Req 11: "A frame whose identifier only the other interface has gets, on that post, a refusal number of its own in 3's place"
+numberOf OtherInterface = 29
 
 -- 02, Req 02: 5 "is to carry the start bit of the first offending signal"; no other refusal has one
 abbrev pub startOf : Refusal → ℕ
@@ -90,3 +92,4 @@ startOf CountFull = 0
 startOf CompareLog = 0
 startOf CompareRecords = 0
 startOf CompareRoom = 0
+startOf OtherInterface = 0

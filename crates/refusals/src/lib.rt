@@ -4,7 +4,7 @@ ghost use mathlib.Core.Path.{_≡_};
 ghost use Rattle.refusals.specs.Refusals.{numberOf, startOf};
 
 // 01, "Numbers given back": a case for each number, in their order (`numberOf` in specs/). Those of 02 follow: a length above the table's
-// (Req 02), the night log's (Req 01), a batch's (Req 07), a full count's (Req 08) and a comparison's (Req 10).
+// (Req 02), the night log's (Req 01), a batch's (Req 07), a full count's (Req 08), a comparison's (Req 10) and the other interface's (Req 11).
 // 5 carries the start bit of the signal (02, Req 02).
 pub enum Refusal {
     ChannelFree,
@@ -35,6 +35,7 @@ pub enum Refusal {
     CompareLog,
     CompareRecords,
     CompareRoom,
+    OtherInterface,
 }
 
 pub fn refusal_number(w: Refusal) -> u32
@@ -69,6 +70,7 @@ pub fn refusal_number(w: Refusal) -> u32
         Refusal::CompareLog => 26,
         Refusal::CompareRecords => 27,
         Refusal::CompareRoom => 28,
+        Refusal::OtherInterface => 29,
     }
 }
 

@@ -1,7 +1,10 @@
--- 02, Req 03: "A post's limits gain a sensor kind." It is named where limits are handed in and out, and a number where a post keeps them.
+-- 02, Req 03: "A post's limits gain a sensor kind."; Req 11: "Set-up names a post's interface."
+-- Both are named where limits are handed in and out, and are numbers where a post keeps them.
 use Prim.Native.Nat.{ℕ}
 use mathlib.Core.Bool.{cond}
 use lib.Dec.{eqb}
+use Rattle.page_rows.specs.declared.Interface.{Interface}
+use Rattle.page_rows.specs.declared.Interface.the-variants.{Newer, Older}
 use Rattle.rule_limits.specs.declared.Sensor.{Sensor}
 use Rattle.rule_limits.specs.declared.Sensor.the-variants.{Measuring, YesNo}
 use Rattle.rule_limits.specs.declared.Limits.{Limits}
@@ -15,8 +18,15 @@ sensorNumber YesNo = 1
 abbrev pub sensorOf : ℕ → Sensor
 sensorOf n = cond (eqb n 1) YesNo Measuring
 
+abbrev pub interfaceNumber : Interface → ℕ
+interfaceNumber Newer = 0
+interfaceNumber Older = 1
+
+abbrev pub interfaceOf : ℕ → Interface
+interfaceOf n = cond (eqb n 1) Older Newer
+
 abbrev pub plainOf : Limits → PlainLimits
-plainOf l = record { voltage = l .voltage; charge = l .charge; discharge = l .discharge; silence = l .silence; sensor = sensorNumber (l .sensor) }
+plainOf l = record { voltage = l .voltage; charge = l .charge; discharge = l .discharge; silence = l .silence; sensor = sensorNumber (l .sensor); interface = interfaceNumber (l .interface) }
 
 abbrev pub limitsOf : PlainLimits → Limits
-limitsOf l = record { voltage = l .voltage; charge = l .charge; discharge = l .discharge; silence = l .silence; sensor = sensorOf (l .sensor) }
+limitsOf l = record { voltage = l .voltage; charge = l .charge; discharge = l .discharge; silence = l .silence; sensor = sensorOf (l .sensor); interface = interfaceOf (l .interface) }

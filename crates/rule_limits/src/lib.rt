@@ -2,6 +2,7 @@
 // For the rules and for every crate that hands limits on.
 ghost use mathlib.Core.Path.{_≡_};
 ghost use Rattle.rule_limits.specs.Limits.{limitsFit, capped};
+pub use page_rows::Interface;
 
 pub mod kept; // kept.rt: limits as they are handed in and out, and as they are kept
 
@@ -11,16 +12,18 @@ pub enum Sensor {
     YesNo,
 }
 
-// Default voltage in tenths of a volt, default charge and discharge current in tenths of an ampere, power module silence W in ms, and the sensor kind.
+// Default voltage in tenths of a volt, default charge and discharge current in tenths of an ampere, power module silence W in ms, the sensor kind, and the
+// interface whose pages the post reads (02, Req 11).
 pub struct Limits {
     pub voltage: u32,
     pub charge: u32,
     pub discharge: u32,
     pub silence: u32,
     pub sensor: Sensor,
+    pub interface: Interface,
 }
 
-// The same as a post keeps them: the sensor kind by its number.
+// The same as a post keeps them: the sensor kind and the interface by their numbers.
 #[repr(C)]
 pub struct PlainLimits {
     pub voltage: u32,
@@ -28,6 +31,7 @@ pub struct PlainLimits {
     pub discharge: u32,
     pub silence: u32,
     pub sensor: u32,
+    pub interface: u32,
 }
 
 // Set-up's 12 is given where they do not fit.
@@ -55,7 +59,10 @@ pub fn limits_fit(lim: PlainLimits) -> bool
     if 60000 < lim.silence {
         return false;
     }
-    lim.sensor <= 1
+    if 1 < lim.sensor {
+        return false;
+    }
+    lim.interface <= 1
 }
 
 // The default and the number that was received.

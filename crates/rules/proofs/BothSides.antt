@@ -1,6 +1,6 @@
 -- 01, "Slips a fitter would make", and both sides of the edges that they miss: what each event in turn finds, by looking back and by the inner step.
 -- One table under one statement, closed by computing.
-use Prim.Native.Nat.{ℕ, _+_}
+use Prim.Native.Nat.{ℕ, _+_, _*_}
 use mathlib.Core.Path.{_≡_, refl}
 use mathlib.Core.List.{List, [], _∷_}
 use Rattle.signal.specs.Signal.{getBits}
@@ -9,7 +9,10 @@ use Rattle.page_rows.specs.Table.{rows, ofKind, firstAt}
 use Rattle.page_write.specs.Raws.{wholesOf, pad, rawsOf}
 use Rattle.message_types.specs.KindNumbers.{safetyControlKind, safetyStateKind, probesKind}
 use Rattle.message_parts.specs.Parts.{statusKind, parametersKind, controllerKind, sessionKind, controlKind, finishedKind, statusIn, parametersIn, sessionIn, controlIn}
+use Rattle.older_types.specs.KindNumbers as older
 use Rattle.rule_limits.specs.declared.PlainLimits.{PlainLimits}
+use Rattle.rule_pages.specs.Roles.{roleOf}
+use Rattle.rule_pages.specs.Said.{statusBy, openingBy, limitsIn, limitsBy, commandBy}
 use Rattle.rule_asks.specs.Judgements.{lowersBadly, outside, leaking, badInsulation, differs}
 use Rattle.rules.specs.declared.Head.{Head}
 use Rattle.rules.specs.declared.AfterEvent.{AfterEvent}
@@ -37,7 +40,7 @@ inTurn p (e ∷ later) = afterBy p e .findings ∷ inTurn (afterBy p e .head) la
 -- ---- a post with default voltage 500.0 V, charge 100.0 A, discharge 50.0 A, W 500 ms and a measuring sensor
 
 abbrev limits : PlainLimits
-limits = record { voltage = 5000; charge = 1000; discharge = 500; silence = 500; sensor = 0 }
+limits = record { voltage = 5000; charge = 1000; discharge = 500; silence = 500; sensor = 0; interface = 0 }
 
 -- Power_Modules_Status Allowed with no current at 0 V and 510 kOhm; New_Charge_Session 02 01; Charge_Session_Finished; Advantics_Controller_Status Charging
 abbrev status : ℕ → Event
@@ -62,6 +65,20 @@ transfer t = frame t controlKind 0x48000000001388
 abbrev parameters : ℕ → ℕ → Event
 parameters t most = frame t parametersKind most
 
+-- 02, Req 11, by the pages of 001: Power_Modules_Status Allowed by voltage, current and insulation; Power_Modules_Limits by voltage and current, of which
+-- 0xFFFF is -1; New_Charge_Session 02 01 by what stands behind protocol and plug; Charging_Loop at 0 V and 0 A
+abbrev olderStatus : ℕ → ℕ → ℕ → ℕ → Event
+olderStatus t volt amp raw = frame t older.statusKind (volt + amp * 0x10000 + 0x01414100000000 + raw * 0x100000000000000)
+
+abbrev olderLimits : ℕ → ℕ → ℕ → Event
+olderLimits t volt amp = frame t older.limitsKind (volt + amp * 0x10000)
+
+abbrev olderSession : ℕ → ℕ → Event
+olderSession t rest = frame t older.sessionKind (0x0102 + rest * 0x10000)
+
+abbrev charging : ℕ → Event
+charging t = frame t older.chargingKind 0
+
 abbrev pub table : List (List Event × List ℕ)
 table =
     -- "Starting the F1 count again at each repeated New_Charge_Session"
@@ -80,6 +97,27 @@ table =
     -- 02, Req 09: F1 and F2 across the round of the clock: at 4,294,967,290 as received, then at 494 and 495, 500 and 501 ms later
     ∷ (session 4294967290 ∷ tick 4294967790 ∷ tick 4294967791 ∷ [], 0 ∷ 0 ∷ 1 ∷ [])
     ∷ (controller 4294967290 ∷ tick 4294967490 ∷ tick 4294967491 ∷ [], 0 ∷ 0 ∷ 2 ∷ [])
+    -- 02, Req 11: with no session open F4 of each of the three functions, whatever their numbers, and neither F3 nor F7; of no other message, and F11
+    ∷ (
+      frame 0 older.insulationKind 0xFFFF ∷ frame 1 older.prechargeKind 0xFFFFFFFF ∷ charging 2 ∷ frame 3 older.stopKind 1 ∷ frame 4 older.finishedKind 0 ∷ [],
+      8 ∷ 8 ∷ 8 ∷ 0 ∷ 1024 ∷ [],
+    )
+    -- in the session F5 before a status and none after it; F9 under precharge and Charging_Loop at 0 A, not under an insulation test
+    ∷ (
+      olderSession 0 0 ∷ charging 1 ∷ olderStatus 2 5000 0 25 ∷ charging 3 ∷ olderStatus 4 5000 0 25 ∷ olderStatus 5 5000 0 24
+          ∷ frame 6 older.insulationKind 5000 ∷ olderStatus 7 5000 0 24 ∷ frame 8 older.prechargeKind 5000 ∷ olderStatus 9 5000 0 24 ∷ [],
+      0 ∷ 16 ∷ 0 ∷ 0 ∷ 0 ∷ 256 ∷ 0 ∷ 0 ∷ 0 ∷ 256 ∷ [],
+    )
+    -- a charge limit that is told, and none by 0, by -1 or above the default; the discharge limit is the default
+    ∷ (
+      olderSession 0 0 ∷ olderLimits 1 0 400 ∷ olderStatus 2 0 400 255 ∷ olderStatus 3 0 401 255 ∷ olderLimits 4 0 0xFFFF ∷ olderStatus 5 0 1000 255
+          ∷ olderStatus 6 0 1001 255 ∷ olderLimits 7 0 0 ∷ olderStatus 8 0 1000 255 ∷ olderLimits 9 0 1001 ∷ olderStatus 10 0 1001 255
+          ∷ olderLimits 11 0 1 ∷ olderStatus 12 0 0xFE0C 255 ∷ olderStatus 13 0 0xFE0B 255 ∷ [],
+      0 ∷ 0 ∷ 0 ∷ 128 ∷ 0 ∷ 0 ∷ 128 ∷ 0 ∷ 0 ∷ 0 ∷ 128 ∷ 0 ∷ 0 ∷ 128 ∷ [],
+    )
+    -- F10 of another plug, and not of what stands behind it; F1 from 501 ms on; F2 from 201 ms on
+    ∷ (olderSession 0 0 ∷ olderSession 1 77 ∷ frame 2 older.sessionKind 0x0202 ∷ tick 500 ∷ tick 501 ∷ [], 0 ∷ 0 ∷ 512 ∷ 0 ∷ 1 ∷ [])
+    ∷ (frame 1000 older.controllerKind 7 ∷ tick 1200 ∷ tick 1201 ∷ [], 0 ∷ 0 ∷ 2 ∷ [])
     ∷ []
 
 abbrev pub All : List (List Event × List ℕ) → Type 0
@@ -87,8 +125,8 @@ All [] = Unit {0}
 All (x ∷ xs) = ((lookedBack limits [] (x .0) ≡ x .1) × (inTurn (newHead 1 4 limits) (x .0) ≡ x .1)) × All xs
 
 pub both-sides : All table
-unfolding sinceFinished opening inSession lowersBadly outside leaking badInsulation differs sessionStatus sessionControl limitOf f1 f2 f3 f4 f5 f6 f7 f8 f9 f10 f11 findings01 sessionAfter stampIn agedTo withFrame silentIn lateAfter anyFindings unreadyIn carryingIn controlFindings statusFindings openingFindings finishedFindings messageFindings withCounts afterTick afterFrame statusIn parametersIn sessionIn controlIn rows ofKind firstAt wholesOf pad rawsOf getBits toSigned
-both-sides = ((refl, refl), ((refl, refl), ((refl, refl), ((refl, refl), ((refl, refl), ((refl, refl), ((refl, refl), ((refl, refl), ((refl, refl), tt)))))))))
+unfolding roleOf statusBy openingBy limitsIn limitsBy commandBy sinceFinished opening inSession lowersBadly outside leaking badInsulation differs sessionStatus sessionControl limitOf f1 f2 f3 f4 f5 f6 f7 f8 f9 f10 f11 findings01 sessionAfter stampIn agedTo withFrame silentIn lateAfter anyFindings unreadyIn carryingIn controlFindings statusFindings openingFindings finishedFindings messageFindings withCounts afterTick afterFrame statusIn parametersIn sessionIn controlIn rows ofKind firstAt wholesOf pad rawsOf getBits toSigned
+both-sides = ((refl, refl), ((refl, refl), ((refl, refl), ((refl, refl), ((refl, refl), ((refl, refl), ((refl, refl), ((refl, refl), ((refl, refl), ((refl, refl), ((refl, refl), ((refl, refl), ((refl, refl), ((refl, refl), tt))))))))))))))
 
 -- ---- 02, Req 08: the counts of such events, the newest first, and of the head that they leave
 
@@ -110,5 +148,5 @@ abbrev poweredCounts : List ℕ
 poweredCounts = 2 ∷ 0 ∷ 0 ∷ 1 ∷ 1 ∷ 0 ∷ 0 ∷ 0 ∷ 0 ∷ 0 ∷ 0 ∷ 0 ∷ []
 
 pub counts-both-sides : ((countsOf limits late ≡ lateCounts) × (leaves late .counts ≡ lateCounts)) × ((countsOf limits powered ≡ poweredCounts) × (leaves powered .counts ≡ poweredCounts))
-unfolding sinceFinished opening inSession lowersBadly outside leaking badInsulation differs sessionStatus sessionControl limitOf f1 f2 f3 f4 f5 f6 f7 f8 f9 f10 f11 findings01 talliesOf sessionAfter stampIn agedTo withFrame silentIn lateAfter anyFindings unreadyIn carryingIn controlFindings statusFindings openingFindings finishedFindings messageFindings counted withCounts afterTick afterFrame statusIn parametersIn sessionIn controlIn rows ofKind firstAt wholesOf pad rawsOf getBits toSigned
+unfolding roleOf statusBy openingBy limitsIn limitsBy commandBy sinceFinished opening inSession lowersBadly outside leaking badInsulation differs sessionStatus sessionControl limitOf f1 f2 f3 f4 f5 f6 f7 f8 f9 f10 f11 findings01 talliesOf sessionAfter stampIn agedTo withFrame silentIn lateAfter anyFindings unreadyIn carryingIn controlFindings statusFindings openingFindings finishedFindings messageFindings counted withCounts afterTick afterFrame statusIn parametersIn sessionIn controlIn rows ofKind firstAt wholesOf pad rawsOf getBits toSigned
 counts-both-sides = ((refl, refl), (refl, refl))

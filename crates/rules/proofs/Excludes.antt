@@ -4,14 +4,14 @@ use mathlib.Core.Path.{_≡_, refl}
 use mathlib.Core.Bool.{Bool, true, false, _&&_}
 use mathlib.Core.Option.{Option, none, some}
 use Rattle.rule_limits.specs.declared.PlainLimits.{PlainLimits}
-use Rattle.rules.specs.History.{Event, History, opening}
+use Rattle.rules.specs.History.{Event, History, Said, opening}
 use Rattle.rules.specs.Rules.{ask, isOpen, f1, f3, f4, f5, f8, f9, f10, f11}
 
-none-open : (o : Option (ℕ × ℕ)) → isOpen o ≡ false → o ≡ none
+none-open : (o : Option Said) → isOpen o ≡ false → o ≡ none
 none-open none closed = refl
 none-open (some o) closed = cc
 
-ask-false : (o : Option (ℕ × ℕ)) → ask o (λ a. false) ≡ false
+ask-false : (o : Option Said) → ask o (λ a. false) ≡ false
 ask-false none = refl
 ask-false (some a) = refl
 

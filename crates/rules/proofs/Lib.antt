@@ -1,7 +1,6 @@
 pub mod BothSides
 pub mod Counted
 pub mod Unmapped
-pub mod ByKind
 pub mod Unasked
 pub mod SessionLook
 pub mod FindingsLook

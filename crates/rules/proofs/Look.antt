@@ -9,67 +9,73 @@ use mathlib.Core.Option.{Option, none, some}
 use borrow.Author.Tests.{eq-eqb, ne-eqb, ltb-false}
 use lib.Dec.{eqb, ltb}
 use lib.ListN.{set}
-use Rattle.message_parts.specs.Parts.{controllerKind, parametersKind}
+use Rattle.rule_pages.specs.declared.Role.{Role}
+use Rattle.rule_pages.specs.declared.Role.the-variants.{Limits, Controller}
+use Rattle.rule_pages.specs.Roles.{roleOf}
+use Rattle.rule_pages.specs.Places.{placeBy}
+use Rattle.rule_pages.proofs.Alike.{opening-alike}
 use Rattle.rule_limits.specs.declared.PlainLimits.{PlainLimits}
 use Rattle.rules.specs.declared.Latest.{Latest}
-use Rattle.rules.specs.History.{frame, tick, History, newest, ofKind, sinceFinished, opening, inSession, countFrom}
+use Rattle.rules.specs.History.{frame, tick, History, Said, roleNumber, asked, newest, sinceFinished, opening, inSession, countFrom}
 use Rattle.rules.specs.Times.{earlierIn, stampOf, latestTime, Unrolled}
 use Rattle.rules.specs.Rules.{sessionStatus, sessionControl, findings01}
 use Rattle.rules.specs.Counts.{timesFound, talliesOf, countsOf, isFull}
-use Rattle.rules.specs.Record.{kindCount, datedOf, lastOf, partOf, recordAsOf, recordOf, unknown, slotAt, slotOf, keptOf, sessionOf, session01, headAt, headOf, latests, postOf}
-use Rattle.rules.specs.After.{stampIn, putAt, agedTo, withFrame, isEarly, counted, isFullIn, tallyIn, findingCount, withCounts, afterTick, afterFrame, keepIn, stored, freshPost, latestIn, datedIn, partIn, lastIn, postRecord}
+use Rattle.rules.specs.Record.{placeCount, datedOf, atPlace, lastOf, partOf, recordAsOf, recordOf, unknown, slotAt, slotOf, keptOf, sessionOf, session01, headAt, headOf, latests, postOf}
+use Rattle.rules.specs.After.{stampIn, putFor, agedTo, withFrame, isEarly, counted, isFullIn, tallyIn, findingCount, withCounts, afterTick, afterFrame, keepIn, stored, freshPost, latestIn, datedIn, partIn, lastIn, postRecord}
 use Rattle.rules.proofs.Counted.{count-at, count-same, count-set}
 use Rattle.rules.proofs.SessionLook.{session-stays, session-frame}
 use Rattle.rules.proofs.FindingsLook.{findings-tick, findings-frame}
 use Rattle.rules.proofs.CountsLook.{counts-look}
 use Rattle.rules.proofs.Unrolled.{stamp-fits}
 
--- ---- the latest of each kind
+-- ---- the latest of each place
 
-latest-frame : (h : History) (t k raw : ℕ) → set (latests h) k (slotAt t raw) ≡ latests (frame t k raw ∷ h)
+latest-frame : (h : History) (t k raw : ℕ) → set (latests h) (placeBy k) (slotAt t k raw) ≡ latests (frame t k raw ∷ h)
 unfolding latests
 latest-frame h t k raw =
-    count-set (λ i. slotOf (newest (ofKind i) h)) (λ i. slotOf (newest (ofKind i) (frame t k raw ∷ h))) (slotAt t raw) k
-    (rw (eq-eqb k k refl))
-    (λ i ne. rw (ne-eqb k i (λ e. ne (sym e))))
-    0 kindCount k (omega arith)
+    let j = placeBy k in
+    count-set (λ i. slotOf (newest (atPlace i) h)) (λ i. slotOf (newest (atPlace i) (frame t k raw ∷ h))) (slotAt t k raw) j
+    (rw (eq-eqb j j refl))
+    (λ i ne. rw (ne-eqb j i (λ e. ne (sym e))))
+    0 placeCount j (omega arith)
 
--- of a number that is no kind
-latest-other : (h : History) (t k raw : ℕ) → ltb k kindCount ≡ false → latests h ≡ latests (frame t k raw ∷ h)
+-- of a kind that has no place
+latest-other : (h : History) (t k raw : ℕ) → ltb (placeBy k) placeCount ≡ false → latests h ≡ latests (frame t k raw ∷ h)
 unfolding latests
 latest-other h t k raw past =
-    count-same (λ i. slotOf (newest (ofKind i) h)) (λ i. slotOf (newest (ofKind i) (frame t k raw ∷ h))) 0 kindCount
-    (λ i low high. rw (ne-eqb k i (λ e. let z : ⊥ = omega (arith, ltb-false k kindCount past) in z)))
+    count-same (λ i. slotOf (newest (atPlace i) h)) (λ i. slotOf (newest (atPlace i) (frame t k raw ∷ h))) 0 placeCount
+    (λ i low high. rw (ne-eqb (placeBy k) i (λ e. let z : ⊥ = omega (arith, ltb-false (placeBy k) placeCount past) in z)))
 
-kept-frame : (h : History) (t k raw : ℕ) → keepIn (latests h) k (slotAt t raw) ≡ latests (frame t k raw ∷ h)
-kept-frame h t k raw = go (ltb k kindCount) refl
+kept-frame : (h : History) (t k raw : ℕ) → keepIn (latests h) (placeBy k) (slotAt t k raw) ≡ latests (frame t k raw ∷ h)
+kept-frame h t k raw = go (ltb (placeBy k) placeCount) refl
   where
-    go : (b : Bool) → ltb k kindCount ≡ b → cond b (set (latests h) k (slotAt t raw)) (latests h) ≡ latests (frame t k raw ∷ h)
+    go : (b : Bool) → ltb (placeBy k) placeCount ≡ b → cond b (set (latests h) (placeBy k) (slotAt t k raw)) (latests h) ≡ latests (frame t k raw ∷ h)
     go true e = latest-frame h t k raw
     go false e = latest-other h t k raw e
 
-kept-tick : (h : History) (t : ℕ) → keepIn (latests h) kindCount unknown ≡ latests (tick t ∷ h)
+kept-tick : (h : History) (t : ℕ) → keepIn (latests h) placeCount unknown ≡ latests (tick t ∷ h)
 unfolding latests
 kept-tick h t = refl
 
 -- a slot that the head keeps
-put-frame : (h : History) (j t k raw : ℕ) → putAt j k (slotAt t raw) (slotOf (newest (ofKind j) h)) ≡ slotOf (newest (ofKind j) (frame t k raw ∷ h))
-put-frame h j t k raw = go (eqb k j) refl
+put-frame : (h : History) (r : Role) (t k raw : ℕ) → putFor r k (slotAt t k raw) (slotOf (newest (asked r) h)) ≡ slotOf (newest (asked r) (frame t k raw ∷ h))
+put-frame h r t k raw = go (eqb (roleNumber r) (roleNumber (roleOf k))) refl
   where
-    go : (b : Bool) → eqb k j ≡ b → putAt j k (slotAt t raw) (slotOf (newest (ofKind j) h)) ≡ slotOf (newest (ofKind j) (frame t k raw ∷ h))
+    go : (b : Bool) → eqb (roleNumber r) (roleNumber (roleOf k)) ≡ b
+        → putFor r k (slotAt t k raw) (slotOf (newest (asked r) h)) ≡ slotOf (newest (asked r) (frame t k raw ∷ h))
     go true e = rw e
     go false e = rw e
 
 -- ---- what the record shows of a slot and of the session's part
 
-dated-look : (now k : ℕ) (o : Option (ℕ × ℕ)) → datedIn now k (slotOf o) ≡ datedOf now k o
-dated-look now k none = refl
-dated-look now k (some o) = refl
+dated-look : (now : ℕ) (o : Option Said) → datedIn now (slotOf o) ≡ datedOf now o
+dated-look now none = refl
+dated-look now (some o) = refl
 
-part-look : (now : ℕ) (h : History) (o : Option (ℕ × ℕ)) → partIn now (sessionOf o (keptOf (inSession h))) ≡ partOf now o (sessionStatus h) (sessionControl h)
+part-look : (now : ℕ) (h : History) (o : Option Said) → partIn now (sessionOf o (keptOf (inSession h))) ≡ partOf now o (sessionStatus h) (sessionControl h)
 unfolding sessionStatus sessionControl
 part-look now h none = refl
-part-look now h (some o) = simp dated-look
+part-look now h (some o) = rw (opening-alike (o .kind) (o .raw)) (simp dated-look)
 
 module _ (c : ℕ) (lim : PlainLimits) where
   -- ---- the head after one event more
@@ -78,9 +84,9 @@ module _ (c : ℕ) (lim : PlainLimits) where
   unfolding agedTo headAt
   aged-look h t = refl
 
-  head-frame : (cs : List ℕ) (h : History) (t k raw : ℕ) → withFrame (headAt c lim cs true t h) k (slotAt t raw) ≡ headAt c lim cs true t (frame t k raw ∷ h)
+  head-frame : (cs : List ℕ) (h : History) (t k raw : ℕ) → withFrame (headAt c lim cs true t h) k (slotAt t k raw) ≡ headAt c lim cs true t (frame t k raw ∷ h)
   unfolding withFrame headAt
-  head-frame cs h t k raw = rw (session-frame h t k raw, put-frame h controllerKind t k raw, put-frame h parametersKind t k raw)
+  head-frame cs h t k raw = rw (session-frame h t k raw, put-frame h Controller t k raw, put-frame h Limits t k raw)
 
   head-tick : (cs : List ℕ) (h : History) (t : ℕ) → headAt c lim cs true t h ≡ headAt c lim cs true t (tick t ∷ h)
   unfolding headAt
@@ -101,19 +107,19 @@ module _ (c : ℕ) (lim : PlainLimits) where
   last-look [] = refl
   last-look (e ∷ h) = refl
 
-  latest-look : (h : History) (k : ℕ) → k < kindCount → latestIn (postOf c lim h) k ≡ slotOf (newest (ofKind k) h)
+  latest-look : (h : History) (k : ℕ) → k < placeCount → latestIn (postOf c lim h) k ≡ slotOf (newest (atPlace k) h)
   unfolding latests
-  latest-look h k lt = count-at (λ i. slotOf (newest (ofKind i) h)) unknown k 0 kindCount k (omega arith) lt
+  latest-look h k lt = count-at (λ i. slotOf (newest (atPlace i) h)) unknown k 0 placeCount k (omega arith) lt
 
   abbrev shownIn : ℕ → History → ℕ → Latest
-  shownIn now h k = record { message = datedIn now k (latestIn (postOf c lim h) k) }
+  shownIn now h k = record { message = datedIn now (latestIn (postOf c lim h) k) }
 
   abbrev shownOf : ℕ → History → ℕ → Latest
-  shownOf now h k = record { message = datedOf now k (newest (ofKind k) h) }
+  shownOf now h k = record { message = datedOf now (newest (atPlace k) h) }
 
-  messages-look : (now : ℕ) (h : History) → map (shownIn now h) (countFrom 0 kindCount) ≡ map (shownOf now h) (countFrom 0 kindCount)
+  messages-look : (now : ℕ) (h : History) → map (shownIn now h) (countFrom 0 placeCount) ≡ map (shownOf now h) (countFrom 0 placeCount)
   messages-look now h =
-      count-same (shownIn now h) (shownOf now h) 0 kindCount (λ k low high. rw (latest-look h k (omega arith), dated-look now k (newest (ofKind k) h)))
+      count-same (shownIn now h) (shownOf now h) 0 placeCount (λ k low high. rw (latest-look h k (omega arith), dated-look now (newest (atPlace k) h)))
 
   session-look : (now : ℕ) (h : History) → partIn now (headOf c lim h .session) ≡ partOf now (opening h) (sessionStatus h) (sessionControl h)
   unfolding headAt session01
@@ -150,7 +156,7 @@ module _ (c : ℕ) (lim : PlainLimits) where
 
   pub tick-look : (h : History) (t : ℕ) → Unrolled h → isFull h ≡ false
       → afterTick (headOf c lim h) t
-      ≡ record { head = headOf c lim (tick (stampOf h t) ∷ h); slot = unknown; at = kindCount; findings = findings01 lim h (tick (stampOf h t)) }
+      ≡ record { head = headOf c lim (tick (stampOf h t) ∷ h); slot = unknown; at = placeCount; findings = findings01 lim h (tick (stampOf h t)) }
   unfolding afterTick
   tick-look h t un room =
       let u = stampOf h t in
@@ -158,20 +164,20 @@ module _ (c : ℕ) (lim : PlainLimits) where
 
   pub frame-look : (h : History) (t k raw : ℕ) → Unrolled h → isFull h ≡ false
       → afterFrame (headOf c lim h) t k raw
-      ≡ record { head = headOf c lim (frame (stampOf h t) k raw ∷ h); slot = slotAt (stampOf h t) raw; at = k; findings = findings01 lim h (frame (stampOf h t) k raw) }
+      ≡ record { head = headOf c lim (frame (stampOf h t) k raw ∷ h); slot = slotAt (stampOf h t) k raw; at = placeBy k; findings = findings01 lim h (frame (stampOf h t) k raw) }
   unfolding afterFrame
   frame-look h t k raw un room =
       let u = stampOf h t in
       rw (stamp-look h t un room, aged-look h u, findings-frame c lim (countsOf lim h) h u k raw, head-frame (countsOf lim h) h u k raw, counted-look (countsOf lim h) u (findings01 lim h (frame u k raw)) (frame u k raw ∷ h), counts-look lim h (frame u k raw) room)
 
   -- the post with what a step left of it
-  pub stored-tick : (h : History) (t : ℕ) → stored (postOf c lim h) (headOf c lim (tick t ∷ h)) kindCount unknown ≡ postOf c lim (tick t ∷ h)
+  pub stored-tick : (h : History) (t : ℕ) → stored (postOf c lim h) (headOf c lim (tick t ∷ h)) placeCount unknown ≡ postOf c lim (tick t ∷ h)
   stored-tick h t = rw (kept-tick h t)
 
-  pub stored-frame : (h : History) (t k raw : ℕ) → stored (postOf c lim h) (headOf c lim (frame t k raw ∷ h)) k (slotAt t raw) ≡ postOf c lim (frame t k raw ∷ h)
+  pub stored-frame : (h : History) (t k raw : ℕ) → stored (postOf c lim h) (headOf c lim (frame t k raw ∷ h)) (placeBy k) (slotAt t k raw) ≡ postOf c lim (frame t k raw ∷ h)
   stored-frame h t k raw = rw (kept-frame h t k raw)
 
-  pub stored-still : (h : History) → stored (postOf c lim h) (headOf c lim h) kindCount unknown ≡ postOf c lim h
+  pub stored-still : (h : History) → stored (postOf c lim h) (headOf c lim h) placeCount unknown ≡ postOf c lim h
   stored-still h = refl
 
   pub record-look : (h : History) → postRecord (postOf c lim h) ≡ recordOf c lim h

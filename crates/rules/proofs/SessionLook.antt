@@ -2,52 +2,51 @@
 use Prim.Native.Nat.{ℕ}
 use mathlib.Core.Path.{_≡_, refl, _∙_}
 use mathlib.Core.List.{_∷_}
-use mathlib.Core.Bool.{false}
 use mathlib.Core.Option.{Option, none, some}
-use lib.Dec.{eqb}
-use Rattle.message_parts.specs.Parts.{statusKind, sessionKind, controlKind, finishedKind}
+use Rattle.rule_pages.specs.declared.Role.{Role}
+use Rattle.rule_pages.specs.declared.Role.the-variants.{Other, Status, Limits, Controller, Opening, Command, Finished}
+use Rattle.rule_pages.specs.Roles.{roleOf}
 use Rattle.rules.specs.declared.Session.{Session}
-use Rattle.rules.specs.History.{Event, frame, History, first, oldest, onlyIf, afterOldest, openingOf, sinceFinished, opening, inSession}
+use Rattle.rules.specs.History.{Event, frame, History, Said, first, oldest, onlyIf, afterOldest, openingOf, finishedOf, sinceFinished, opening, inSession}
 use Rattle.rules.specs.Record.{slotAt, keptOf, sessionOf, session01}
 use Rattle.rules.specs.After.{sessionAfter}
-use Rattle.rules.proofs.ByKind.{by-kind}
-use Rattle.rules.proofs.Unasked.{Unasked, unasked-frame}
+use Rattle.rules.proofs.Unasked.{Unasked, Quiet, unasked-frame}
 
 -- ---- over the opening before the event and the session's events so far
 
-abbrev sessionBefore : Option (ℕ × ℕ) → History → Session
+abbrev sessionBefore : Option Said → History → Session
 sessionBefore o a = sessionOf o (keptOf a)
 
-abbrev sessionWith : Option (ℕ × ℕ) → History → Event → Session
+abbrev sessionWith : Option Said → History → Event → Session
 sessionWith o a e = sessionOf (first o (openingOf e)) (keptOf (onlyIf o (e ∷ a)))
 
-module _ (a : History) (t raw : ℕ) where
-  abbrev Goes : ℕ → Option (ℕ × ℕ) → Type 0
-  Goes k o = sessionAfter (sessionBefore o a) k (slotAt t raw) ≡ sessionWith o a (frame t k raw)
+module _ (a : History) (t k raw : ℕ) where
+  abbrev Goes : Role → Option Said → Type 0
+  Goes r o = roleOf k ≡ r → sessionAfter (sessionBefore o a) k (slotAt t k raw) ≡ sessionWith o a (frame t k raw)
 
-  goes-status : (o : Option (ℕ × ℕ)) → Goes statusKind o
+  goes-status : (o : Option Said) → Goes Status o
   unfolding sessionAfter
-  goes-status none = refl
-  goes-status (some o) = refl
+  goes-status none e = rw e
+  goes-status (some o) e = rw e
 
-  goes-session : (o : Option (ℕ × ℕ)) → Goes sessionKind o
+  goes-opening : (o : Option Said) → Goes Opening o
   unfolding sessionAfter
-  goes-session none = refl
-  goes-session (some o) = refl
+  goes-opening none e = rw e
+  goes-opening (some o) e = rw e
 
-  goes-control : (o : Option (ℕ × ℕ)) → Goes controlKind o
+  goes-command : (o : Option Said) → Goes Command o
   unfolding sessionAfter
-  goes-control none = refl
-  goes-control (some o) = refl
+  goes-command none e = rw e
+  goes-command (some o) e = rw e
 
-stays : (o : Option (ℕ × ℕ)) (a : History) (e : Event) → Unasked e → sessionBefore o a ≡ sessionWith o a e
+stays : (o : Option Said) (a : History) (e : Event) → Unasked e → sessionBefore o a ≡ sessionWith o a e
 stays none a e un = rw (un .1)
 stays (some o) a e un = rw (un .0, un .2)
 
 -- ---- over the history
 
 module _ (h : History) where
-  abbrev before : Option (ℕ × ℕ)
+  abbrev before : Option Said
   before = oldest openingOf (sinceFinished h)
 
   abbrev events : History
@@ -58,17 +57,23 @@ module _ (h : History) where
   unfolding session01 opening inSession sinceFinished
   session-stays e un = rw (un .3) (stays before events e un)
 
-  pub session-frame : (t k raw : ℕ) → sessionAfter (session01 h) k (slotAt t raw) ≡ session01 (frame t k raw ∷ h)
-  unfolding session01 opening inSession sinceFinished sessionAfter
-  session-frame t k raw =
-      by-kind (λ j. sessionAfter (session01 h) j (slotAt t raw) ≡ session01 (frame t j raw ∷ h))
-      (goes-status events t raw before)
-      (goes-session events t raw before)
-      (goes-control events t raw before)
-      refl
-      (λ j s n d f. same j s n d f ∙ session-stays (frame t j raw) (unasked-frame t j raw s n d f))
-      k
-    where
-      same : (j : ℕ) → eqb j statusKind ≡ false → eqb j sessionKind ≡ false → eqb j controlKind ≡ false → eqb j finishedKind ≡ false
-          → sessionAfter (session01 h) j (slotAt t raw) ≡ session01 h
-      same j s n d f = rw (s, n, d, f)
+  module _ (t k raw : ℕ) where
+    abbrev Steps : Type 0
+    Steps = sessionAfter (session01 h) k (slotAt t k raw) ≡ session01 (frame t k raw ∷ h)
+
+    -- a frame that no rule asks for
+    steps-quiet : (r : Role) → roleOf k ≡ r → Quiet r → sessionAfter (session01 h) k (slotAt t k raw) ≡ session01 h → Steps
+    steps-quiet r e q same = same ∙ session-stays (frame t k raw) (unasked-frame t k raw r e q)
+
+    session-role : (r : Role) → roleOf k ≡ r → Steps
+    unfolding session01 opening inSession sinceFinished sessionAfter
+    session-role Status e = let on : finishedOf (frame t k raw) ≡ none = rw e in rw on (goes-status events t k raw before e)
+    session-role Opening e = let on : finishedOf (frame t k raw) ≡ none = rw e in rw on (goes-opening events t k raw before e)
+    session-role Command e = let on : finishedOf (frame t k raw) ≡ none = rw e in rw on (goes-command events t k raw before e)
+    session-role Finished e = rw e
+    session-role Limits e = steps-quiet Limits e tt (rw e)
+    session-role Controller e = steps-quiet Controller e tt (rw e)
+    session-role Other e = steps-quiet Other e tt (rw e)
+
+  pub session-frame : (t k raw : ℕ) → sessionAfter (session01 h) k (slotAt t k raw) ≡ session01 (frame t k raw ∷ h)
+  session-frame t k raw = session-role t k raw (roleOf k) refl

@@ -1,15 +1,16 @@
 -- 02, Req 04: "raise only F1 and F2". An event of a kind that none of F3 to F11 asks for has none of them, whatever came before it,
--- whenever it comes and whatever it says.
-use Prim.Native.Nat.{ℕ, _+_, _≤_}
+-- whenever it comes and whatever it says. 02, Req 11: a command of the older interface has none of F3, F6 and F7.
+use Prim.Native.Nat.{ℕ, _+_}
 use native.Mathlib.Omega.{arith}
-use mathlib.Core.Path.{_≡_}
+use mathlib.Core.Path.{_≡_, refl}
 use mathlib.Core.List.{[], _∷_}
 use mathlib.Core.Bool.{false}
 use mathlib.Core.Option.{none}
-use borrow.Author.Tests.{ne-eqb}
-use lib.Dec.{eqb}
-use Rattle.message_types.specs.KindNumbers.{statusKind, sessionKind, controlKind, finishedKind, safetyControlKind}
+use Rattle.message_types.specs.KindNumbers.{safetyControlKind, safetyStateKind, probesKind}
 use Rattle.rule_limits.specs.declared.PlainLimits.{PlainLimits}
+use Rattle.rule_pages.specs.declared.Role.{Role}
+use Rattle.rule_pages.specs.declared.Role.the-variants.{Other, Status, Limits, Controller, Opening, Command, Finished}
+use Rattle.rule_pages.specs.Roles.{roleOf}
 use Rattle.rules.specs.History.{Event, frame, History, statusOf, commandOf, openingOf, finishedOf}
 use Rattle.rule_asks.specs.Judgements.{bit}
 use Rattle.rules.specs.Rules.{f1, f2, f3, f4, f5, f6, f7, f8, f9, f10, f11, found, bitsFrom, findings01}
@@ -18,8 +19,24 @@ use Rattle.rules.specs.Rules.{f1, f2, f3, f4, f5, f6, f7, f8, f9, f10, f
 abbrev pub Unasked : Event → Type 0
 Unasked e = (statusOf e ≡ none) × (openingOf e ≡ none) × (commandOf e ≡ none) × (finishedOf e ≡ none)
 
-pub unasked-frame : (t k raw : ℕ) → eqb k statusKind ≡ false → eqb k sessionKind ≡ false → eqb k controlKind ≡ false → eqb k finishedKind ≡ false → Unasked (frame t k raw)
-unasked-frame t k raw s n d f = (rw s, rw n, rw d, rw f)
+-- what a frame is that none of them asks for
+abbrev pub Quiet : Role → Type 0
+Quiet Other = Unit {0}
+Quiet Limits = Unit {0}
+Quiet Controller = Unit {0}
+Quiet Status = ⊥
+Quiet Opening = ⊥
+Quiet Command = ⊥
+Quiet Finished = ⊥
+
+pub unasked-frame : (t k raw : ℕ) (r : Role) → roleOf k ≡ r → Quiet r → Unasked (frame t k raw)
+unasked-frame t k raw Other e q = (rw e, rw e, rw e, rw e)
+unasked-frame t k raw Limits e q = (rw e, rw e, rw e, rw e)
+unasked-frame t k raw Controller e q = (rw e, rw e, rw e, rw e)
+unasked-frame t k raw Status e q = absurd q
+unasked-frame t k raw Opening e q = absurd q
+unasked-frame t k raw Command e q = absurd q
+unasked-frame t k raw Finished e q = absurd q
 
 -- of the rules that ask for a message
 abbrev pub messageBits : PlainLimits → History → Event → ℕ
@@ -37,15 +54,11 @@ module _ (lim : PlainLimits) (h : History) (e : Event) (un : Unasked e) where
   unfolding findings01
   only-f1-f2 = omega (arith, no-bits)
 
--- the kinds behind those of the charger: ChargeControl1, ChargeState1 and PT1000State
-pub behind-the-charger : (t k raw : ℕ) → safetyControlKind ≤ k → Unasked (frame t k raw)
-behind-the-charger t k raw l =
-    unasked-frame t k raw
-    (ne-eqb k statusKind (λ e. omega arith))
-    (ne-eqb k sessionKind (λ e. omega arith))
-    (ne-eqb k controlKind (λ e. omega arith))
-    (ne-eqb k finishedKind (λ e. omega arith))
+-- ChargeControl1, ChargeState1 and PT1000State
+pub safety-roles : (roleOf safetyControlKind ≡ Other) × (roleOf safetyStateKind ≡ Other) × (roleOf probesKind ≡ Other)
+unfolding roleOf
+safety-roles = (refl, refl, refl)
 
-pub safety-frames : (lim : PlainLimits) (h : History) (t k raw : ℕ) → safetyControlKind ≤ k
+pub quiet-frames : (lim : PlainLimits) (h : History) (t k raw : ℕ) → roleOf k ≡ Other
     → findings01 lim h (frame t k raw) ≡ bit (f1 lim h (frame t k raw)) 1 + bit (f2 lim h (frame t k raw)) 2
-safety-frames lim h t k raw l = only-f1-f2 lim h (frame t k raw) (behind-the-charger t k raw l)
+quiet-frames lim h t k raw e = only-f1-f2 lim h (frame t k raw) (unasked-frame t k raw Other e tt)

@@ -10,12 +10,16 @@ use Rattle.message_types.specs.declared.DcPowerParameters.{DcPowerParameters}
 use Rattle.message_types.specs.declared.DcPowerControl.{DcPowerControl}
 use Rattle.message_types.specs.declared.PowerModulesStatus.{PowerModulesStatus}
 use Rattle.message_types.specs.declared.NewChargeSession.{NewChargeSession}
-use Rattle.message_parts.specs.Parts.{statusKind, parametersKind, controllerKind, sessionKind, controlKind, finishedKind, statusIn, parametersIn, sessionIn, controlIn}
-use Rattle.message_build.specs.Built.{messageOf}
+use Rattle.message_parts.specs.Parts.{sessionIn}
 use Rattle.rule_limits.specs.declared.PlainLimits.{PlainLimits}
 use Rattle.rule_limits.specs.Limits.{capped}
 use Rattle.rule_limits.specs.Sensor.{sensorOf, limitsOf}
 use Rattle.rule_asks.specs.Judgements.{isAllowed, isClose, isPowered, isCarrying, isOff, lowersBadly, outside, badInsulation, differs, bit}
+use Rattle.rule_pages.specs.declared.Role.{Role}
+use Rattle.rule_pages.specs.declared.Role.the-variants.{Other, Status, Limits, Controller, Opening, Command, Finished}
+use Rattle.rule_pages.specs.Roles.{roleOf}
+use Rattle.rule_pages.specs.Said.{statusBy, limitsBy, openingBy, commandBy}
+use Rattle.rule_pages.specs.Places.{placeBy}
 use Rattle.rules.specs.declared.Slot.{Slot}
 use Rattle.rules.specs.declared.Session.{Session}
 use Rattle.rules.specs.declared.Head.{Head}
@@ -28,10 +32,10 @@ use Rattle.rules.specs.declared.Dated.the-variants as dated
 use Rattle.rules.specs.declared.SessionPart.{SessionPart}
 use Rattle.rules.specs.declared.SessionPart.the-variants as part
 use Rattle.rules.specs.declared.Record.{Record}
-use Rattle.rules.specs.History.{countFrom}
+use Rattle.rules.specs.History.{roleNumber, countFrom}
 use Rattle.rules.specs.Times.{receivedOf, wrapped, earlier, elapsed, ageOf}
 use Rattle.rules.specs.Counts.{largest}
-use Rattle.rules.specs.Record.{kindCount, isSet, unknown, slotAt, closedSession}
+use Rattle.rules.specs.Record.{placeCount, isSet, datedAt, unknown, slotAt, closedSession}
 
 -- ---- the session's part after a frame
 
@@ -54,12 +58,17 @@ keptPut s j n = cond (isSet (s .opened)) (record { opened = s .opened; since = s
 abbrev pub openedBy : Session → Slot → Session
 openedBy s n = cond (isSet (s .opened)) s (record { opened = 1; since = n .time; first = n .raw; kept = closedSession .kept })
 
+abbrev pub sessionBy : Role → Session → Slot → Session
+sessionBy Status s n = keptPut s statusPlace n
+sessionBy Opening s n = openedBy s n
+sessionBy Command s n = keptPut s controlPlace n
+sessionBy Finished s n = closedSession
+sessionBy Limits s n = s
+sessionBy Controller s n = s
+sessionBy Other s n = s
+
 unfoldable pub sessionAfter : Session → ℕ → Slot → Session
-sessionAfter s k n =
-    cond (eqb k statusKind) (keptPut s statusPlace n)
-    (cond (eqb k sessionKind) (openedBy s n)
-    (cond (eqb k controlKind) (keptPut s controlPlace n)
-    (cond (eqb k finishedKind) closedSession s)))
+sessionAfter s k n = sessionBy (roleOf k) s n
 
 -- ---- the head
 
@@ -81,8 +90,9 @@ agedTo p t =
       counts = p .counts;
     }
 
-abbrev pub putAt : ℕ → ℕ → Slot → Slot → Slot
-putAt j k n l = cond (eqb k j) n l
+-- what the head keeps the latest of that answers the question r
+abbrev pub putFor : Role → ℕ → Slot → Slot → Slot
+putFor r k n l = cond (eqb (roleNumber r) (roleNumber (roleOf k))) n l
 
 unfoldable pub withFrame : Head → ℕ → Slot → Head
 withFrame p k n =
@@ -92,8 +102,8 @@ withFrame p k n =
       limits = p .limits;
       heard = p .heard;
       time = p .time;
-      controller = putAt controllerKind k n (p .controller);
-      parameters = putAt parametersKind k n (p .parameters);
+      controller = putFor Controller k n (p .controller);
+      parameters = putFor Limits k n (p .parameters);
       session = sessionAfter (p .session) k n;
       counts = p .counts;
     }
@@ -116,16 +126,16 @@ unfoldable pub anyFindings : Head → ℕ
 anyFindings p = bit (silentIn (p .session) (p .limits .silence) (p .time)) 1 + bit (lateAfter (p .controller) (p .time)) 2
 
 abbrev pub limitIn : ℕ → (DcPowerParameters → ℕ) → Slot → ℕ
-limitIn most number l = cond (isSet (l .known)) (capped most (number (parametersIn (l .raw)))) most
+limitIn most number l = cond (isSet (l .known)) (capped most (number (limitsBy (l .kind) (l .raw)))) most
 
 abbrev pub unreadyAfter : Slot → Bool
-unreadyAfter st = cond (isSet (st .known)) (not (isAllowed (statusIn (st .raw) .enable))) true
+unreadyAfter st = cond (isSet (st .known)) (not (isAllowed (statusBy (st .kind) (st .raw) .enable))) true
 
 unfoldable pub unreadyIn : Session → Bool
 unreadyIn s = isSet (s .opened) && unreadyAfter (keptIn s statusPlace)
 
 abbrev pub carryingAfter : Slot → Bool
-carryingAfter l = isSet (l .known) && isCarrying (controlIn (l .raw) .function)
+carryingAfter l = isSet (l .known) && isCarrying (commandBy (l .kind) (l .raw) .function)
 
 unfoldable pub carryingIn : Session → Bool
 carryingIn s = isSet (s .opened) && carryingAfter (keptIn s controlPlace)
@@ -149,12 +159,17 @@ openingFindings s n = bit (isSet (s .opened) && differs (sessionIn (s .first)) n
 unfoldable pub finishedFindings : Session → ℕ
 finishedFindings s = bit (not (isSet (s .opened))) 1024
 
+abbrev pub findingsBy : Role → Head → ℕ → ℕ → ℕ
+findingsBy Status p k raw = statusFindings p (statusBy k raw)
+findingsBy Opening p k raw = openingFindings (p .session) (openingBy k raw)
+findingsBy Command p k raw = controlFindings p (commandBy k raw)
+findingsBy Finished p k raw = finishedFindings (p .session)
+findingsBy Limits p k raw = 0
+findingsBy Controller p k raw = 0
+findingsBy Other p k raw = 0
+
 unfoldable pub messageFindings : Head → ℕ → ℕ → ℕ
-messageFindings p k raw =
-    cond (eqb k statusKind) (statusFindings p (statusIn raw))
-    (cond (eqb k sessionKind) (openingFindings (p .session) (sessionIn raw))
-    (cond (eqb k controlKind) (controlFindings p (controlIn raw))
-    (cond (eqb k finishedKind) (finishedFindings (p .session)) 0)))
+messageFindings p k raw = findingsBy (roleOf k) p k raw
 
 -- ---- the counts
 
@@ -197,7 +212,7 @@ afterTick p t =
     record {
       head = withCounts (agedTo p (stampIn p t)) (anyFindings (agedTo p (stampIn p t)));
       slot = unknown;
-      at = kindCount;
+      at = placeCount;
       findings = anyFindings (agedTo p (stampIn p t));
     }
 
@@ -208,24 +223,24 @@ frameFindings p k raw = anyFindings p + messageFindings p k raw
 unfoldable pub afterFrame : Head → ℕ → ℕ → ℕ → AfterEvent
 afterFrame p t k raw =
     record {
-      head = withCounts (withFrame (agedTo p (stampIn p t)) k (slotAt (stampIn p t) raw)) (frameFindings (agedTo p (stampIn p t)) k raw);
-      slot = slotAt (stampIn p t) raw;
-      at = k;
+      head = withCounts (withFrame (agedTo p (stampIn p t)) k (slotAt (stampIn p t) k raw)) (frameFindings (agedTo p (stampIn p t)) k raw);
+      slot = slotAt (stampIn p t) k raw;
+      at = placeBy k;
       findings = frameFindings (agedTo p (stampIn p t)) k raw;
     }
 
--- ---- the post with a head, and with a frame of a kind; a number that is no kind leaves the latest frames as they were
+-- ---- the post with a head, and with a frame in a place; a number that is no place leaves the latest frames as they were
 
 abbrev pub keepIn : List Slot → ℕ → Slot → List Slot
-keepIn l k n = cond (ltb k kindCount) (set l k n) l
+keepIn l j n = cond (ltb j placeCount) (set l j n) l
 
 abbrev pub stored : Post → Head → ℕ → Slot → Post
-stored p d k n = record { head = d; latest = keepIn (p .latest) k n }
+stored p d j n = record { head = d; latest = keepIn (p .latest) j n }
 
 -- ---- posts that nothing was heard of
 
 abbrev pub noLimits : PlainLimits
-noLimits = record { voltage = 0; charge = 0; discharge = 0; silence = 0; sensor = 0 }
+noLimits = record { voltage = 0; charge = 0; discharge = 0; silence = 0; sensor = 0; interface = 0 }
 
 -- place 0 and a place for each finding
 abbrev pub findingCount : ℕ
@@ -249,7 +264,7 @@ newHead used c lim =
     }
 
 abbrev pub newPost : ℕ → ℕ → PlainLimits → Post
-newPost used c lim = record { head = newHead used c lim; latest = replicate kindCount unknown }
+newPost used c lim = record { head = newHead used c lim; latest = replicate placeCount unknown }
 
 -- a post that is not set up
 abbrev pub freePost : Post
@@ -261,10 +276,10 @@ freshPost c lim = newPost 1 c lim
 -- ---- the record that a post hands out
 
 abbrev pub latestIn : Post → ℕ → Slot
-latestIn p k = getD (p .latest) k unknown
+latestIn p j = getD (p .latest) j unknown
 
-abbrev pub datedIn : ℕ → ℕ → Slot → Dated
-datedIn now k l = cond (isSet (l .known)) (dated.At (receivedOf (l .time)) (ageOf now (l .time)) (messageOf k (l .raw))) dated.Nothing
+abbrev pub datedIn : ℕ → Slot → Dated
+datedIn now l = cond (isSet (l .known)) (datedAt (receivedOf (l .time)) (ageOf now (l .time)) (l .kind) (l .raw)) dated.Nothing
 
 abbrev pub partIn : ℕ → Session → SessionPart
 partIn now s =
@@ -275,8 +290,8 @@ partIn now s =
       age = ageOf now (s .since);
       protocol = sessionIn (s .first) .protocol;
       plug = sessionIn (s .first) .plug;
-      status = datedIn now statusKind (keptIn s statusPlace);
-      control = datedIn now controlKind (keptIn s controlPlace);
+      status = datedIn now (keptIn s statusPlace);
+      control = datedIn now (keptIn s controlPlace);
     }))
     part.Closed
 
@@ -289,7 +304,7 @@ postRecord p =
       channel = p .head .channel;
       limits = limitsOf (p .head .limits);
       last = lastIn (p .head);
-      latest = map (λ k. record { message = datedIn (p .head .time) k (latestIn p k) }) (countFrom 0 kindCount);
+      latest = map (λ j. record { message = datedIn (p .head .time) (latestIn p j) }) (countFrom 0 placeCount);
       session = partIn (p .head .time) (p .head .session);
       accepted = acceptedBy (p .head);
       tallies = map (tallyIn (p .head)) (countFrom 0 findingCount);

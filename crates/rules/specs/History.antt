@@ -4,9 +4,11 @@ use mathlib.Core.List.{List, [], _∷_}
 use mathlib.Core.Bool.{cond}
 use mathlib.Core.Option.{Option, none, some}
 use lib.Dec.{eqb}
-use Rattle.message_parts.specs.Parts.{statusKind, parametersKind, controllerKind, sessionKind, controlKind, finishedKind}
+use Rattle.rule_pages.specs.declared.Role.{Role}
+use Rattle.rule_pages.specs.declared.Role.the-variants.{Other, Status, Limits, Controller, Opening, Command, Finished}
+use Rattle.rule_pages.specs.Roles.{roleOf}
 
--- a frame by its time, its kind and its payload number (its message is `messageOf` of the two), or a tick
+-- a frame by its time, its kind and its payload number (its message is that of the two), or a tick
 pub data Event : Type 0 where
   frame : ℕ → ℕ → ℕ → Event
   tick : ℕ → Event
@@ -52,36 +54,59 @@ abbrev pub afterOldest : {E A : Type 0} → (E → Option A) → List E → List
 afterOldest p [] = []
 afterOldest p (e ∷ h) = onlyIf (oldest p h) (e ∷ afterOldest p h)
 
--- a frame of the kind k: its time, with its payload number
-abbrev pub ofKind : ℕ → Event → Option (ℕ × ℕ)
-ofKind k (frame t j raw) = cond (eqb j k) (some (t, raw)) none
+-- what a frame said, and when
+pub record Said : Type 0 where
+  pub time : ℕ
+  pub kind : ℕ
+  pub raw : ℕ
+
+abbrev pub saidAt : ℕ → ℕ → ℕ → Said
+saidAt t k raw = record { time = t; kind = k; raw = raw }
+
+-- a frame of the kind k
+abbrev pub ofKind : ℕ → Event → Option Said
+ofKind k (frame t j raw) = cond (eqb j k) (some (saidAt t j raw)) none
 ofKind k (tick t) = none
 
--- ---- what the rules ask of an event: each is a time with a payload number, where the event is such a frame
+-- ---- what the rules ask of an event, whichever interface's pages its frame was read by
+
+abbrev pub roleNumber : Role → ℕ
+roleNumber Other = 0
+roleNumber Status = 1
+roleNumber Limits = 2
+roleNumber Controller = 3
+roleNumber Opening = 4
+roleNumber Command = 5
+roleNumber Finished = 6
+
+-- a frame that answers the question r
+abbrev pub asked : Role → Event → Option Said
+asked r (frame t k raw) = cond (eqb (roleNumber r) (roleNumber (roleOf k))) (some (saidAt t k raw)) none
+asked r (tick t) = none
 
 -- "Power_Modules_Status"
-abbrev pub statusOf : Event → Option (ℕ × ℕ)
-statusOf = ofKind statusKind
+abbrev pub statusOf : Event → Option Said
+statusOf = asked Status
 
--- "DC_Power_Control"
-abbrev pub commandOf : Event → Option (ℕ × ℕ)
-commandOf = ofKind controlKind
+-- "DC_Power_Control"; 02, Req 11: Insulation_Test, Precharge and Charging_Loop
+abbrev pub commandOf : Event → Option Said
+commandOf = asked Command
 
--- "DC_Power_Parameters"
-abbrev pub limitsTold : Event → Option (ℕ × ℕ)
-limitsTold = ofKind parametersKind
+-- "DC_Power_Parameters"; 02, Req 11: Power_Modules_Limits
+abbrev pub limitsTold : Event → Option Said
+limitsTold = asked Limits
 
 -- "a controller status"
-abbrev pub controllerOf : Event → Option (ℕ × ℕ)
-controllerOf = ofKind controllerKind
+abbrev pub controllerOf : Event → Option Said
+controllerOf = asked Controller
 
 -- "New_Charge_Session"
-abbrev pub openingOf : Event → Option (ℕ × ℕ)
-openingOf = ofKind sessionKind
+abbrev pub openingOf : Event → Option Said
+openingOf = asked Opening
 
 -- "Charge_Session_Finished"
-abbrev pub finishedOf : Event → Option (ℕ × ℕ)
-finishedOf = ofKind finishedKind
+abbrev pub finishedOf : Event → Option Said
+finishedOf = asked Finished
 
 -- ---- the session
 
@@ -91,7 +116,7 @@ finishedOf = ofKind finishedKind
 unfoldable pub sinceFinished : History → History
 sinceFinished h = sinceNewest finishedOf h
 
-unfoldable pub opening : History → Option (ℕ × ℕ)
+unfoldable pub opening : History → Option Said
 opening h = oldest openingOf (sinceFinished h)
 
 unfoldable pub inSession : History → History

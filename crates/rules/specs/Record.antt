@@ -6,12 +6,16 @@
 -- 02, Req 09: "the record keeps times as received and ages beside them".
 use Prim.Native.Nat.{ℕ}
 use mathlib.Core.List.{List, [], _∷_, map}
-use mathlib.Core.Bool.{Bool, true, false}
+use mathlib.Core.Bool.{Bool, true, false, cond}
 use mathlib.Core.Option.{Option, none, some}
+use lib.Dec.{eqb, ltb}
 use lib.ListN.{length}
-pub use Rattle.message_types.specs.KindNumbers.{kindCount}
-use Rattle.message_parts.specs.Parts.{statusKind, controlKind, sessionIn}
+use Rattle.message_types.specs.KindNumbers.{kindCount}
 use Rattle.message_build.specs.Built.{messageOf}
+use Rattle.older_build.specs.Built as older
+pub use Rattle.rule_pages.specs.Places.{placeCount}
+use Rattle.rule_pages.specs.Places.{placeBy}
+use Rattle.rule_pages.specs.Said.{openingBy}
 use Rattle.rule_limits.specs.declared.PlainLimits.{PlainLimits}
 use Rattle.rule_limits.specs.Sensor.{limitsOf}
 pub use Rattle.rule_asks.specs.Judgements.{isSet}
@@ -27,33 +31,41 @@ use Rattle.rules.specs.declared.Dated.the-variants as dated
 use Rattle.rules.specs.declared.SessionPart.{SessionPart}
 use Rattle.rules.specs.declared.SessionPart.the-variants as part
 use Rattle.rules.specs.declared.Record.{Record}
-use Rattle.rules.specs.History.{Event, History, timeOf, newest, ofKind, statusOf, commandOf, limitsTold, controllerOf, opening, inSession, countFrom}
+use Rattle.rules.specs.History.{Event, frame, tick, History, Said, saidAt, timeOf, newest, statusOf, commandOf, limitsTold, controllerOf, opening, inSession, countFrom}
 use Rattle.rules.specs.Times.{receivedOf, latestTime, ageOf}
 use Rattle.rules.specs.Rules.{sessionStatus, sessionControl}
 use Rattle.rules.specs.Counts.{talliesOf, countsOf}
 
 -- ---- as it is handed out, at the time `now` of the post's latest event
 
--- a frame of the kind k, by its message
-abbrev pub datedOf : ℕ → ℕ → Option (ℕ × ℕ) → Dated
-datedOf now k none = dated.Nothing
-datedOf now k (some m) = dated.At (receivedOf (m .0)) (ageOf now (m .0)) (messageOf k (m .1))
+-- a frame by its message: of documents 000 and 004, or of 001
+unfoldable pub datedAt : ℕ → ℕ → ℕ → ℕ → Dated
+datedAt time age k raw = cond (ltb k kindCount) (dated.At time age (messageOf k raw)) (dated.OlderAt time age (older.messageOf k raw))
+
+abbrev pub datedOf : ℕ → Option Said → Dated
+datedOf now none = dated.Nothing
+datedOf now (some m) = datedAt (receivedOf (m .time)) (ageOf now (m .time)) (m .kind) (m .raw)
+
+-- a frame of a kind that has the place j: on a post, whose frames are of one interface, the kind itself (`place-of-one`)
+abbrev pub atPlace : ℕ → Event → Option Said
+atPlace j (frame t k raw) = cond (eqb (placeBy k) j) (some (saidAt t k raw)) none
+atPlace j (tick t) = none
 
 abbrev pub lastOf : History → LastTime
 lastOf [] = last.Never
 lastOf (e ∷ h) = last.At (receivedOf (timeOf e))
 
-abbrev pub partOf : ℕ → Option (ℕ × ℕ) → Option (ℕ × ℕ) → Option (ℕ × ℕ) → SessionPart
+abbrev pub partOf : ℕ → Option Said → Option Said → Option Said → SessionPart
 partOf now none s d = part.Closed
 partOf now (some o) s d =
     part.Opened
     (record {
-      since = receivedOf (o .0);
-      age = ageOf now (o .0);
-      protocol = sessionIn (o .1) .protocol;
-      plug = sessionIn (o .1) .plug;
-      status = datedOf now statusKind s;
-      control = datedOf now controlKind d;
+      since = receivedOf (o .time);
+      age = ageOf now (o .time);
+      protocol = openingBy (o .kind) (o .raw) .protocol;
+      plug = openingBy (o .kind) (o .raw) .plug;
+      status = datedOf now s;
+      control = datedOf now d;
     })
 
 unfoldable pub recordAsOf : ℕ → PlainLimits → ℕ → History → Record
@@ -62,7 +74,7 @@ recordAsOf c lim now h =
       channel = c;
       limits = limitsOf lim;
       last = lastOf h;
-      latest = map (λ k. record { message = datedOf now k (newest (ofKind k) h) }) (countFrom 0 kindCount);
+      latest = map (λ j. record { message = datedOf now (newest (atPlace j) h) }) (countFrom 0 placeCount);
       session = partOf now (opening h) (sessionStatus h) (sessionControl h);
       accepted = length h;
       tallies = talliesOf lim h;
@@ -71,31 +83,31 @@ recordAsOf c lim now h =
 abbrev pub recordOf : ℕ → PlainLimits → History → Record
 recordOf c lim h = recordAsOf c lim (latestTime h) h
 
--- ---- as the table keeps it: frames by time and payload number, flags as words
+-- ---- as the table keeps it: frames by time, kind and payload number, flags as words
 
 abbrev pub unknown : Slot
-unknown = record { known = 0; time = 0; raw = 0 }
+unknown = record { known = 0; kind = 0; time = 0; raw = 0 }
 
-abbrev pub slotAt : ℕ → ℕ → Slot
-slotAt t raw = record { known = 1; time = t; raw = raw }
+abbrev pub slotAt : ℕ → ℕ → ℕ → Slot
+slotAt t k raw = record { known = 1; kind = k; time = t; raw = raw }
 
-abbrev pub slotOf : Option (ℕ × ℕ) → Slot
+abbrev pub slotOf : Option Said → Slot
 slotOf none = unknown
-slotOf (some m) = slotAt (m .0) (m .1)
+slotOf (some m) = slotAt (m .time) (m .kind) (m .raw)
 
 -- what a session keeps the latest of
-abbrev pub kept01 : List (Event → Option (ℕ × ℕ))
+abbrev pub kept01 : List (Event → Option Said)
 kept01 = statusOf ∷ commandOf ∷ []
 
-abbrev pub keptOf : History → List (Option (ℕ × ℕ))
-keptOf h = map (λ (asked : Event → Option (ℕ × ℕ)). newest asked h) kept01
+abbrev pub keptOf : History → List (Option Said)
+keptOf h = map (λ (asked : Event → Option Said). newest asked h) kept01
 
 abbrev pub closedSession : Session
-closedSession = record { opened = 0; since = 0; first = 0; kept = map (λ (asked : Event → Option (ℕ × ℕ)). unknown) kept01 }
+closedSession = record { opened = 0; since = 0; first = 0; kept = map (λ (asked : Event → Option Said). unknown) kept01 }
 
-abbrev pub sessionOf : Option (ℕ × ℕ) → List (Option (ℕ × ℕ)) → Session
+abbrev pub sessionOf : Option Said → List (Option Said) → Session
 sessionOf none ks = closedSession
-sessionOf (some o) ks = record { opened = 1; since = o .0; first = o .1; kept = map slotOf ks }
+sessionOf (some o) ks = record { opened = 1; since = o .time; first = o .raw; kept = map slotOf ks }
 
 unfoldable pub session01 : History → Session
 session01 h = sessionOf (opening h) (keptOf (inSession h))
@@ -123,7 +135,7 @@ abbrev pub headOf : ℕ → PlainLimits → History → Head
 headOf c lim h = headAt c lim (countsOf lim h) (heardIn h) (latestTime h) h
 
 unfoldable pub latests : History → List Slot
-latests h = map (λ k. slotOf (newest (ofKind k) h)) (countFrom 0 kindCount)
+latests h = map (λ j. slotOf (newest (atPlace j) h)) (countFrom 0 placeCount)
 
 abbrev pub postOf : ℕ → PlainLimits → History → Post
 postOf c lim h = record { head = headOf c lim h; latest = latests h }

@@ -11,8 +11,7 @@ use message_types::Plug;
 use message_types::Protocol;
 use rule_limits::Limits;
 use rule_limits::PlainLimits;
-
-pub const KINDS: usize = 12;
+pub use rule_pages::PLACES;
 
 pub const FINDINGS: usize = 11;
 
@@ -25,12 +24,14 @@ pub const COUNTS: usize = 12;
 // The latest frame of a kind, as it came.
 #[repr(C)]
 pub struct Slot {
-    pub known: u64,
+    pub known: u32,
+    pub kind: u32,
     pub time: u64,
     pub raw: u64,
 }
 
-// A session keeps the latest Power_Modules_Status and the latest DC_Power_Control that were accepted in it.
+// A session keeps the latest Power_Modules_Status and the latest DC_Power_Control that were accepted in it, or what stands for them on a post of the older
+// interface.
 pub const STATUS_PLACE: usize = 0;
 
 pub const CONTROL_PLACE: usize = 1;
@@ -46,14 +47,14 @@ pub struct Session {
     pub kept: [Slot; KEPT],
 }
 
-// What an event steps of a post: what the rules read, and the counts. The latest Advantics_Controller_Status and DC_Power_Parameters stand here too, so that
-// they read nothing else.
+// What an event steps of a post: what the rules read, and the counts. The latest controller status and the latest limits told stand here too, so that they read
+// nothing else.
 #[repr(C)]
 pub struct Head {
     pub used: u32,
     pub channel: u32,
     pub limits: PlainLimits,
-    pub heard: u32,
+    pub heard: u64,
     pub time: u64,
     pub controller: Slot,
     pub parameters: Slot,
@@ -64,10 +65,10 @@ pub struct Head {
 #[repr(C)]
 pub struct Post {
     pub head: Head,
-    pub latest: [Slot; KINDS],
+    pub latest: [Slot; PLACES],
 }
 
-// A head after an event, the slot that the event fills and its kind (KINDS where it fills none), and the event's findings.
+// A head after an event, the slot that the event fills and its place (PLACES where it fills none), and the event's findings.
 pub struct AfterEvent {
     pub head: Head,
     pub slot: Slot,
@@ -82,10 +83,11 @@ pub enum LastTime {
     At(u32),
 }
 
-// The time of a message as it was received, and its age.
+// The time of a message as it was received, and its age; a message of the older interface's pages has a type of its own.
 pub enum Dated {
     Nothing,
     At(u32, u32, Message),
+    OlderAt(u32, u32, older_types::Message),
 }
 
 pub struct Latest {
@@ -110,7 +112,7 @@ pub struct Record {
     pub channel: u32,
     pub limits: Limits,
     pub last: LastTime,
-    pub latest: [Latest; KINDS],
+    pub latest: [Latest; PLACES],
     pub session: SessionPart,
     pub accepted: u32,
     pub tallies: [u32; FINDINGS],

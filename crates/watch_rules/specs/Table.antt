@@ -8,15 +8,16 @@ use Rattle.refusals.specs.declared.Refusal.{Refusal}
 use Rattle.refusals.specs.declared.Refusal.the-variants.{ChannelFree, Earlier, NoSuchPost, NoSuchChannel, ChannelTaken, LimitOutside, NotSetUp, CountFull}
 use Rattle.page_read.specs.declared.Judged.{Judged}
 use Rattle.page_read.specs.declared.Judged.the-variants as judged
-use Rattle.page_read.specs.Judge.{judgeOf}
+use Rattle.page_interfaces.specs.Foreign.{judgeFor}
 use Rattle.rule_limits.specs.declared.PlainLimits.{PlainLimits}
 use Rattle.rule_limits.specs.Limits.{limitsFit}
+use Rattle.rule_limits.specs.Sensor.{interfaceOf}
 use Rattle.rules.specs.declared.Session.{Session}
 use Rattle.rules.specs.declared.Head.{Head}
 use Rattle.rules.specs.declared.Post.{Post}
 use Rattle.rules.specs.declared.AfterEvent.{AfterEvent}
 use Rattle.rules.specs.declared.Record.{Record}
-use Rattle.rules.specs.Record.{kindCount, isSet, unknown}
+use Rattle.rules.specs.Record.{placeCount, isSet, unknown}
 use Rattle.rules.specs.Counts.{largest}
 use Rattle.rules.specs.After.{isEarly, isFullIn, afterTick, afterFrame, stored, noLimits, freePost, freshPost, postRecord}
 use Rattle.watch_rules.specs.declared.Table.{Table}
@@ -69,12 +70,12 @@ abbrev pub arrivalOf : Judged → Arrival
 arrivalOf (judged.Frame k n) = Frame k n
 arrivalOf (judged.Refused w) = Unread w
 
--- what comes to a post is read by the limits that it was set up with
+-- what comes to a post is read by the limits that it was set up with: 02, Req 11, by the pages of its interface, and 29 in 3's place
 abbrev pub Arriving : Type 0
 Arriving = PlainLimits → Arrival
 
 abbrev pub arrivalFor : PlainLimits → ℕ → Bool → List ℕ → Arrival
-arrivalFor lim m x bs = arrivalOf (judgeOf m x bs)
+arrivalFor lim m x bs = arrivalOf (judgeFor (interfaceOf (lim .interface)) m x bs)
 
 abbrev pub framing : ℕ → Bool → List ℕ → Arriving
 framing m x bs lim = arrivalFor lim m x bs
@@ -84,7 +85,7 @@ ticking lim = Tick
 
 -- a refused event leaves the head as it was and fills no slot
 abbrev pub turnedAway : Head → Refusal → Heard
-turnedAway p w = record { head = p; slot = unknown; at = kindCount; answer = Refused w }
+turnedAway p w = record { head = p; slot = unknown; at = placeCount; answer = Refused w }
 
 abbrev pub heardBy : AfterEvent → Heard
 heardBy r = record { head = r .head; slot = r .slot; at = r .at; answer = Findings (r .findings) }
@@ -98,7 +99,7 @@ judgedOf p t Tick = unlessFull p (heardBy (afterTick p t))
 judgedOf p t (Frame k n) = unlessFull p (heardBy (afterFrame p t k n))
 judgedOf p t (Unread w) = turnedAway p w
 
--- 1 where the post does not hold the channel, then 2, then the reader's 3 to 6, then 25
+-- 1 where the post does not hold the channel, then 2, then the reader's 3 to 6 with 29 in 3's place, then 25
 unfoldable pub heardOf : Head → ℕ → ℕ → Arrival → Heard
 heardOf p c t a =
     cond (isChannel c && holds p c)

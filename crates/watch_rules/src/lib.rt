@@ -49,11 +49,11 @@ pub struct LookedUp {
 // What comes to a post at a time: a tick, a frame by its kind and payload number, or a frame that its reader refused.
 pub enum Arrival {
     Tick,
-    Frame(usize, u64),
+    Frame(u32, u64),
     Unread(Refusal),
 }
 
-// A post's head after an arrival, the slot that the arrival fills and its kind (KINDS where it fills none), and the answer.
+// A post's head after an arrival, the slot that the arrival fills and its place (PLACES where it fills none), and the answer.
 pub struct Heard {
     pub head: Head,
     pub slot: Slot,

@@ -7,7 +7,7 @@ use denote.Enum.Laws.{owed}
 use mir.Val.{Val}
 use borrow.Author.Needs.{needs}
 use Rattle.refusals.specs.declared.Refusal.{Refusal}
-use Rattle.refusals.specs.declared.Refusal.the-variants.{ChannelFree, Earlier, UnknownIdentifier, TooShort, NoLabel, UncoveredBit, NoRawNumber, ShortBuffer, NoSuchPost, NoSuchChannel, ChannelTaken, LimitOutside, NoSignal, NotSetUp, TooLong, IllNumber, LogChannel, LogStandard, LogExtended, LogLength, LogTick, BatchBytes, BatchRecord, BatchAnswers, CountFull, CompareLog, CompareRecords, CompareRoom}
+use Rattle.refusals.specs.declared.Refusal.the-variants.{ChannelFree, Earlier, UnknownIdentifier, TooShort, NoLabel, UncoveredBit, NoRawNumber, ShortBuffer, NoSuchPost, NoSuchChannel, ChannelTaken, LimitOutside, NoSignal, NotSetUp, TooLong, IllNumber, LogChannel, LogStandard, LogExtended, LogLength, LogTick, BatchBytes, BatchRecord, BatchAnswers, CountFull, CompareLog, CompareRecords, CompareRoom, OtherInterface}
 use Rattle.refusals.proofs.Refusal.{the-type, the-row}
 use Rattle.refusals.proofs.Refusal.Laws.{the-laws}
 use Rattle.refusals.specs.Refusals.{startOf}
@@ -44,6 +44,7 @@ start-small CountFull vs h = omega arith
 start-small CompareLog vs h = omega arith
 start-small CompareRecords vs h = omega arith
 start-small CompareRoom vs h = omega arith
+start-small OtherInterface vs h = omega arith
 
 add-result : tie.Need-add-result
 add-result c = omega (arith, number-small (c .before .args .w))

@@ -6,7 +6,7 @@ use types.Run.{OneOf, miss}
 use denote.Enum.Declared.{tagOf}
 use borrow.Author.Needs.{needs}
 use Rattle.refusals.specs.declared.Refusal.{Refusal}
-use Rattle.refusals.specs.declared.Refusal.the-variants.{ChannelFree, Earlier, UnknownIdentifier, TooShort, NoLabel, UncoveredBit, NoRawNumber, ShortBuffer, NoSuchPost, NoSuchChannel, ChannelTaken, LimitOutside, NoSignal, NotSetUp, TooLong, IllNumber, LogChannel, LogStandard, LogExtended, LogLength, LogTick, BatchBytes, BatchRecord, BatchAnswers, CountFull, CompareLog, CompareRecords, CompareRoom}
+use Rattle.refusals.specs.declared.Refusal.the-variants.{ChannelFree, Earlier, UnknownIdentifier, TooShort, NoLabel, UncoveredBit, NoRawNumber, ShortBuffer, NoSuchPost, NoSuchChannel, ChannelTaken, LimitOutside, NoSignal, NotSetUp, TooLong, IllNumber, LogChannel, LogStandard, LogExtended, LogLength, LogTick, BatchBytes, BatchRecord, BatchAnswers, CountFull, CompareLog, CompareRecords, CompareRoom, OtherInterface}
 use Rattle.refusals.specs.Refusals.{startOf}
 use Rattle.refusals.proofs.Refusal.{the-type}
 use Rattle.refusals.proofs.refusal_start.Statement.{statement}
@@ -23,7 +23,7 @@ returns c = sym (ap startOf (c .before .w .given .1))
 
 -- the cases but NoLabel, which is the fourth from 0
 abbrev otherCases : List ℕ
-otherCases = 0 ∷ 1 ∷ 2 ∷ 3 ∷ 5 ∷ 6 ∷ 7 ∷ 8 ∷ 9 ∷ 10 ∷ 11 ∷ 12 ∷ 13 ∷ 14 ∷ 15 ∷ 16 ∷ 17 ∷ 18 ∷ 19 ∷ 20 ∷ 21 ∷ 22 ∷ 23 ∷ 24 ∷ 25 ∷ 26 ∷ 27 ∷ []
+otherCases = 0 ∷ 1 ∷ 2 ∷ 3 ∷ 5 ∷ 6 ∷ 7 ∷ 8 ∷ 9 ∷ 10 ∷ 11 ∷ 12 ∷ 13 ∷ 14 ∷ 15 ∷ 16 ∷ 17 ∷ 18 ∷ 19 ∷ 20 ∷ 21 ∷ 22 ∷ 23 ∷ 24 ∷ 25 ∷ 26 ∷ 27 ∷ 28 ∷ []
 
 others : (w : Refusal) → OneOf otherCases (tagOf the-type w) → 0 ≡ startOf w
 others ChannelFree h = refl
@@ -54,6 +54,7 @@ others CountFull h = refl
 others CompareLog h = refl
 others CompareRecords h = refl
 others CompareRoom h = refl
+others OtherInterface h = refl
 
 returns-2 : tie.Need-returns-2
 returns-2 c = others (c .before .args .w) (c .match .keys2)

@@ -83,7 +83,7 @@ returns-7 c =
 returns-8 : tie.Need-returns-8
 unfolding limitsFit
 returns-8 c =
-    let seven = c .before in
+    let seven = c .before .before in
     let six = seven .before .before in
     let five = six .before .before in
     let four = five .before .before in
@@ -98,8 +98,31 @@ returns-8 c =
       le-leb _ _ (five .if5 .left),
       le-leb _ _ (six .if6 .left),
       le-leb _ _ (seven .if7 .left),
+      lt-leb _ _ (c .if8 .taken),
+    )
+
+returns-9 : tie.Need-returns-9
+unfolding limitsFit
+returns-9 c =
+    let eight = c .before in
+    let seven = eight .before .before in
+    let six = seven .before .before in
+    let five = six .before .before in
+    let four = five .before .before in
+    let three = four .before .before in
+    let two = three .before .before in
+    let one = two .before .before in
+    rw (
+      le-leb _ _ (one .if1 .left),
+      le-leb _ _ (two .if2 .left),
+      le-leb _ _ (three .if3 .left),
+      le-leb _ _ (four .if4 .left),
+      le-leb _ _ (five .if5 .left),
+      le-leb _ _ (six .if6 .left),
+      le-leb _ _ (seven .if7 .left),
+      le-leb _ _ (eight .if8 .left),
     )
 
 pub limits-fit-spec : {M : Type 1} → statement M
 limits-fit-spec =
-    tie.close (tie.spec returns returns-2 returns-3 returns-4 returns-5 returns-6 returns-7 returns-8)
+    tie.close (tie.spec returns returns-2 returns-3 returns-4 returns-5 returns-6 returns-7 returns-8 returns-9)

@@ -1,0 +1,3 @@
+pub mod Roles
+pub mod Said
+pub mod Places
