@@ -29,17 +29,22 @@ with-frame-requires c κs = search needs
 with-counts-requires : tie.Need-with-counts-requires
 with-counts-requires c κs = search needs
 
+place-by-requires : tie.Need-place-by-requires
+place-by-requires c κs = search needs
+
 returns : tie.Need-returns
 unfolding afterFrame agedTo
 returns c =
-    let framed = c .before in
+    let counts = c .before in
+    let framed = counts .before in
     let slot = framed .before in
     let found = slot .before in
     let stamped = found .before .before .before in
     let a = stamped .before .args in
     frame-both (a .h) (a .time) (a .kind) (a .raw)
     (rw (
-      c .with-counts .ensures,
+      c .place-by .ensures,
+      counts .with-counts .ensures,
       framed .with-frame .ensures,
       slot .slot-at .ensures,
       found .before .any-findings .ensures .0,
@@ -60,4 +65,5 @@ frame-spec =
     slot-at-requires
     with-frame-requires
     with-counts-requires
+    place-by-requires
     returns)

@@ -1,71 +1,70 @@
--- `post_findings::message_findings` meets its contract: the tests on the kind are passed in the order of the definition.
+-- `post_findings::message_findings` meets its contract, by what the frame is to the rules.
 use native.Mathlib.Omega.{arith}
-use borrow.Author.Tests.{eq-eqb, ne-eqb}
+use mathlib.Core.Path.{sym, _∙_}
 use borrow.Author.Needs.{needs}
 use Rattle.rules.specs.After.{messageFindings}
 use Rattle.post_findings.proofs.message_findings.Statement.{statement}
 use Rattle.post_findings.proofs.message_findings.Tie as tie
 
-status-in-requires : tie.Need-status-in-requires
-status-in-requires c κs = search needs
-
-status-findings-requires : tie.Need-status-findings-requires
-status-findings-requires c κs = search needs
-
 returns : tie.Need-returns
 unfolding messageFindings
-returns c = (rw (eq-eqb _ _ (c .before .before .if1 .taken), ← c .before .status-in .ensures) (c .status-findings .ensures .0), omega arith)
-
-session-in-requires : tie.Need-session-in-requires
-session-in-requires c κs = search needs
-
-opening-findings-requires : tie.Need-opening-findings-requires
-opening-findings-requires c κs = search needs
+returns c =
+    let e = c .before .before in
+    (rw (sym (e .before .before .role-of .ensures) ∙ e .enum-told .given .1, ← c .before .status-by .ensures) (c .status-findings .ensures .0), omega arith)
 
 returns-2 : tie.Need-returns-2
 unfolding messageFindings
 returns-2 c =
-    let k = c .before .before in
-    (rw (ne-eqb _ _ (k .before .if1 .left), eq-eqb _ _ (k .if2 .taken), ← c .before .session-in .ensures) (c .opening-findings .ensures .0), omega arith)
-
-control-in-requires : tie.Need-control-in-requires
-control-in-requires c κs = search needs
-
-control-findings-requires : tie.Need-control-findings-requires
-control-findings-requires c κs = search needs
+    let e = c .before .before in
+    (rw (sym (e .before .before .role-of .ensures) ∙ e .enum-told2 .given .1, ← c .before .opening-by .ensures) (c .opening-findings .ensures .0), omega arith)
 
 returns-3 : tie.Need-returns-3
 unfolding messageFindings
 returns-3 c =
-    let k = c .before .before in
-    (rw (ne-eqb _ _ (k .before .before .if1 .left), ne-eqb _ _ (k .before .if2 .left), eq-eqb _ _ (k .if3 .taken), ← c .before .control-in .ensures) (c .control-findings .ensures .0), omega arith)
-
-finished-findings-requires : tie.Need-finished-findings-requires
-finished-findings-requires c κs = search needs
+    let e = c .before .before in
+    (rw (sym (e .before .before .role-of .ensures) ∙ e .enum-told3 .given .1, ← c .before .command-by .ensures) (c .control-findings .ensures .0), omega arith)
 
 returns-4 : tie.Need-returns-4
 unfolding messageFindings
 returns-4 c =
-    let k = c .before in
-    (rw (ne-eqb _ _ (k .before .before .before .if1 .left), ne-eqb _ _ (k .before .before .if2 .left), ne-eqb _ _ (k .before .if3 .left), eq-eqb _ _ (k .if4 .taken)) (c .finished-findings .ensures .0), omega arith)
+    let e = c .before in
+    (rw (sym (e .before .before .role-of .ensures) ∙ e .enum-told4 .given .1) (c .finished-findings .ensures .0), omega arith)
 
 returns-5 : tie.Need-returns-5
 unfolding messageFindings
-returns-5 c = (rw (ne-eqb _ _ (c .before .before .before .if1 .left), ne-eqb _ _ (c .before .before .if2 .left), ne-eqb _ _ (c .before .if3 .left), ne-eqb _ _ (c .if4 .left)), omega arith)
+returns-5 c = (rw (sym (c .before .before .role-of .ensures) ∙ c .enum-told5 .given .1), omega arith)
+
+returns-6 : tie.Need-returns-6
+unfolding messageFindings
+returns-6 c = (rw (sym (c .before .before .role-of .ensures) ∙ c .enum-told6 .given .1), omega arith)
+
+returns-7 : tie.Need-returns-7
+unfolding messageFindings
+returns-7 c = (rw (sym (c .before .before .role-of .ensures) ∙ c .enum-told7 .given .1), omega arith)
 
 pub message-findings-spec : {M : Type 1} → statement M
 message-findings-spec =
     tie.close
     (tie.spec
-    status-in-requires
-    status-findings-requires
+    (λ c κs. search needs)
+    (λ c. search needs)
+    (λ c κs. search needs)
+    (λ c κs. search needs)
+    (λ c. search needs)
+    (λ c κs. search needs)
+    (λ c κs. search needs)
+    (λ c. search needs)
+    (λ c κs. search needs)
+    (λ c κs. search needs)
+    (λ c. search needs)
+    (λ c κs. search needs)
+    (λ c. search needs)
+    (λ c. search needs)
+    (λ c. search needs)
     returns
-    session-in-requires
-    opening-findings-requires
     returns-2
-    control-in-requires
-    control-findings-requires
     returns-3
-    finished-findings-requires
     returns-4
-    returns-5)
+    returns-5
+    returns-6
+    returns-7)

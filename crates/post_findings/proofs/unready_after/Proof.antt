@@ -4,11 +4,17 @@ use borrow.Author.Needs.{needs}
 use Rattle.post_findings.proofs.unready_after.Statement.{statement}
 use Rattle.post_findings.proofs.unready_after.Tie as tie
 
+cast-is-set : tie.Need-cast-is-set
+cast-is-set c = search needs
+
 is-set-requires : tie.Need-is-set-requires
 is-set-requires c κs = search needs
 
-status-in-requires : tie.Need-status-in-requires
-status-in-requires c κs = search needs
+cast-status-by : tie.Need-cast-status-by
+cast-status-by c = search needs
+
+status-by-requires : tie.Need-status-by-requires
+status-by-requires c κs = search needs
 
 allowed-requires : tie.Need-allowed-requires
 allowed-requires c κs = search needs
@@ -18,8 +24,8 @@ negated-requires c κs = search needs
 
 returns : tie.Need-returns
 returns c =
-    let known = c .before .before .before in
-    rw (sym (known .before .is-set .ensures) ∙ known .if1 .taken, c .negated .ensures, c .before .allowed .ensures, c .before .before .status-in .ensures)
+    let known = c .before .before .before .before in
+    rw (sym (known .before .is-set .ensures) ∙ known .if1 .taken, c .negated .ensures, c .before .allowed .ensures, c .before .before .status-by .ensures)
 
 returns-2 : tie.Need-returns-2
 returns-2 c = rw (sym (c .before .is-set .ensures) ∙ c .if1 .left)
@@ -28,8 +34,10 @@ pub unready-after-spec : {M : Type 1} → statement M
 unready-after-spec =
     tie.close
     (tie.spec
+    cast-is-set
     is-set-requires
-    status-in-requires
+    cast-status-by
+    status-by-requires
     allowed-requires
     negated-requires
     returns

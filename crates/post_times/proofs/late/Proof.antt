@@ -5,6 +5,9 @@ use Rattle.rules.specs.After.{lateAfter}
 use Rattle.post_times.proofs.late.Statement.{statement}
 use Rattle.post_times.proofs.late.Tie as tie
 
+cast-is-set : tie.Need-cast-is-set
+cast-is-set c = search needs
+
 is-set-requires : tie.Need-is-set-requires
 is-set-requires c κs = search needs
 
@@ -22,4 +25,4 @@ unfolding lateAfter
 returns-2 c = rw (sym (c .before .is-set .ensures) ∙ c .if1 .left)
 
 pub late-spec : {M : Type 1} → statement M
-late-spec = tie.close (tie.spec is-set-requires ms-between-requires returns returns-2)
+late-spec = tie.close (tie.spec cast-is-set is-set-requires ms-between-requires returns returns-2)

@@ -5,6 +5,9 @@ use borrow.Author.Needs.{needs}
 use Rattle.post_times.proofs.later.Statement.{statement}
 use Rattle.post_times.proofs.later.Tie as tie
 
+cast-is-set : tie.Need-cast-is-set
+cast-is-set c = search needs
+
 is-set-requires : tie.Need-is-set-requires
 is-set-requires c κs = search needs
 
@@ -22,4 +25,4 @@ returns-3 : tie.Need-returns-3
 returns-3 c = rw (sym (c .before .is-set .ensures) ∙ c .if1 .left)
 
 pub later-spec : {M : Type 1} → statement M
-later-spec = tie.close (tie.spec is-set-requires returns returns-2 returns-3)
+later-spec = tie.close (tie.spec cast-is-set is-set-requires returns returns-2 returns-3)
