@@ -9,8 +9,9 @@ use borrow.Author.Tests.{eqb-true, eq-eqb, ltb-true, lt-ltb}
 use Rattle.refusals.specs.declared.Refusal.{Refusal}
 use Rattle.refusals.specs.declared.Refusal.the-variants.{ChannelFree, Earlier, CountFull}
 use Rattle.page_read.specs.declared.Judged.the-variants as judged
-use Rattle.page_read.specs.Judge.{judgeOf}
+use Rattle.page_interfaces.specs.Foreign.{judgeFor}
 use Rattle.rule_limits.specs.declared.PlainLimits.{PlainLimits}
+use Rattle.rule_limits.specs.Sensor.{interfaceOf}
 use Rattle.rules.specs.declared.Head.{Head}
 use Rattle.rules.specs.declared.Post.{Post}
 use Rattle.rules.specs.Record.{isSet}
@@ -79,12 +80,12 @@ module _ (rs : List Request) (i c : ℕ) (lim : PlainLimits) (h : History) (low 
   pub own-tick : (t : ℕ) → reply (run rs) (tick c t) ≡ fed (cond (earlierIn h t) (Refused Earlier) (cond (isFull h) (Refused CountFull) (Findings (findings01 lim h (tickAt t h)))))
   own-tick t = every-answer rs (tick c t) ∙ ap fed (feed-own t ticking)
 
-  pub own-frame : (t m : ℕ) (x : Bool) (bs : List ℕ) (k n : ℕ) → judgeOf m x bs ≡ judged.Frame k n
+  pub own-frame : (t m : ℕ) (x : Bool) (bs : List ℕ) (k n : ℕ) → judgeFor (interfaceOf (lim .interface)) m x bs ≡ judged.Frame k n
       → reply (run rs) (frame c t m x bs) ≡ fed (cond (earlierIn h t) (Refused Earlier) (cond (isFull h) (Refused CountFull) (Findings (findings01 lim h (frameAt t k n h)))))
   own-frame t m x bs k n e = every-answer rs (frame c t m x bs) ∙ ap fed (feed-own t (framing m x bs) ∙ rw e)
 
   -- and for a frame that its reader refuses
-  pub own-unread : (t m : ℕ) (x : Bool) (bs : List ℕ) (w : Refusal) → judgeOf m x bs ≡ judged.Refused w
+  pub own-unread : (t m : ℕ) (x : Bool) (bs : List ℕ) (w : Refusal) → judgeFor (interfaceOf (lim .interface)) m x bs ≡ judged.Refused w
       → reply (run rs) (frame c t m x bs) ≡ fed (cond (earlierIn h t) (Refused Earlier) (Refused w))
   own-unread t m x bs w e = every-answer rs (frame c t m x bs) ∙ ap fed (feed-own t (framing m x bs) ∙ rw e)
 
@@ -92,7 +93,7 @@ module _ (rs : List Request) (i c : ℕ) (lim : PlainLimits) (h : History) (low 
   pub full-tick : (t : ℕ) → earlierIn h t ≡ false → isFull h ≡ true → reply (run rs) (tick c t) ≡ fed (Refused CountFull)
   full-tick t late full = own-tick t ∙ rw (late, full)
 
-  pub full-frame : (t m : ℕ) (x : Bool) (bs : List ℕ) (k n : ℕ) → judgeOf m x bs ≡ judged.Frame k n → earlierIn h t ≡ false → isFull h ≡ true
+  pub full-frame : (t m : ℕ) (x : Bool) (bs : List ℕ) (k n : ℕ) → judgeFor (interfaceOf (lim .interface)) m x bs ≡ judged.Frame k n → earlierIn h t ≡ false → isFull h ≡ true
       → reply (run rs) (frame c t m x bs) ≡ fed (Refused CountFull)
   full-frame t m x bs k n e late full = own-frame t m x bs k n e ∙ rw (late, full)
 
@@ -178,7 +179,7 @@ module _ (rs : List Request) (i : ℕ) where
         let z : feed01 (accepted rs) c t ticking ≡ Findings found = cc (every-answer rs (tick c t)) in
         rw (z, holder-own rs i c lim h own, own) (standing-event (accepted rs) i c lim h (tickAt t h) own)
 
-    pub counted-frame : (m : ℕ) (x : Bool) (bs : List ℕ) (k n : ℕ) → judgeOf m x bs ≡ judged.Frame k n → reply (run rs) (frame c t m x bs) ≡ fed (Findings found)
+    pub counted-frame : (m : ℕ) (x : Bool) (bs : List ℕ) (k n : ℕ) → judgeFor (interfaceOf (lim .interface)) m x bs ≡ judged.Frame k n → reply (run rs) (frame c t m x bs) ≡ fed (Findings found)
         → standing i (accepted (frame c t m x bs ∷ rs)) ≡ held c lim (frameAt t k n h ∷ h)
     unfolding accepted feedSteps
     counted-frame m x bs k n e q =

@@ -10,7 +10,11 @@ use lib.ListN.{length, replicate}
 use Rattle.refusals.specs.declared.Refusal.the-variants.{ChannelFree, CountFull}
 use Rattle.page_read.specs.declared.Judged.the-variants as judged
 use Rattle.page_rows.specs.Table.{rows, ofKind, firstAt, covered}
-use Rattle.page_read.specs.Judge.{unlabelled, strayBelow, judgedNumber, judgeOf}
+use Rattle.page_read.specs.Judge.{unlabelled, strayBelow, judgedNumber, judgeOn}
+use Rattle.page_rows.specs.declared.Interface.the-variants.{Newer}
+use Rattle.page_interfaces.specs.Foreign.{isForeign, judgeFor}
+use Rattle.rule_pages.specs.Roles.{roleOf}
+use Rattle.rule_pages.specs.Said.{statusBy, openingBy, limitsBy, commandBy}
 use Rattle.page_write.specs.Raws.{wholesOf, pad, rawsOf}
 use Rattle.signal.specs.Signal.{getBits}
 use Rattle.payload.specs.Payload.{leNumber}
@@ -32,7 +36,7 @@ use Rattle.watch_rules.proofs.Demand.{own-tick, counted-tick, full-tick
 use Rattle.watch_rules.proofs.Handed.{refused-counted, handed-in}
 
 abbrev limits : PlainLimits
-limits = record { voltage = 5000; charge = 1000; discharge = 500; silence = 500; sensor = 0 }
+limits = record { voltage = 5000; charge = 1000; discharge = 500; silence = 500; sensor = 0; interface = 0 }
 
 first : 0 < postCount
 first = ltb-true 0 postCount refl
@@ -80,8 +84,8 @@ tick-25 n e =
     (z, refused-nothing (ticked n) (tick 4 0) (ap isRefusal z) .1)
 
 -- and so is a frame
-readable : judgeOf 0x6b001 true (2 ∷ 1 ∷ []) ≡ judged.Frame 3 258
-unfolding rows ofKind firstAt covered unlabelled strayBelow judgedNumber judgeOf wholesOf pad rawsOf getBits leNumber toSigned
+readable : judgeFor Newer 0x6b001 true (2 ∷ 1 ∷ []) ≡ judged.Frame 3 258
+unfolding rows ofKind firstAt covered unlabelled strayBelow judgedNumber judgeOn isForeign judgeFor roleOf statusBy openingBy limitsBy commandBy wholesOf pad rawsOf getBits leNumber toSigned
 readable = refl
 
 pub frame-25 : (n : ℕ) → n ≡ largest → reply (run (ticked n)) (frame 4 0 0x6b001 true (2 ∷ 1 ∷ [])) ≡ fed (Refused CountFull)

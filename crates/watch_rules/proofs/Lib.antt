@@ -2,12 +2,14 @@ pub mod BothSides
 pub mod Standings
 pub mod Hears
 pub mod Tables
+pub mod Each
 pub mod Right
 pub mod Refusing
 pub mod Same
 pub mod Demand
 pub mod Own
 pub mod Promises
+pub mod Pages
 pub mod Handed
 pub mod Full
 pub mod Night

@@ -10,7 +10,11 @@ use mathlib.Core.List.{List, [], _∷_}
 use Rattle.refusals.specs.declared.Refusal.the-variants.{ChannelFree, ChannelTaken, TooShort}
 use Rattle.page_read.specs.declared.Judged.the-variants as judged
 use Rattle.page_rows.specs.Table.{rows, ofKind, firstAt, covered}
-use Rattle.page_read.specs.Judge.{unlabelled, strayBelow, judgedNumber, judgeOf}
+use Rattle.page_read.specs.Judge.{unlabelled, strayBelow, judgedNumber, judgeOn}
+use Rattle.page_rows.specs.declared.Interface.the-variants.{Newer}
+use Rattle.page_interfaces.specs.Foreign.{isForeign, judgeFor}
+use Rattle.rule_pages.specs.Roles.{roleOf}
+use Rattle.rule_pages.specs.Said.{statusBy, openingBy, limitsBy, commandBy}
 use Rattle.page_write.specs.Raws.{wholesOf, pad, rawsOf}
 use Rattle.signal.specs.Signal.{getBits}
 use Rattle.payload.specs.Payload.{leNumber}
@@ -37,7 +41,7 @@ use Rattle.watch_rules.proofs.Own.{own-record, own-released, own-arriva
 use Rattle.watch_rules.proofs.Tables.{post-at}
 
 abbrev limits : PlainLimits
-limits = record { voltage = 5000; charge = 1000; discharge = 500; silence = 500; sensor = 0 }
+limits = record { voltage = 5000; charge = 1000; discharge = 500; silence = 500; sensor = 0; interface = 0 }
 
 -- newest first
 abbrev alone : List Request
@@ -62,11 +66,11 @@ first = ltb-true 0 postCount refl
 -- what the premises ask of the night, and what 01's rules give there, by computing
 computed : (standing 0 (accepted night) ≡ held 4 limits heard) × (standing 0 (accepted alone) ≡ held 4 limits heard) × (holdsIn (standing 1 (accepted night)) 4 ≡ false)
     × (earlierIn heard 501 ≡ false) × (findings01 limits heard (history.tick 501) ≡ 1) × (findings01 limits heard (history.tick 500) ≡ 0) × (earlierIn heard 500 ≡ false)
-    × (judgeOf 0x6b001 true (2 ∷ []) ≡ judged.Refused TooShort) × (setUp01 (accepted night) 2 4 limits ≡ setting.Refused ChannelTaken) × (holder (accepted night) 5 ≡ 8)
-    × (judgeOf 0x63000 true status ≡ judged.Frame 0 allowed) × (findings01 limits heard (history.frame 501 0 allowed) ≡ 1)
+    × (judgeFor Newer 0x6b001 true (2 ∷ []) ≡ judged.Refused TooShort) × (setUp01 (accepted night) 2 4 limits ≡ setting.Refused ChannelTaken) × (holder (accepted night) 5 ≡ 8)
+    × (judgeFor Newer 0x63000 true status ≡ judged.Frame 0 allowed) × (findings01 limits heard (history.frame 501 0 allowed) ≡ 1)
     × (otherHolds (accepted night) 2 4 0 postCount ≡ otherHolds (accepted alone) 2 4 0 postCount) × (lookUp01 (accepted night) 0 ≡ record { answer = setting.Done; shown = recordOf 4 limits heard })
     × (holder (accepted alone) 5 ≡ 8) × (setUp01 (accepted night) 3 5 limits ≡ setting.Done) × (release01 (accepted night) 1 ≡ setting.Done) × (ownOf 0 (accepted night) ≡ ownOf 0 (accepted alone))
-unfolding standing findFrom holder otherHolds feed01 setUp01 release01 lookUp01 feedSteps setUpSteps releaseSteps limitsFit accepted sinceFinished opening inSession earlierIn lowersBadly outside leaking badInsulation differs sessionStatus sessionControl limitOf f1 f2 f3 f4 f5 f6 f7 f8 f9 f10 f11 findings01 rows ofKind firstAt covered unlabelled strayBelow judgedNumber judgeOf wholesOf pad rawsOf getBits leNumber toSigned statusIn parametersIn sessionIn controlIn
+unfolding standing findFrom holder otherHolds feed01 setUp01 release01 lookUp01 feedSteps setUpSteps releaseSteps limitsFit accepted sinceFinished opening inSession earlierIn lowersBadly outside leaking badInsulation differs sessionStatus sessionControl limitOf f1 f2 f3 f4 f5 f6 f7 f8 f9 f10 f11 findings01 rows ofKind firstAt covered unlabelled strayBelow judgedNumber judgeOn isForeign judgeFor roleOf statusBy openingBy limitsBy commandBy wholesOf pad rawsOf getBits leNumber toSigned statusIn parametersIn sessionIn controlIn
 computed = (refl, refl, refl, refl, refl, refl, refl, refl, refl, refl, refl, refl, refl, refl, refl, refl, refl, refl)
 
 abbrev own : standing 0 (accepted night) ≡ held 4 limits heard

@@ -1,10 +1,10 @@
 -- Each operation on a table that stands for accepted steps answers what 01's rules give over them, and its table stands for the steps afterwards.
 use Prim.Native.Nat.{ℕ, _<_}
-use mathlib.Core.Path.{_≡_, refl, ap, sym, subst, _∙_}
+use mathlib.Core.Path.{_≡_, refl, ap, sym, _∙_}
 use mathlib.Core.List.{[], _∷_}
 use mathlib.Core.Bool.{Bool, true, false, cond, true≢false}
-use lib.Dec.{eqb, ltb}
-use borrow.Author.Tests.{eqb-true, eqb-false, eq-eqb, ne-eqb, ltb-true}
+use lib.Dec.{eqb}
+use borrow.Author.Tests.{eqb-true, ne-eqb}
 use Rattle.rule_limits.specs.declared.PlainLimits.{PlainLimits}
 use Rattle.rules.specs.History.{Event, History}
 use Rattle.rules.specs.Times.{earlierIn, Unrolled}
@@ -20,7 +20,8 @@ use Rattle.watch_rules.specs.declared.Setting.the-variants as setting
 use Rattle.watch_rules.specs.Table.{postCount, isChannel, Arriving, feedOf, emptyTable, isPost, setUpOf, releaseOf, lookUpOf}
 use Rattle.rule_limits.specs.Limits.{limitsFit}
 use Rattle.watch_rules.specs.Steps.{setUp, release, event, Steps, Standing, held, standing, holdsIn, holder, otherHolds, answerIn, feed01, setUp01, release01, lookUp01, eventIn, eventOn, ifFound, feedSteps, ifDone, setUpSteps, releaseSteps, postsOf, Apart, InRange, InTime, Kept, FeedRight, SetUpRight, ReleaseRight}
-use Rattle.watch_rules.proofs.Standings.{standing-none, standing-event, standing-event-other, over-setUp, over-release, over-event, held-on, holder-holds, alone, others-none}
+use Rattle.watch_rules.proofs.Standings.{standing-none, over-setUp, over-release, over-event, others-none}
+use Rattle.watch_rules.proofs.Each.{Each, each-none, each-released, each-set, each-fed}
 use Rattle.watch_rules.proofs.Tables.{feed-look, setUp-look, release-look, lookUp-look, empty-look}
 
 -- ---- what a table may rest on, of steps alone
@@ -91,62 +92,16 @@ module _ (s : Steps) (sound : Sound s) where
 -- ---- the times of the posts
 
 abbrev InTimes : Steps → Type 0
-InTimes s = (i : ℕ) → i < postCount → InTime (standing i s)
+InTimes s = Each InTime s
 
-times-none : InTimes []
-times-none i h = rw (standing-none i) tt
-
-module _ (s : Steps) (times : InTimes s) where
-  times-released : (k : ℕ) (r : Setting) → InTimes (ifDone r (release k) s)
-  times-released k setting.Done = λ i h. over-release s InTime i k tt (times i h)
-  times-released k (setting.Refused w) = times
-
-  times-set : (k c : ℕ) (lim : PlainLimits) (r : Setting) → InTimes (ifDone r (setUp k c lim) s)
-  times-set k c lim setting.Done = λ i h. over-setUp s InTime i k c lim (λ e. tt) (λ ne. times i h)
-  times-set k c lim (setting.Refused w) = times
-
-  module _ (apart : Apart s) where
-    module _ (k c : ℕ) (lim : PlainLimits) (h : History) (low : k < postCount) (own : standing k s ≡ held c lim h) where
-      times-event : (e : Event) → Unrolled (e ∷ h) → InTimes (event c e ∷ s)
-      times-event e un i hi = go (eqb i k) refl
-        where
-          go : (b : Bool) → eqb i k ≡ b → InTime (standing i (event c e ∷ s))
-          go true q = rw (eqb-true i k q, standing-event s k c lim h e own) un
-          go false q =
-              rw (standing-event-other s c e i (alone s apart k i c low hi (ap (λ (x : Standing). holdsIn x c) own ∙ eq-eqb c c refl) (eqb-false i k q)))
-              (times i hi)
-
-      un-held : Unrolled h
-      un-held = subst InTime own (times k low)
-
-      -- whatever arrives stands where its time puts it
-      un-event : (t : ℕ) → earlierIn h t ≡ false → (a : Arrival) → Unrolled (eventIn h t a ∷ h)
-      un-event t early Tick = unrolled-next h (eventIn h t Tick) t refl early un-held
-      un-event t early (Frame j n) = unrolled-next h (eventIn h t (Frame j n)) t refl early un-held
-      un-event t early (Unread w) = unrolled-next h (eventIn h t (Unread w)) t refl early un-held
-
-      times-found : (e : Event) → Unrolled (e ∷ h) → (r : Answer) → InTimes (ifFound r (event c e) s)
-      times-found e un (Findings n) = times-event e un
-      times-found e un (Refused w) = times
-
-      times-heard : (t : ℕ) (a : Arriving) → InTimes (ifFound (answerIn (held c lim h) t a) (event c (eventOn (held c lim h) t a)) s)
-      times-heard t a = go (earlierIn h t) refl
-        where
-          go : (b : Bool) → earlierIn h t ≡ b → InTimes (ifFound (answerIn (held c lim h) t a) (event c (eventOn (held c lim h) t a)) s)
-          go true early = rw early times
-          go false early = times-found (eventIn h t (a lim)) (un-event t early (a lim)) (answerIn (held c lim h) t a)
-
-    times-fed : (c t : ℕ) (a : Arriving) → InTimes (feedSteps s c t a)
-    unfolding feed01 feedSteps
-    times-fed c t a = go (isChannel c) (ltb (holder s c) postCount) refl refl
-      where
-        go : (p q : Bool) → isChannel c ≡ p → ltb (holder s c) postCount ≡ q → InTimes (feedSteps s c t a)
-        go false q e f = rw e times
-        go true false e f = rw (e, f) times
-        go true true e f =
-            let h : holder s c < postCount = ltb-true (holder s c) postCount f in
-            let o = held-on (standing (holder s c) s) c (holder-holds s c h) in
-            rw (e, f, o .2) (times-heard (holder s c) c (o .0) (o .1) h (o .2) t a)
+-- whatever arrives stands where its time puts it
+un-event : (a : Arriving) (c : ℕ) (lim : PlainLimits) (h : History) (t : ℕ) → earlierIn h t ≡ false → Unrolled h → Unrolled (eventIn h t (a lim) ∷ h)
+un-event a c lim h t early un = go (a lim)
+  where
+    go : (x : Arrival) → Unrolled (eventIn h t x ∷ h)
+    go Tick = unrolled-next h (eventIn h t Tick) t refl early un
+    go (Frame j n) = unrolled-next h (eventIn h t (Frame j n)) t refl early un
+    go (Unread w) = unrolled-next h (eventIn h t (Unread w)) t refl early un
 
 -- ---- the operations' second promise
 
@@ -163,23 +118,23 @@ module _ (t : Table) (s : Steps) where
       let look = feed-look t s (kept .apart) (kept .posts) (kept .times) c time a in
       record {
         answer = look .0;
-        kept = kept-sound _ _ (sound-fed s (sound-kept kept) c (eventOn (standing (holder s c) s) time a) (feed01 s c time a)) (times-fed s (kept .times) (kept .apart) c time a) (look .1);
+        kept = kept-sound _ _ (sound-fed s (sound-kept kept) c (eventOn (standing (holder s c) s) time a) (feed01 s c time a)) (each-fed InTime s (kept .times) (kept .apart) a (un-event a) c time) (look .1);
       }
 
   pub setUp-right : (i c : ℕ) (lim : PlainLimits) → Kept t s → SetUpRight s i c lim (setUpOf t i c lim)
   unfolding setUpSteps
   setUp-right i c lim kept =
       let look = setUp-look t s (kept .apart) (kept .posts) i c lim in
-      record { answer = look .0; kept = kept-sound _ _ (sound-set s (sound-kept kept) i c lim) (times-set s (kept .times) i c lim (setUp01 s i c lim)) (look .1) }
+      record { answer = look .0; kept = kept-sound _ _ (sound-set s (sound-kept kept) i c lim) (each-set InTime tt (λ d l. tt) s (kept .times) i c lim (setUp01 s i c lim)) (look .1) }
 
   pub release-right : (i : ℕ) → Kept t s → ReleaseRight s i (releaseOf t i)
   unfolding releaseSteps
   release-right i kept =
       let look = release-look t s (kept .posts) i in
-      record { answer = look .0; kept = kept-sound _ _ (sound-released s (sound-kept kept) i (release01 s i)) (times-released s (kept .times) i (release01 s i)) (look .1) }
+      record { answer = look .0; kept = kept-sound _ _ (sound-released s (sound-kept kept) i (release01 s i)) (each-released InTime tt (λ d l. tt) s (kept .times) i (release01 s i)) (look .1) }
 
   pub lookUp-right : (i : ℕ) → Kept t s → lookUpOf t i ≡ lookUp01 s i
   lookUp-right i kept = lookUp-look t s (kept .posts) i
 
 pub empty-kept : Kept emptyTable []
-empty-kept = kept-sound emptyTable [] sound-none times-none empty-look
+empty-kept = kept-sound emptyTable [] sound-none (each-none InTime tt (λ d l. tt)) empty-look

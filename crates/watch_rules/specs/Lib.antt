@@ -2,3 +2,4 @@ pub mod Table
 pub mod Steps
 pub mod Run
 pub mod Readings
+pub mod Pages

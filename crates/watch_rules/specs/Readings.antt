@@ -1,14 +1,17 @@
--- 01, "Readings from both sides of each edge": E1* to E13*, and 02, Req 02 to 04 and 08: one table under one statement, closed by computing the definitions.
+-- 01, "Readings from both sides of each edge": E1* to E13*, and 02, Req 02 to 04, 08, 09 and 11: one table under one statement, closed by computing the definitions.
 -- What the watch answers is read by looking back.
 use Prim.Native.Nat.{ℕ}
 use mathlib.Core.Path.{_≡_, refl}
 use mathlib.Core.Bool.{true, false}
 use mathlib.Core.List.{List, [], _∷_, reverse}
 use lib.IntN.{pos, negsuc}
-use lib.ListN.{getD}
-use Rattle.refusals.specs.declared.Refusal.the-variants.{ChannelFree, Earlier, UnknownIdentifier, TooShort, TooLong, NoLabel, UncoveredBit, ChannelTaken, LimitOutside, NoSuchPost, NotSetUp}
+use lib.ListN.{getD, replicate}
+use Rattle.refusals.specs.declared.Refusal.the-variants.{ChannelFree, Earlier, UnknownIdentifier, OtherInterface, TooShort, TooLong, NoLabel, UncoveredBit, ChannelTaken, LimitOutside, NoSuchPost, NotSetUp}
 use Rattle.page_rows.specs.Table.{rows, ofKind, firstAt, covered}
-use Rattle.page_read.specs.Judge.{unlabelled, offender, strayBelow, judgedNumber, judgeOf}
+use Rattle.page_rows.specs.declared.Interface.{Interface}
+use Rattle.page_rows.specs.declared.Interface.the-variants.{Newer, Older}
+use Rattle.page_read.specs.Judge.{unlabelled, offender, strayBelow, judgedNumber, judgeOn}
+use Rattle.page_interfaces.specs.Foreign.{isForeign, judgeFor}
 use Rattle.page_write.specs.Raws.{wholesOf, pad, rawsOf}
 use Rattle.signal.specs.Signal.{getBits}
 use Rattle.payload.specs.Payload.{leNumber, beNumber}
@@ -16,10 +19,18 @@ use Rattle.signal.specs.Twos.{toSigned}
 use Rattle.message_types.specs.declared.CpState.the-variants as cp
 use Rattle.message_types.specs.declared.PpState.the-variants as pp
 use Rattle.message_types.specs.declared.Message.the-variants.{SafetyState, Probes}
+use Rattle.message_types.specs.declared.Protocol.the-variants.{CcsIso15118v2013}
+use Rattle.message_types.specs.declared.Plug.the-variants.{CcsDcExtended}
+use Rattle.message_types.specs.declared.SystemEnable.the-variants.{Allowed}
 use Rattle.message_types.specs.KindNumbers.{safetyStateKind, probesKind}
 use Rattle.message_parts.specs.Parts.{statusIn, parametersIn, sessionIn, controlIn}
 use Rattle.message_build.specs.Built.{messageOf, builtOf}
 use Rattle.messages.specs.Readings as messages
+use Rattle.older_types.specs.declared.Message.the-variants as older
+use Rattle.older_build.specs.Built as olderBuilt
+use Rattle.rule_pages.specs.Roles.{roleOf}
+use Rattle.rule_pages.specs.Said.{statusBy, openingBy, limitsIn, limitsBy, commandBy}
+use Rattle.rule_pages.specs.Places.{placeBy}
 use Rattle.rule_limits.specs.declared.PlainLimits.{PlainLimits}
 use Rattle.rule_limits.specs.declared.Sensor.{Sensor}
 use Rattle.rule_limits.specs.declared.Sensor.the-variants.{Measuring, YesNo}
@@ -27,6 +38,7 @@ use Rattle.rules.specs.declared.Dated.{Dated}
 use Rattle.rules.specs.declared.Dated.the-variants as dated
 use Rattle.rules.specs.declared.Latest.{Latest}
 use Rattle.rules.specs.declared.LastTime.the-variants as last
+use Rattle.rules.specs.declared.SessionPart.{SessionPart}
 use Rattle.rules.specs.declared.SessionPart.the-variants as part
 use Rattle.rules.specs.declared.Record.{Record}
 use Rattle.rules.specs.History.{sinceFinished, opening, inSession}
@@ -34,7 +46,7 @@ use Rattle.rules.specs.Times.{earlierIn}
 use Rattle.rule_asks.specs.Judgements.{lowersBadly, outside, leaking, badInsulation, differs}
 use Rattle.rules.specs.Rules.{sessionStatus, sessionControl, limitOf, f1, f2, f3, f4, f5, f6, f7, f8, f9, f10, f11, findings01}
 use Rattle.rules.specs.Counts.{talliesOf}
-use Rattle.rules.specs.Record.{recordAsOf}
+use Rattle.rules.specs.Record.{placeCount, datedAt, recordAsOf}
 use Rattle.watch_rules.specs.declared.Answer.the-variants.{Findings, Refused}
 use Rattle.watch_rules.specs.declared.Setting.the-variants as setting
 use Rattle.watch_rules.specs.declared.LookedUp.{LookedUp}
@@ -44,13 +56,15 @@ use Rattle.watch_rules.specs.Steps.{standing, findFrom, holder, otherHol
 use Rattle.watch_rules.specs.Run.{Request, setUp, release, frame, tick, Reply, set, fed, accepted, refusedEver, acceptedFrom, replies01From}
 
 -- a reading of frames and messages (E1 to E7); requests to the empty table in order of arrival, with their replies;
--- such requests, and a post's record after them, or the sensor kind in it, or its latest message of a kind, or that one's time and age, or its counts;
+-- such requests, and a post's record after them, or the sensor kind or the interface in it, or its latest message in a place, or that one's time and age, or its session's part, or its counts;
 -- and how many of them were refused
 pub data Case : Type 0 where
   codec : messages.Case → Case
   answers : List Request → List Reply → Case
   shows : List Request → ℕ → LookedUp → Case
   senses : List Request → ℕ → Sensor → Case
+  reads-by : List Request → ℕ → Interface → Case
+  in-session : List Request → ℕ → SessionPart → Case
   keeps : List Request → ℕ → ℕ → Dated → Case
   dates : List Request → ℕ → ℕ → ℕ × ℕ → Case
   counts : List Request → ℕ → ℕ → List ℕ → Case
@@ -62,12 +76,15 @@ latestShown asked post kind = getD (lookUp01 (acceptedFrom [] asked) post .shown
 abbrev pub isDated : Dated → ℕ × ℕ → Type 0
 isDated dated.Nothing d = ⊥
 isDated (dated.At time age m) d = (time ≡ d .0) × (age ≡ d .1)
+isDated (dated.OlderAt time age m) d = (time ≡ d .0) × (age ≡ d .1)
 
 abbrev pub Holds : Case → Type 0
 Holds (codec c) = messages.Holds c
 Holds (answers asked replies) = replies01From [] asked ≡ replies
 Holds (shows asked post shown) = lookUp01 (acceptedFrom [] asked) post ≡ shown
 Holds (senses asked post sensor) = lookUp01 (acceptedFrom [] asked) post .shown .limits .sensor ≡ sensor
+Holds (reads-by asked post iface) = lookUp01 (acceptedFrom [] asked) post .shown .limits .interface ≡ iface
+Holds (in-session asked post session) = lookUp01 (acceptedFrom [] asked) post .shown .session ≡ session
 Holds (keeps asked post kind latest) = latestShown asked post kind ≡ latest
 Holds (dates asked post kind d) = isDated (latestShown asked post kind) d
 Holds (counts asked post accepted tallies) =
@@ -80,12 +97,16 @@ All (c ∷ cs) = Holds c × All cs
 
 -- default voltage 500.0 V, charge 100.0 A, discharge 50.0 A, W 500 ms, and a sensor kind by its number
 abbrev limitsWith : ℕ → PlainLimits
-limitsWith n = record { voltage = 5000; charge = 1000; discharge = 500; silence = 500; sensor = n }
+limitsWith n = record { voltage = 5000; charge = 1000; discharge = 500; silence = 500; sensor = n; interface = 0 }
 
 abbrev limits : PlainLimits
 limits = limitsWith 0
 
--- the record of a post that was just set up: never heard, no message of any of the twelve kinds, no session
+-- the same with a measuring sensor, and an interface by its number
+abbrev limitsOn : ℕ → PlainLimits
+limitsOn n = record { voltage = 5000; charge = 1000; discharge = 500; silence = 500; sensor = 0; interface = n }
+
+-- the record of a post that was just set up: never heard, no message in any of the twenty-one places, no session
 abbrev none : Latest
 none = record { message = dated.Nothing }
 
@@ -93,9 +114,9 @@ abbrev emptyRecord : Record
 emptyRecord =
     record {
       channel = 4;
-      limits = record { voltage = 5000; charge = 1000; discharge = 500; silence = 500; sensor = Measuring };
+      limits = record { voltage = 5000; charge = 1000; discharge = 500; silence = 500; sensor = Measuring; interface = Newer };
       last = last.Never;
-      latest = none ∷ none ∷ none ∷ none ∷ none ∷ none ∷ none ∷ none ∷ none ∷ none ∷ none ∷ none ∷ [];
+      latest = replicate placeCount none;
       session = part.Closed;
       accepted = 0;
       tallies = 0 ∷ 0 ∷ 0 ∷ 0 ∷ 0 ∷ 0 ∷ 0 ∷ 0 ∷ 0 ∷ 0 ∷ 0 ∷ [];
@@ -141,6 +162,24 @@ set-up = setUp 0 4 limits
 -- post 0 with a sensor kind by its number
 abbrev sensing : ℕ → Request
 sensing n = setUp 0 4 (limitsWith n)
+
+-- post 0 with an interface by its number
+abbrev reading : ℕ → Request
+reading n = setUp 0 4 (limitsOn n)
+
+-- frames of 001 on channel 4: Power_Modules_Status (Allowed) by the two bytes of voltage and current and the insulation, Power_Modules_Limits by those of
+-- Maximum_Current, New_Charge_Session by its first three bytes, Charging_Loop at 0 V and 0 A
+abbrev olderStatus : ℕ → ℕ → ℕ → ℕ → ℕ → ℕ → Request
+olderStatus t low high cl ch raw = frame 4 t 0x60010 true (low ∷ high ∷ cl ∷ ch ∷ 65 ∷ 65 ∷ 1 ∷ raw ∷ [])
+
+abbrev olderLimits : ℕ → ℕ → ℕ → Request
+olderLimits t low high = frame 4 t 0x60011 true (0 ∷ 0 ∷ low ∷ high ∷ 0 ∷ 0 ∷ 0 ∷ 0 ∷ [])
+
+abbrev olderSession : ℕ → ℕ → ℕ → ℕ → Request
+olderSession t protocol plug next = frame 4 t 0x68001 true (protocol ∷ plug ∷ next ∷ 0 ∷ 0 ∷ 0 ∷ 0 ∷ 0 ∷ [])
+
+abbrev charging : ℕ → Request
+charging t = frame 4 t 0x68005 true (0 ∷ 0 ∷ 0 ∷ 0 ∷ 0 ∷ [])
 
 abbrev e1to7 : List messages.Case → List Case → List Case
 e1to7 [] rest = rest
@@ -258,6 +297,50 @@ e8to13 =
     ∷ counts (set-up ∷ control 0 0x88 0x13 0x48 ∷ set-up ∷ []) 0 0 (0 ∷ 0 ∷ 0 ∷ 0 ∷ 0 ∷ 0 ∷ 0 ∷ 0 ∷ 0 ∷ 0 ∷ 0 ∷ [])
     -- "of frames and ticks refused since it was made": 1, 2 and 3 count, a refused set-up and release do not
     ∷ turns-away (tick 4 0 ∷ set-up ∷ setUp 1 4 limits ∷ release 1 ∷ tick 4 100 ∷ tick 4 99 ∷ frame 4 100 0x63003 true (0 ∷ []) ∷ release 0 ∷ tick 4 101 ∷ []) 4
+    -- 02, Req 11: an identifier that only the other interface has gets 29, before 4, 5, 6 and 15 and after 1 and 2; the exact identifier and its form count
+    ∷ answers (reading 0 ∷ tick 4 10 ∷ olderStatus 10 0 0 0 0 255 ∷ frame 4 10 0x60010 true (0 ∷ []) ∷ frame 4 10 0x60012 true (0xFF ∷ 0xFF ∷ 0xFF ∷ []) ∷ frame 4 9 0x60010 true [] ∷ frame 4 10 0x60010 false [] ∷ frame 5 10 0x60010 true [] ∷ [])
+    (done ∷ found 0 ∷ fed (Refused OtherInterface) ∷ fed (Refused OtherInterface) ∷ fed (Refused OtherInterface) ∷ fed (Refused Earlier) ∷ fed (Refused UnknownIdentifier) ∷ fed (Refused ChannelFree) ∷ [])
+    ∷ answers (reading 1 ∷ tick 4 10 ∷ status 10 0 0 255 ∷ frame 4 10 0x63000 true [] ∷ frame 4 10 0x63003 true [] ∷ frame 4 10 0x60010 true (0 ∷ []) ∷ frame 4 10 0x60012 true (4 ∷ 0 ∷ 0 ∷ []) ∷ frame 4 10 0x68006 true (2 ∷ []) ∷ [])
+    (done ∷ found 0 ∷ fed (Refused OtherInterface) ∷ fed (Refused OtherInterface) ∷ fed (Refused UnknownIdentifier) ∷ fed (Refused TooShort) ∷ fed (Refused UncoveredBit) ∷ fed (Refused (NoLabel 0)) ∷ [])
+    -- 004's frames are accepted on posts of either
+    ∷ answers (reading 1 ∷ safetyControl 0 ∷ safetyState 10 ∷ probes 20 ∷ []) (done ∷ found 0 ∷ found 0 ∷ found 0 ∷ [])
+    -- a number that is no interface gets 12, and the post stays as it was; the record shows the interface of the latest set-up
+    ∷ answers (reading 1 ∷ reading 2 ∷ charging 0 ∷ reading 0 ∷ charging 1 ∷ []) (done ∷ set (setting.Refused LimitOutside) ∷ found 8 ∷ done ∷ fed (Refused OtherInterface) ∷ [])
+    ∷ reads-by (reading 0 ∷ reading 1 ∷ reading 2 ∷ []) 0 Older
+    ∷ reads-by (reading 1 ∷ reading 0 ∷ []) 0 Newer
+    -- with no session open F4 of each of the three functions, and neither F3 nor F7, whatever their numbers; F11; no finding of an Emergency_Stop
+    ∷ answers (reading 1 ∷ frame 4 0 0x68002 true (0xFF ∷ 0xFF ∷ []) ∷ frame 4 1 0x68003 true (0xFF ∷ 0xFF ∷ 0xFF ∷ 0xFF ∷ []) ∷ charging 2 ∷ frame 4 3 0x68007 true (0 ∷ []) ∷ frame 4 4 0x68006 true (1 ∷ []) ∷ [])
+    (done ∷ found 8 ∷ found 8 ∷ found 8 ∷ found 1024 ∷ found 0 ∷ [])
+    -- New_Charge_Session has 8 bytes; F10 compares protocol and plug only; F5 until a status; F9 under Charging_Loop and precharge, not under an insulation test
+    ∷ answers (reading 1 ∷ frame 4 0 0x68001 true (2 ∷ 1 ∷ []) ∷ olderSession 0 2 1 0 ∷ olderSession 1 2 1 7 ∷ olderSession 2 2 2 0 ∷ charging 3 ∷ olderStatus 4 0x88 0x13 0 0 25 ∷ charging 5 ∷ olderStatus 6 0x88 0x13 0 0 25
+      ∷ olderStatus 7 0x88 0x13 0 0 24 ∷ frame 4 8 0x68002 true (0 ∷ 0 ∷ []) ∷ olderStatus 9 0x88 0x13 0 0 24 ∷ frame 4 10 0x68003 true (0 ∷ 0 ∷ 0 ∷ 0 ∷ []) ∷ olderStatus 11 0x88 0x13 0 0 24 ∷ [])
+    (done ∷ fed (Refused TooShort) ∷ found 0 ∷ found 0 ∷ found 512 ∷ found 16 ∷ found 0 ∷ found 0 ∷ found 0
+      ∷ found 256 ∷ found 0 ∷ found 0 ∷ found 0 ∷ found 256 ∷ [])
+    -- Power_Modules_Limits: 40.0 A is a charge limit, -0.1 A and 0 A are none, and 100.1 A is not above the default; the discharge limit is the default
+    ∷ answers (reading 1 ∷ olderSession 0 2 1 0 ∷ olderLimits 1 0x90 1 ∷ olderStatus 2 0 0 0x90 1 255 ∷ olderStatus 3 0 0 0x91 1 255 ∷ olderLimits 4 0xFF 0xFF ∷ olderStatus 5 0 0 0xE8 3 255 ∷ olderStatus 6 0 0 0xE9 3 255
+      ∷ olderLimits 7 0 0 ∷ olderStatus 8 0 0 0xE8 3 255 ∷ olderLimits 9 0xE9 3 ∷ olderStatus 10 0 0 0xE9 3 255 ∷ olderLimits 11 1 0 ∷ olderStatus 12 0 0 0x0C 0xFE 255 ∷ olderStatus 13 0 0 0x0B 0xFE 255 ∷ [])
+    (done ∷ found 0 ∷ found 0 ∷ found 0 ∷ found 128 ∷ found 0 ∷ found 0 ∷ found 128
+      ∷ found 0 ∷ found 0 ∷ found 0 ∷ found 128 ∷ found 0 ∷ found 0 ∷ found 128 ∷ [])
+    -- F1 at 500 and 501 ms, F2 at 200 and 201 ms after 001's messages; a session closes at 001's Charge_Session_Finished
+    ∷ answers (reading 1 ∷ olderSession 0 2 1 0 ∷ tick 4 500 ∷ olderStatus 501 0 0 0 0 255 ∷ tick 4 1001 ∷ tick 4 1002 ∷ frame 4 1002 0x68007 true (0 ∷ []) ∷ tick 4 1003 ∷ [])
+    (done ∷ found 0 ∷ found 0 ∷ found 1 ∷ found 0 ∷ found 1 ∷ found 1 ∷ found 0 ∷ [])
+    ∷ answers (reading 1 ∷ frame 4 1000 0x68009 true (7 ∷ []) ∷ tick 4 1200 ∷ tick 4 1201 ∷ []) (done ∷ found 0 ∷ found 0 ∷ found 2 ∷ [])
+    -- the record shows 001's messages, the latest of the three functions among them, at the places that 000's have on another post
+    ∷ keeps (reading 1 ∷ charging 10 ∷ tick 4 12 ∷ []) 0 8 (dated.OlderAt 10 2 (older.Charging (record { voltage = 0; current = pos 0; charge = 0 })))
+    ∷ keeps (reading 1 ∷ charging 10 ∷ reading 0 ∷ tick 4 12 ∷ []) 0 8 dated.Nothing
+    ∷ in-session (reading 1 ∷ olderSession 0 2 1 0 ∷ charging 1 ∷ frame 4 2 0x68003 true (1 ∷ 0 ∷ 2 ∷ 0 ∷ []) ∷ olderStatus 3 0 0 0 0 255 ∷ []) 0
+    (part.Opened
+    (record {
+      since = 0;
+      age = 3;
+      protocol = CcsIso15118v2013;
+      plug = CcsDcExtended;
+      status = dated.OlderAt 3 0 (older.Status (record { voltage = 0; current = pos 0; modules = pos 25; enclosure = pos 25; enable = Allowed; insulation = 510 }));
+      control = dated.OlderAt 2 1 (older.Precharge (record { voltage = 1; current = 2 }));
+    }))
+    -- an old and a new post side by side: each by its own pages
+    ∷ answers (reading 1 ∷ setUp 1 9 limits ∷ olderSession 0 2 1 0 ∷ frame 9 0 0x6b001 true (2 ∷ 1 ∷ []) ∷ frame 9 1 0x68001 true (2 ∷ 1 ∷ 0 ∷ 0 ∷ 0 ∷ 0 ∷ 0 ∷ 0 ∷ []) ∷ session 1 ∷ charging 2 ∷ frame 9 2 0x6b003 true (0 ∷ 0 ∷ 0 ∷ 0 ∷ 0 ∷ 0 ∷ 0x48 ∷ []) ∷ [])
+    (done ∷ done ∷ found 0 ∷ found 0 ∷ fed (Refused OtherInterface) ∷ fed (Refused OtherInterface) ∷ found 16 ∷ found 16 ∷ [])
     ∷ []
 
 abbrev pub table : List Case
@@ -269,5 +352,5 @@ joined [] rest a b = b
 joined (c ∷ cs) rest a b = (a .0, joined cs rest (a .1) b)
 
 pub readings : All table
-unfolding standing findFrom holder otherHolds feed01 setUp01 release01 lookUp01 feedSteps setUpSteps releaseSteps limitsFit sinceFinished opening inSession earlierIn lowersBadly outside leaking badInsulation differs sessionStatus sessionControl limitOf f1 f2 f3 f4 f5 f6 f7 f8 f9 f10 f11 findings01 recordAsOf messageOf builtOf statusIn parametersIn sessionIn controlIn rows ofKind firstAt covered unlabelled offender strayBelow judgedNumber judgeOf wholesOf pad rawsOf getBits leNumber beNumber toSigned accepted talliesOf
-readings = joined messages.table e8to13 messages.readings (refl, (refl, (refl, (refl, (refl, (refl, (refl, (refl, (refl, (refl, (refl, ((refl, refl), (refl, (refl, (refl, (refl, ((refl, refl), ((refl, refl), (refl, (refl, (refl, (refl, (refl, (refl, (refl, (refl, (refl, (refl, (refl, (refl, (refl, (refl, (refl, (refl, (refl, (refl, ((refl, refl), ((refl, refl), ((refl, refl), ((refl, refl), (refl, tt)))))))))))))))))))))))))))))))))))))))))
+unfolding standing findFrom holder otherHolds feed01 setUp01 release01 lookUp01 feedSteps setUpSteps releaseSteps limitsFit sinceFinished opening inSession earlierIn lowersBadly outside leaking badInsulation differs sessionStatus sessionControl limitOf f1 f2 f3 f4 f5 f6 f7 f8 f9 f10 f11 findings01 recordAsOf messageOf builtOf statusIn parametersIn sessionIn controlIn rows ofKind firstAt covered unlabelled offender strayBelow judgedNumber judgeOn isForeign judgeFor roleOf statusBy openingBy limitsIn limitsBy commandBy placeBy datedAt olderBuilt.messageOf olderBuilt.builtOf wholesOf pad rawsOf getBits leNumber beNumber toSigned accepted talliesOf
+readings = joined messages.table e8to13 messages.readings (refl, (refl, (refl, (refl, (refl, (refl, (refl, (refl, (refl, (refl, (refl, ((refl, refl), (refl, (refl, (refl, (refl, ((refl, refl), ((refl, refl), (refl, (refl, (refl, (refl, (refl, (refl, (refl, (refl, (refl, (refl, (refl, (refl, (refl, (refl, (refl, (refl, (refl, (refl, ((refl, refl), ((refl, refl), ((refl, refl), ((refl, refl), (refl, (refl, (refl, (refl, (refl, (refl, (refl, (refl, (refl, (refl, (refl, (refl, (refl, (refl, (refl, (refl, tt))))))))))))))))))))))))))))))))))))))))))))))))))))))))

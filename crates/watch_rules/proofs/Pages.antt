@@ -1,0 +1,134 @@
+-- 02, Req 11: a post hears the messages of its own interface alone, whatever was asked of the table (`own-pages`), so that the latest frame that it keeps in a
+-- place is the latest of a kind (`latest-of-kind`); an identifier that only the other interface has is refused with 29 (`own-foreign`).
+use Prim.Native.Nat.{ℕ, _+_, _-_, _≤_, _<_}
+use native.Mathlib.Omega.{arith}
+use mathlib.Core.Path.{_≡_, refl, ap, sym, _∙_}
+use mathlib.Core.List.{List, [], _∷_}
+use mathlib.Core.Bool.{Bool, true, false, cond}
+use mathlib.Core.Option.{none}
+use lib.Dec.{eqb, ltb}
+use borrow.Author.Tests.{eqb-true, eqb-false, ne-eqb, ltb-true, ltb-false, leb-true, lt-ltb, le-ltb}
+use Rattle.refusals.specs.declared.Refusal.the-variants.{Earlier, OtherInterface}
+use Rattle.page_rows.specs.declared.Interface.{Interface}
+use Rattle.page_rows.specs.declared.Interface.the-variants.{Newer, Older}
+use Rattle.page_rows.specs.Messages.{messageCount}
+use Rattle.page_rows.specs.Interfaces.{safetyKind, isOn}
+use Rattle.page_rows.proofs.Rules.{not-both}
+use Rattle.page_read.specs.declared.Judged.{Judged}
+use Rattle.page_read.specs.declared.Judged.the-variants as judged
+use Rattle.page_read.specs.Judge.{judgeOn}
+use Rattle.page_read.proofs.Interfaces.{on-own, on-table}
+use Rattle.page_interfaces.specs.Foreign.{isForeign, judgeFor}
+use Rattle.rule_limits.specs.declared.PlainLimits.{PlainLimits}
+use Rattle.rule_limits.specs.Sensor.{interfaceOf}
+use Rattle.rule_pages.specs.Places.{placeBy}
+use Rattle.rules.specs.History.{frame, tick, History, newest, ofKind}
+use Rattle.rules.specs.Times.{earlierIn}
+use Rattle.rules.specs.Record.{atPlace}
+use Rattle.watch_rules.specs.declared.Answer.the-variants.{Refused}
+use Rattle.watch_rules.specs.Table.{postCount, arrivalOf, framing, ticking}
+use Rattle.watch_rules.specs.Steps.{Steps, held, standing, eventIn, setUpSteps, releaseSteps, setUp01, release01, Apart}
+use Rattle.watch_rules.specs.Run as run
+use Rattle.watch_rules.specs.Pages.{OnPages, OnOwn, kindAt, onlyOf}
+use Rattle.watch_rules.proofs.Each.{Each, each-none, each-released, each-set, each-fed}
+use Rattle.watch_rules.proofs.Demand.{run-kept, own-unread}
+
+-- ---- what a post reads is of its own pages
+
+foreign-29 : (iface : Interface) (m : ℕ) (x : Bool) (bs : List ℕ) → isForeign iface m x ≡ true → judgeFor iface m x bs ≡ judged.Refused OtherInterface
+unfolding judgeFor
+foreign-29 iface m x bs e = rw e
+
+own-read : (iface : Interface) (m : ℕ) (x : Bool) (bs : List ℕ) (k n : ℕ) → judgeFor iface m x bs ≡ judged.Frame k n → (isOn iface k ≡ true) × (k < messageCount)
+unfolding judgeFor
+own-read iface m x bs k n e = go (isForeign iface m x) e
+  where
+    go : (b : Bool) → cond b (judged.Refused OtherInterface) (judgeOn iface m x bs) ≡ judged.Frame k n → (isOn iface k ≡ true) × (k < messageCount)
+    go true q = absurd (let z : _≡_ {A = ℕ} 0 1 = cc in omega arith)
+    go false q = (on-own iface m x bs k n q, on-table iface m x bs k n q)
+
+frame-grows : (m : ℕ) (x : Bool) (bs : List ℕ) (c : ℕ) (lim : PlainLimits) (h : History) (t : ℕ) → earlierIn h t ≡ false → OnOwn (held c lim h)
+    → OnOwn (held c lim (eventIn h t (framing m x bs lim) ∷ h))
+frame-grows m x bs c lim h t early so = go (judgeFor (interfaceOf (lim .interface)) m x bs) refl
+  where
+    go : (j : Judged) → judgeFor (interfaceOf (lim .interface)) m x bs ≡ j → OnOwn (held c lim (eventIn h t (arrivalOf j) ∷ h))
+    go (judged.Frame k n) e = (own-read (interfaceOf (lim .interface)) m x bs k n e, so)
+    go (judged.Refused w) e = so
+
+steps-own : (s : Steps) → Each OnOwn s → Apart s → (a : run.Request) → Each OnOwn (run.steps01 s a)
+unfolding setUpSteps releaseSteps
+steps-own s each apart (run.setUp i c lim) = each-set OnOwn tt (λ d l. tt) s each i c lim (setUp01 s i c lim)
+steps-own s each apart (run.release i) = each-released OnOwn tt (λ d l. tt) s each i (release01 s i)
+steps-own s each apart (run.frame c time m x bs) = each-fed OnOwn s each apart (framing m x bs) (frame-grows m x bs) c time
+steps-own s each apart (run.tick c time) = each-fed OnOwn s each apart ticking (λ d lim h t early so. so) c time
+
+-- THEOREM: whatever was asked of the table, every frame of a post's history is of a message that its own interface has
+pub own-pages : (rs : List run.Request) → Each OnOwn (run.accepted rs)
+unfolding run.accepted
+own-pages [] = each-none OnOwn tt (λ d l. tt)
+own-pages (a ∷ rs) = steps-own (run.accepted rs) (own-pages rs) (run-kept rs .apart) a
+
+-- ---- a place is one kind's on an interface
+
+kind-older : (k : ℕ) → 9 ≤ k → kindAt Older (placeBy k) ≡ k
+unfolding placeBy kindAt
+kind-older k low = go (ltb k 12) (ltb k 21) refl refl
+  where
+    go : (a b : Bool) → ltb k 12 ≡ a → ltb k 21 ≡ b → kindAt Older (placeBy k) ≡ k
+    go true b e f = let l : k < 12 = ltb-true k 12 e in rw (e, le-ltb k 9 low, lt-ltb k 12 l)
+    go false true e f =
+        let l : 12 ≤ k = ltb-false k 12 e in
+        let u : k < 21 = ltb-true k 21 f in
+        let v : k - 12 < 9 = omega arith in
+        rw (e, f, lt-ltb (k - 12) 9 v) (omega arith)
+    go false false e f =
+        let l : 21 ≤ k = ltb-false k 21 f in
+        let v : 12 ≤ k - 9 = omega arith in
+        let w : 9 ≤ k - 9 = omega arith in
+        rw (e, f, le-ltb (k - 9) 9 w, le-ltb (k - 9) 12 v) (omega arith)
+
+-- THEOREM: on an interface that has the kind, its place keeps it
+pub kind-at : (iface : Interface) (k : ℕ) → isOn iface k ≡ true → kindAt iface (placeBy k) ≡ k
+unfolding placeBy kindAt
+kind-at Newer k e = rw e
+kind-at Older k e = kind-older k (leb-true safetyKind k e)
+
+place-one : (iface : Interface) (j k : ℕ) → isOn iface j ≡ true → isOn iface k ≡ true → placeBy j ≡ placeBy k → j ≡ k
+place-one iface j k p q e = sym (kind-at iface j p) ∙ ap (kindAt iface) e ∙ kind-at iface k q
+
+-- ---- the latest frame of a kind
+
+module _ (iface : Interface) where
+  -- a kind that the interface has not was never heard
+  pub never-heard : (h : History) → OnPages iface h → (k : ℕ) → isOn iface k ≡ false → newest (ofKind k) h ≡ none
+  never-heard [] on k lacks = refl
+  never-heard (tick t ∷ h) on k lacks = never-heard h on k lacks
+  never-heard (frame t j raw ∷ h) on k lacks =
+      let other : eqb j k ≡ false = ne-eqb j k (λ e. not-both (isOn iface j) (on .0 .0) (ap (isOn iface) e ∙ lacks)) in
+      rw other (never-heard h (on .1) k lacks)
+
+  -- THEOREM: of the frames that have a kind's place, the latest that is of the kind is the latest of the kind
+  pub latest-of-kind : (h : History) → OnPages iface h → (k : ℕ) → onlyOf k (newest (atPlace (placeBy k)) h) ≡ newest (ofKind k) h
+  latest-of-kind [] on k = refl
+  latest-of-kind (tick t ∷ h) on k = latest-of-kind h on k
+  latest-of-kind (frame t j raw ∷ h) on k = go (eqb j k) (eqb (placeBy j) (placeBy k)) refl refl (latest-of-kind h (on .1) k)
+    where
+      lacking : (b : Bool) → isOn iface k ≡ b → eqb j k ≡ false → placeBy j ≡ placeBy k → isOn iface k ≡ false
+      lacking true q ne e = absurd (eqb-false j k ne (place-one iface j k (on .0 .0) q e))
+      lacking false q ne e = q
+
+      go : (a b : Bool) → eqb j k ≡ a → eqb (placeBy j) (placeBy k) ≡ b → onlyOf k (newest (atPlace (placeBy k)) h) ≡ newest (ofKind k) h
+          → onlyOf k (newest (atPlace (placeBy k)) (frame t j raw ∷ h)) ≡ newest (ofKind k) (frame t j raw ∷ h)
+      go true true e f rest = rw (f, e)
+      go true false e f rest = absurd (eqb-false (placeBy j) (placeBy k) f (ap placeBy (eqb-true j k e)))
+      go false true e f rest =
+          rw (f, e) (sym (never-heard h (on .1) k (lacking (isOn iface k) refl e (eqb-true (placeBy j) (placeBy k) f))))
+      go false false e f rest = rw (f, e) rest
+
+-- ---- 29
+
+-- THEOREM: in time, a frame whose identifier only the other interface has gets 29 on the post, of whatever length and content
+pub own-foreign : (rs : List run.Request) (i c : ℕ) (lim : PlainLimits) (h : History) → i < postCount → standing i (run.accepted rs) ≡ held c lim h
+    → (t m : ℕ) (x : Bool) (bs : List ℕ) → isForeign (interfaceOf (lim .interface)) m x ≡ true
+    → run.reply (run.run rs) (run.frame c t m x bs) ≡ run.fed (cond (earlierIn h t) (Refused Earlier) (Refused OtherInterface))
+own-foreign rs i c lim h low own t m x bs foreign = own-unread rs i c lim h low own t m x bs OtherInterface (foreign-29 (interfaceOf (lim .interface)) m x bs foreign)
