@@ -1,25 +1,28 @@
-// One post hears what comes to it: 1 where it does not hold the channel, 2, then the reader's 3 to 6, then 25, then the findings.
+// One post hears what comes to it: 1 where it does not hold the channel, 2, then the reader's 3 to 6 with 29 in 3's place, then 25, then the findings.
 // For every way to step a table of posts.
 ghost use mathlib.Core.Path.{_≡_};
 ghost use Rattle.rules.specs.After.{isFullIn, afterTick, afterFrame};
 ghost use Rattle.watch_rules.specs.Steps.{HearRight};
 ghost use Rattle.watch_rules.specs.Table.{arrivalFor, turnedAway, heardBy, unlessFull, heardOf, oneMore, refusedAfter};
+use page_interfaces::judge_for;
 use page_read::Judged;
 use refusals::Refusal;
 use rule_limits::PlainLimits;
+use rule_limits::kept::interface_of;
 use rules::Head;
-use rules::KINDS;
+use rules::PLACES;
 use rules::Slot;
 use watch_rules::Answer;
 use watch_rules::Arrival;
 use watch_rules::Heard;
 
-// What a frame is to a post, by its limits and by what its reader says.
+// What a frame is to a post, by its limits and by what the pages of its interface say.
 pub fn arrival_for(limits: PlainLimits, id: u32, extended: bool, payload: &[u8]) -> Arrival
     ensures { λ r. ⌜ r ≡ arrivalFor limits id extended (now (payload .entry)) ⌝ }
 {
-    match page_read::judge(id, extended, payload) {
-        Judged::Frame(kind, raw) => Arrival::Frame(kind, raw),
+    let iface = interface_of(limits.interface);
+    match judge_for(iface, id, extended, payload) {
+        Judged::Frame(kind, raw) => Arrival::Frame(kind as u32, raw),
         Judged::Refused(w) => Arrival::Unread(w),
     }
 }
@@ -31,10 +34,11 @@ fn turned_away(h: Head, w: Refusal) -> Heard
         head: h,
         slot: Slot {
             known: 0,
+            kind: 0,
             time: 0,
             raw: 0,
         },
-        at: KINDS,
+        at: PLACES,
         answer: Answer::Refused(w),
     }
 }
@@ -63,7 +67,7 @@ fn ticked(h: Head, time: u32) -> Heard
     }
 }
 
-fn framed(h: Head, time: u32, kind: usize, raw: u64) -> Heard
+fn framed(h: Head, time: u32, kind: u32, raw: u64) -> Heard
     ensures { λ r. ⌜ r ≡ unlessFull h (heardBy (afterFrame h time kind raw)) ⌝ }
 {
     if is_full(h) {

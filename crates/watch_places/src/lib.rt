@@ -4,7 +4,7 @@ ghost use Prim.Native.Nat.{_≤_, _<_};
 ghost use Rattle.rules.specs.After.{stored};
 ghost use Rattle.watch_rules.specs.Table.{postCount, isPost, holds, placeOf, somePlace, putIn};
 use rules::Head;
-use rules::KINDS;
+use rules::PLACES;
 use rules::Post;
 use rules::Slot;
 use watch_rules::POSTS;
@@ -60,13 +60,13 @@ pub fn put(t: Table, at: usize, p: Post) -> Table
     u
 }
 
-// The post with a head, and with a frame of a kind. A number that is no kind leaves the latest frames as they were.
+// The post with a head, and with a frame in a place. A number that is no place leaves the latest frames as they were.
 pub fn store(p: Post, h: Head, at: usize, n: Slot) -> Post
     ensures { λ r. ⌜ r ≡ stored p h at n ⌝ }
 {
     let mut q = p;
     q.head = h;
-    if at < KINDS {
+    if at < PLACES {
         q.latest[at] = n;
     }
     q

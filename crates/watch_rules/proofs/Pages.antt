@@ -39,7 +39,7 @@ foreign-29 : (iface : Interface) (m : ℕ) (x : Bool) (bs : List ℕ) → isFore
 unfolding judgeFor
 foreign-29 iface m x bs e = rw e
 
-own-read : (iface : Interface) (m : ℕ) (x : Bool) (bs : List ℕ) (k n : ℕ) → judgeFor iface m x bs ≡ judged.Frame k n → (isOn iface k ≡ true) × (k < messageCount)
+pub own-read : (iface : Interface) (m : ℕ) (x : Bool) (bs : List ℕ) (k n : ℕ) → judgeFor iface m x bs ≡ judged.Frame k n → (isOn iface k ≡ true) × (k < messageCount)
 unfolding judgeFor
 own-read iface m x bs k n e = go (isForeign iface m x) e
   where
