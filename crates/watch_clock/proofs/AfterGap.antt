@@ -9,13 +9,13 @@ use lib.Dec.{ltb, leb}
 use borrow.Author.Tests.{lt-ltb, lt-leb}
 use Rattle.rule_limits.specs.declared.PlainLimits.{PlainLimits}
 use Rattle.rule_asks.specs.Judgements.{bit}
-use Rattle.message_parts.specs.Parts.{controllerKind}
-use Rattle.rules.specs.History.{Event, tick, History, timeOf, newest, controllerOf, opening}
+use Rattle.rule_pages.specs.declared.Role.the-variants.{Controller}
+use Rattle.rules.specs.History.{Event, tick, History, Said, timeOf, newest, controllerOf, opening}
 use Rattle.rules.specs.Times.{receivedOf, wrapped, earlierIn, stampOf, latestTime, elapsed}
 use Rattle.rules.specs.Rules.{ask, isOpen, sessionStatus, laterTime, f1, f2, findings01}
 use Rattle.rules.proofs.Unasked.{only-f1-f2}
 use Rattle.watch_clock.specs.Later.{Rising, NoneAfter, FoundBy}
-use Rattle.watch_clock.proofs.Later.{kind-timely}
+use Rattle.watch_clock.proofs.Later.{role-timely}
 use Rattle.watch_clock.proofs.Wrapped.{wrapped-to, wrapped-sum}
 use Rattle.watch_clock.proofs.Rising.{none-after, newest-by, opening-by, status-by}
 
@@ -40,13 +40,13 @@ module _ (lim : PlainLimits) (h : History) (gap : ℕ) (up : Rising h) where
 
   f2-after : 200 < gap → (e : Event) → timeOf e ≡ latestTime h + gap → f2 lim h e ≡ isOpen (newest controllerOf h)
   unfolding f2
-  f2-after long e at = rw at (go (newest controllerOf h) (newest-by (latestTime h) controllerOf (kind-timely controllerKind) h none-later))
+  f2-after long e at = rw at (go (newest controllerOf h) (newest-by (latestTime h) controllerOf (role-timely Controller) h none-later))
     where
-      go : (o : Option (ℕ × ℕ)) → FoundBy (latestTime h) o → ask o (λ c. ltb 200 (elapsed (latestTime h + gap) (c .0))) ≡ isOpen o
+      go : (o : Option Said) → FoundBy (latestTime h) o → ask o (λ c. ltb 200 (elapsed (latestTime h + gap) (c .time))) ≡ isOpen o
       go none by = refl
-      go (some m) by = lt-ltb 200 (elapsed (latestTime h + gap) (m .0)) (omega (arith, by, long))
+      go (some m) by = lt-ltb 200 (elapsed (latestTime h + gap) (m .time)) (omega (arith, by, long))
 
-  later-by : (now o : ℕ) (s : Option (ℕ × ℕ)) → o ≤ now → FoundBy now s → laterTime o s ≤ now
+  later-by : (now o : ℕ) (s : Option Said) → o ≤ now → FoundBy now s → laterTime o s ≤ now
   later-by now o none lo ls = lo
   later-by now o (some s) lo ls = omega (arith, lo, ls)
 
@@ -54,12 +54,12 @@ module _ (lim : PlainLimits) (h : History) (gap : ℕ) (up : Rising h) where
   unfolding f1
   f1-after long e at = rw at (go (opening h) (opening-by (latestTime h) h none-later))
     where
-      go : (o : Option (ℕ × ℕ)) → FoundBy (latestTime h) o
-          → ask o (λ p. ltb (lim .silence) (elapsed (latestTime h + gap) (laterTime (p .0) (sessionStatus h)))) ≡ isOpen o
+      go : (o : Option Said) → FoundBy (latestTime h) o
+          → ask o (λ p. ltb (lim .silence) (elapsed (latestTime h + gap) (laterTime (p .time) (sessionStatus h)))) ≡ isOpen o
       go none by = refl
       go (some o) by =
-          lt-ltb (lim .silence) (elapsed (latestTime h + gap) (laterTime (o .0) (sessionStatus h)))
-          (omega (arith, long, later-by (latestTime h) (o .0) (sessionStatus h) by (status-by (latestTime h) h none-later)))
+          lt-ltb (lim .silence) (elapsed (latestTime h + gap) (laterTime (o .time) (sessionStatus h)))
+          (omega (arith, long, later-by (latestTime h) (o .time) (sessionStatus h) by (status-by (latestTime h) h none-later)))
 
   pub findings-after : lim .silence < gap → 200 < gap
       → findings01 lim h (tick (latestTime h + gap)) ≡ bit (isOpen (opening h)) 1 + bit (isOpen (newest controllerOf h)) 2

@@ -26,7 +26,15 @@ dated-only : (a b : Dated) → stillDated a ≡ stillDated b → datedTime a ≡
 dated-only dated.Nothing dated.Nothing p q = refl
 dated-only dated.Nothing (dated.At t age m) p q = cc
 dated-only (dated.At t age m) dated.Nothing p q = cc
+dated-only dated.Nothing (dated.OlderAt t age m) p q = cc
+dated-only (dated.OlderAt t age m) dated.Nothing p q = cc
+dated-only (dated.At t age m) (dated.OlderAt s old n) p q = cc
+dated-only (dated.OlderAt t age m) (dated.At s old n) p q = cc
 dated-only (dated.At t age m) (dated.At s old n) p q =
+    let a : age ≡ old = cc in
+    let w : m ≡ n = cc in
+    rw (q, a, w)
+dated-only (dated.OlderAt t age m) (dated.OlderAt s old n) p q =
     let a : age ≡ old = cc in
     let w : m ≡ n = cc in
     rw (q, a, w)

@@ -7,12 +7,16 @@ use mathlib.Core.List.{List, [], _∷_}
 use lib.ListN.{getD}
 use Rattle.message_parts.specs.Parts.{controllerKind, sessionKind, sessionIn}
 use Rattle.message_build.specs.Built.{messageOf}
+use Rattle.rule_pages.specs.Roles.{roleOf}
+use Rattle.rule_pages.specs.Said.{openingBy}
+use Rattle.rule_pages.specs.Places.{placeBy}
 use Rattle.rule_asks.specs.Judgements.{bit}
 use Rattle.rules.specs.declared.Dated.the-variants as dated
 use Rattle.rules.specs.declared.Latest.{Latest}
 use Rattle.rules.specs.declared.SessionPart.the-variants as part
-use Rattle.rules.specs.History.{Event, frame, History, newest, controllerOf, sinceFinished, opening, inSession}
+use Rattle.rules.specs.History.{Event, frame, History, saidAt, newest, controllerOf, sinceFinished, opening, inSession}
 use Rattle.rules.specs.Times.{elapsed, Unrolled}
+use Rattle.rules.specs.Record.{datedAt}
 use Rattle.rules.specs.Rules.{isOpen, sessionStatus, sessionControl}
 use Rattle.watch_rules.specs.declared.Answer.the-variants.{Findings}
 use Rattle.watch_rules.specs.declared.LookedUp.{LookedUp}
@@ -39,7 +43,7 @@ unrolled : Unrolled (status ∷ opened)
 unrolled = subst InTime own-charging (run-kept charging .times 0 first)
 
 both-found : bit (isOpen (opening before)) 1 + bit (isOpen (newest controllerOf before)) 2 ≡ 3
-unfolding opening sinceFinished
+unfolding opening sinceFinished roleOf
 both-found = refl
 
 -- after n ticks, the next one
@@ -61,10 +65,11 @@ controllerShown n = getD (lookUpOf (run (hours n)) 0 .shown .latest) controllerK
 
 -- the look-up shows the controller's status as it was received, and its age in hours until that stops growing
 pub age-hourly : (n : ℕ) → n ≤ 2400 → controllerShown n .message ≡ dated.At 4294967290 (min (n * 3600000) 4294967295) (messageOf controllerKind 7)
+unfolding datedAt placeBy
 age-hourly n low =
     ap (λ (l : LookedUp). getD (l .shown .latest) controllerKind noLatest .message)
     (record-ticked hour (omega arith) status opened charging 0 4 limits first own-charging (omega arith) (omega arith) n (omega (arith, low)))
-    ∙ age-ticked hour (omega arith) status opened unrolled 4 limits controllerKind (omega arith) (4294967290, 7) refl n
+    ∙ age-ticked hour (omega arith) status opened unrolled 4 limits controllerKind (omega arith) (saidAt 4294967290 controllerKind 7) refl n
     ∙ ap (λ (x : ℕ). dated.At 4294967290 (min x 4294967295) (messageOf controllerKind 7)) (off (n * 3600000))
   where
     off : (x : ℕ) → 4294967290 + x - 4294967290 ≡ x
@@ -80,7 +85,7 @@ age-stops = age-hourly 2400 (omega arith)
 -- and so does the session's, which opened 290 ms before it
 pub session-stops : lookUpOf (run (hours 2400)) 0 .shown .session
     ≡ part.Opened (record { since = 4294967000; age = 4294967295; protocol = sessionIn 258 .protocol; plug = sessionIn 258 .plug; status = dated.Nothing; control = dated.Nothing })
-unfolding opening sinceFinished sessionStatus sessionControl inSession
+unfolding opening sinceFinished sessionStatus sessionControl inSession roleOf openingBy
 session-stops =
     ap (λ (l : LookedUp). l .shown .session)
     (record-ticked hour (omega arith) status opened charging 0 4 limits first own-charging (omega arith) (omega arith) 2400 (omega arith))

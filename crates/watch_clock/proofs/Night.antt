@@ -9,7 +9,10 @@ use mathlib.Core.Path.{_≡_, refl, subst, _∙_}
 use mathlib.Core.Bool.{true, false, cond}
 use mathlib.Core.List.{List, [], _∷_}
 use Rattle.page_rows.specs.Table.{rows, ofKind, firstAt, covered}
-use Rattle.page_read.specs.Judge.{unlabelled, strayBelow, judgedNumber, judgeOf}
+use Rattle.page_read.specs.Judge.{unlabelled, strayBelow, judgedNumber, judgeOn}
+use Rattle.page_interfaces.specs.Foreign.{isForeign, judgeFor}
+use Rattle.rule_pages.specs.Roles.{roleOf}
+use Rattle.rule_pages.specs.Said.{statusBy, openingBy, limitsBy, commandBy}
 use Rattle.page_write.specs.Raws.{wholesOf, pad, rawsOf}
 use Rattle.signal.specs.Signal.{getBits}
 use Rattle.payload.specs.Payload.{leNumber}
@@ -39,7 +42,7 @@ use Rattle.watch_clock.proofs.Moved.{earlier-moved, unrolled-moved, fin
 use Rattle.watch_clock.proofs.MovedRun.{reply-moved, look-up-moved, refused-moved, replies-moved}
 
 abbrev pub limits : PlainLimits
-limits = record { voltage = 5000; charge = 1000; discharge = 500; silence = 500; sensor = 0 }
+limits = record { voltage = 5000; charge = 1000; discharge = 500; silence = 500; sensor = 0; interface = 0 }
 
 -- newest first
 abbrev pub charging : List Request
@@ -71,7 +74,7 @@ from0 = history.tick 491 ∷ beforeFrom0
 computed : (standing 0 (accepted night) ≡ held 4 limits heard) × (standing 0 (accepted charging) ≡ held 4 limits before) × (findings01 limits beforeFrom0 (history.tick 491) ≡ 2)
     × (earlierIn before 195 ≡ false) × (earlierIn before 4294967289 ≡ true)
     × (earlierIn heard 206 ≡ false) × (findings01 limits heard (history.tick 4294967502) ≡ 3)
-unfolding standing findFrom holder otherHolds feed01 setUp01 release01 lookUp01 feedSteps setUpSteps releaseSteps limitsFit accepted sinceFinished opening inSession earlierIn lowersBadly outside leaking badInsulation differs sessionStatus sessionControl limitOf f1 f2 f3 f4 f5 f6 f7 f8 f9 f10 f11 findings01 rows ofKind firstAt covered unlabelled strayBelow judgedNumber judgeOf wholesOf pad rawsOf getBits leNumber toSigned statusIn parametersIn sessionIn controlIn
+unfolding standing findFrom holder otherHolds feed01 setUp01 release01 lookUp01 feedSteps setUpSteps releaseSteps limitsFit accepted sinceFinished opening inSession earlierIn lowersBadly outside leaking badInsulation differs sessionStatus sessionControl limitOf f1 f2 f3 f4 f5 f6 f7 f8 f9 f10 f11 findings01 rows ofKind firstAt covered unlabelled strayBelow judgedNumber judgeOn isForeign judgeFor roleOf statusBy openingBy limitsBy commandBy wholesOf pad rawsOf getBits leNumber toSigned statusIn parametersIn sessionIn controlIn
 computed = (refl, refl, refl, refl, refl, refl, refl)
 
 pub first : 0 < postCount

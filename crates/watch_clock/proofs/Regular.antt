@@ -7,16 +7,16 @@ use mathlib.Core.List.{_∷_}
 use mathlib.Core.Bool.{false}
 use mathlib.Core.Option.{Option, some}
 use lib.ListN.{length, getD}
-use Rattle.message_build.specs.Built.{messageOf}
 use Rattle.rule_limits.specs.declared.PlainLimits.{PlainLimits}
 use Rattle.rule_asks.specs.Judgements.{bit}
 use Rattle.rules.specs.declared.Latest.{Latest}
 use Rattle.rules.specs.declared.Dated.the-variants as dated
-use Rattle.message_parts.specs.Parts.{statusKind, controllerKind, controlKind}
-use Rattle.rules.specs.History.{Event, tick, History, timeOf, newest, ofKind, controllerOf, opening, inSession}
+use Rattle.rule_pages.specs.declared.Role.{Role}
+use Rattle.rule_pages.specs.declared.Role.the-variants.{Status, Controller, Command}
+use Rattle.rules.specs.History.{Event, tick, History, Said, timeOf, newest, asked, controllerOf, opening, inSession}
 use Rattle.rules.specs.Times.{receivedOf, earlierIn, stampOf, latestTime, ageOf, Unrolled}
 use Rattle.rules.specs.Rules.{isOpen, sessionStatus, sessionControl, findings01}
-use Rattle.rules.specs.Record.{kindCount, datedOf, partOf, recordAsOf, recordOf}
+use Rattle.rules.specs.Record.{placeCount, datedAt, datedOf, atPlace, partOf, recordAsOf, recordOf}
 use Rattle.rules.proofs.Counted.{count-at}
 use Rattle.rules.proofs.Unrolled.{unrolled-next}
 use Rattle.watch_clock.specs.Regular.{tickTime, ticked}
@@ -27,25 +27,29 @@ use Rattle.watch_clock.proofs.PastTicks.{opening-tick, in-session-tick}
 -- ---- what a look back past the ticks finds
 
 module _ (every t : ℕ) (h : History) where
-  newest-ticked : (k n : ℕ) → newest (ofKind k) (ticked every t n h) ≡ newest (ofKind k) h
-  newest-ticked k zero = refl
-  newest-ticked k (suc n) = newest-ticked k n
+  newest-ticked : (r : Role) (n : ℕ) → newest (asked r) (ticked every t n h) ≡ newest (asked r) h
+  newest-ticked r zero = refl
+  newest-ticked r (suc n) = newest-ticked r n
+
+  place-ticked : (j n : ℕ) → newest (atPlace j) (ticked every t n h) ≡ newest (atPlace j) h
+  place-ticked j zero = refl
+  place-ticked j (suc n) = place-ticked j n
 
   opening-ticked : (n : ℕ) → opening (ticked every t n h) ≡ opening h
   opening-ticked zero = refl
   opening-ticked (suc n) = opening-tick (tickTime every t (suc n)) (ticked every t n h) ∙ opening-ticked n
 
-  in-session-ticked : (k n : ℕ) → newest (ofKind k) (inSession (ticked every t n h)) ≡ newest (ofKind k) (inSession h)
-  in-session-ticked k zero = refl
-  in-session-ticked k (suc n) = in-session-tick k (tickTime every t (suc n)) (ticked every t n h) ∙ in-session-ticked k n
+  in-session-ticked : (r : Role) (n : ℕ) → newest (asked r) (inSession (ticked every t n h)) ≡ newest (asked r) (inSession h)
+  in-session-ticked r zero = refl
+  in-session-ticked r (suc n) = in-session-tick r (tickTime every t (suc n)) (ticked every t n h) ∙ in-session-ticked r n
 
   status-ticked : (n : ℕ) → sessionStatus (ticked every t n h) ≡ sessionStatus h
   unfolding sessionStatus
-  status-ticked n = in-session-ticked statusKind n
+  status-ticked n = in-session-ticked Status n
 
   control-ticked : (n : ℕ) → sessionControl (ticked every t n h) ≡ sessionControl h
   unfolding sessionControl
-  control-ticked n = in-session-ticked controlKind n
+  control-ticked n = in-session-ticked Command n
 
   pub length-ticked : (n : ℕ) → length (ticked every t n h) ≡ n + length h
   length-ticked zero = omega arith
@@ -97,17 +101,18 @@ module _ (every : ℕ) (half : every < 2147483648) (e : Event) (h : History) (un
   findings-ticked lim silent late n =
       ap (λ (t : ℕ). findings01 lim (after n) (tick t)) (next-time n)
       ∙ findings-after lim (after n) every (rising (after n) (unrolled-ticked n)) silent late
-      ∙ ap₂ (λ (o c : Option (ℕ × ℕ)). bit (isOpen o) 1 + bit (isOpen c) 2)
-      (opening-ticked every (timeOf e) (e ∷ h) n) (newest-ticked every (timeOf e) (e ∷ h) controllerKind n)
+      ∙ ap₂ (λ (o c : Option Said). bit (isOpen o) 1 + bit (isOpen c) 2)
+      (opening-ticked every (timeOf e) (e ∷ h) n) (newest-ticked every (timeOf e) (e ∷ h) Controller n)
 
   -- the record has each latest frame with its age, which grows with the ticks and stops at the largest
-  pub age-ticked : (c : ℕ) (lim : PlainLimits) (k : ℕ) → k < kindCount → (m : ℕ × ℕ) → newest (ofKind k) (e ∷ h) ≡ some m → (n : ℕ)
-      → getD (recordOf c lim (after n) .latest) k noLatest .message ≡ dated.At (receivedOf (m .0)) (ageOf (tickTime every (timeOf e) n) (m .0)) (messageOf k (m .1))
+  pub age-ticked : (c : ℕ) (lim : PlainLimits) (k : ℕ) → k < placeCount → (m : Said) → newest (atPlace k) (e ∷ h) ≡ some m → (n : ℕ)
+      → getD (recordOf c lim (after n) .latest) k noLatest .message
+      ≡ datedAt (receivedOf (m .time)) (ageOf (tickTime every (timeOf e) n) (m .time)) (m .kind) (m .raw)
   unfolding recordAsOf
   age-ticked c lim k low m found n =
       ap (λ (l : Latest). l .message)
-      (count-at (λ j. record { message = datedOf (latestTime (after n)) j (newest (ofKind j) (after n)) }) noLatest k 0 kindCount k (omega arith) low)
-      ∙ rw (newest-ticked every (timeOf e) (e ∷ h) k n, found, latest-ticked n)
+      (count-at (λ j. record { message = datedOf (latestTime (after n)) (newest (atPlace j) (after n)) }) noLatest k 0 placeCount k (omega arith) low)
+      ∙ rw (place-ticked every (timeOf e) (e ∷ h) k n, found, latest-ticked n)
 
   -- and so has the session's part
   pub session-ticked : (c : ℕ) (lim : PlainLimits) (n : ℕ)

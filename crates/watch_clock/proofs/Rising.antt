@@ -4,12 +4,12 @@ use native.Mathlib.Omega.{arith}
 use mathlib.Core.Path.{_≡_, refl, sym, subst, _∙_}
 use mathlib.Core.List.{[], _∷_}
 use mathlib.Core.Option.{Option, none, some}
-use Rattle.message_parts.specs.Parts.{statusKind, sessionKind, controlKind, finishedKind}
-use Rattle.rules.specs.History.{Event, frame, tick, History, timeOf, first, newest, oldest, unless, onlyIf, sinceNewest, afterOldest, statusOf, commandOf, openingOf, finishedOf, sinceFinished, opening, inSession}
+use Rattle.rule_pages.specs.declared.Role.the-variants.{Status, Opening, Command, Finished}
+use Rattle.rules.specs.History.{Event, frame, tick, History, Said, timeOf, first, newest, oldest, unless, onlyIf, sinceNewest, afterOldest, statusOf, commandOf, openingOf, finishedOf, sinceFinished, opening, inSession}
 use Rattle.rules.specs.Times.{receivedOf, stampOf, latestTime, Unrolled}
 use Rattle.rules.specs.Rules.{sessionStatus, sessionControl}
 use Rattle.watch_clock.specs.Later.{retime, atTime, Timely, Rising, NoneAfter, FoundBy}
-use Rattle.watch_clock.proofs.Later.{kind-timely}
+use Rattle.watch_clock.proofs.Later.{role-timely}
 
 pub stamp-later : (h : History) (t : ℕ) → latestTime h ≤ stampOf h t
 stamp-later [] t = omega arith
@@ -36,23 +36,23 @@ retime-own (frame t k raw) = refl
 retime-own (tick t) = refl
 
 module _ (now : ℕ) where
-  first-by : (a b : Option (ℕ × ℕ)) → FoundBy now a → FoundBy now b → FoundBy now (first a b)
+  first-by : (a b : Option Said) → FoundBy now a → FoundBy now b → FoundBy now (first a b)
   first-by none b p q = q
   first-by (some a) b p q = p
 
-  unless-by : (o : Option (ℕ × ℕ)) (s : History) → NoneAfter now s → NoneAfter now (unless o s)
+  unless-by : (o : Option Said) (s : History) → NoneAfter now s → NoneAfter now (unless o s)
   unless-by none s p = p
   unless-by (some a) s p = tt
 
-  only-by : (o : Option (ℕ × ℕ)) (s : History) → NoneAfter now s → NoneAfter now (onlyIf o s)
+  only-by : (o : Option Said) (s : History) → NoneAfter now s → NoneAfter now (onlyIf o s)
   only-by none s p = tt
   only-by (some a) s p = p
 
-  at-by : (t : ℕ) (o : Option (ℕ × ℕ)) → t ≤ now → FoundBy now (atTime (λ s. t) o)
+  at-by : (t : ℕ) (o : Option Said) → t ≤ now → FoundBy now (atTime (λ s. t) o)
   at-by t none le = tt
   at-by t (some m) le = le
 
-  module _ (asked : Event → Option (ℕ × ℕ)) (timely : Timely asked) where
+  module _ (asked : Event → Option Said) (timely : Timely asked) where
     asked-by : (e : Event) → timeOf e ≤ now → FoundBy now (asked e)
     asked-by e le =
         let own : asked e ≡ atTime (λ s. timeOf e) (asked e) = sym (ap-own e) ∙ timely (λ s. timeOf e) e in
@@ -79,20 +79,20 @@ module _ (now : ℕ) where
 
   module _ (h : History) (none-later : NoneAfter now h) where
     since-finished-by : NoneAfter now (sinceNewest finishedOf h)
-    since-finished-by = since-by finishedOf (kind-timely finishedKind) h none-later
+    since-finished-by = since-by finishedOf (role-timely Finished) h none-later
 
     pub opening-by : FoundBy now (opening h)
     unfolding opening sinceFinished
-    opening-by = oldest-by openingOf (kind-timely sessionKind) (sinceNewest finishedOf h) since-finished-by
+    opening-by = oldest-by openingOf (role-timely Opening) (sinceNewest finishedOf h) since-finished-by
 
     pub session-by : NoneAfter now (inSession h)
     unfolding inSession sinceFinished
-    session-by = after-by openingOf (kind-timely sessionKind) (sinceNewest finishedOf h) since-finished-by
+    session-by = after-by openingOf (role-timely Opening) (sinceNewest finishedOf h) since-finished-by
 
     pub status-by : FoundBy now (sessionStatus h)
     unfolding sessionStatus
-    status-by = newest-by statusOf (kind-timely statusKind) (inSession h) session-by
+    status-by = newest-by statusOf (role-timely Status) (inSession h) session-by
 
     pub control-by : FoundBy now (sessionControl h)
     unfolding sessionControl
-    control-by = newest-by commandOf (kind-timely controlKind) (inSession h) session-by
+    control-by = newest-by commandOf (role-timely Command) (inSession h) session-by

@@ -13,7 +13,7 @@ use Rattle.rules.specs.declared.OpenSession.{OpenSession}
 use Rattle.rules.specs.declared.SessionPart.{SessionPart}
 use Rattle.rules.specs.declared.SessionPart.the-variants as part
 use Rattle.rules.specs.declared.Record.{Record}
-use Rattle.rules.specs.History.{Event, frame, tick, History, timeOf}
+use Rattle.rules.specs.History.{Event, frame, tick, History, Said, saidAt, timeOf}
 use Rattle.rules.specs.Times.{latestTime}
 use Rattle.rules.specs.Rules.{Rule}
 
@@ -31,15 +31,15 @@ abbrev pub delayed : ℕ → History → History
 delayed d h = map (delay d) h
 
 -- an answer to a question of the history, at another time
-abbrev pub atTime : (ℕ → ℕ) → Option (ℕ × ℕ) → Option (ℕ × ℕ)
+abbrev pub atTime : (ℕ → ℕ) → Option Said → Option Said
 atTime f none = none
-atTime f (some m) = some (f (m .0), m .1)
+atTime f (some m) = some (saidAt (f (m .time)) (m .kind) (m .raw))
 
-abbrev pub later : ℕ → Option (ℕ × ℕ) → Option (ℕ × ℕ)
+abbrev pub later : ℕ → Option Said → Option Said
 later d o = atTime (λ t. t + d) o
 
 -- a question that hands the event's time on and does not look at it
-abbrev pub Timely : (Event → Option (ℕ × ℕ)) → Type 0
+abbrev pub Timely : (Event → Option Said) → Type 0
 Timely asked = (f : ℕ → ℕ) (e : Event) → asked (retime f e) ≡ atTime f (asked e)
 
 -- a rule that finds the same where history and event are d ms later
@@ -63,9 +63,9 @@ NoneAfter now [] = Unit {0}
 NoneAfter now (e ∷ h) = (timeOf e ≤ now) × NoneAfter now h
 
 -- nor what was found by looking back
-abbrev pub FoundBy : ℕ → Option (ℕ × ℕ) → Type 0
+abbrev pub FoundBy : ℕ → Option Said → Type 0
 FoundBy now none = Unit {0}
-FoundBy now (some m) = m .0 ≤ now
+FoundBy now (some m) = m .time ≤ now
 
 -- ---- a record but for its times as received: 0 stands for each, and the ages stay
 
@@ -76,6 +76,7 @@ stillLast (last.At t) = last.At 0
 abbrev pub stillDated : Dated → Dated
 stillDated dated.Nothing = dated.Nothing
 stillDated (dated.At t age m) = dated.At 0 age m
+stillDated (dated.OlderAt t age m) = dated.OlderAt 0 age m
 
 abbrev pub stillLatest : Latest → Latest
 stillLatest l = record { message = stillDated (l .message) }
@@ -108,6 +109,7 @@ lastTimeIn (last.At t) = t
 abbrev pub datedTime : Dated → ℕ
 datedTime dated.Nothing = 0
 datedTime (dated.At t age m) = t
+datedTime (dated.OlderAt t age m) = t
 
 abbrev pub partTimes : SessionPart → ℕ × ℕ × ℕ
 partTimes part.Closed = (0, 0, 0)

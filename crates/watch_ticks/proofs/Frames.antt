@@ -4,7 +4,7 @@ use mathlib.Core.Path.{_≡_, refl, sym, ap, _∙_}
 use mathlib.Core.List.{[], _∷_}
 use mathlib.Core.Option.{Option, none, some}
 use Rattle.message_types.specs.declared.DcPowerParameters.{DcPowerParameters}
-use Rattle.rules.specs.History.{Event, frame, tick, History, first, newest, oldest, unless, onlyIf, sinceNewest, afterOldest, statusOf, commandOf, limitsTold, controllerOf, openingOf, finishedOf, sinceFinished, opening, inSession}
+use Rattle.rules.specs.History.{Event, frame, tick, History, Said, saidAt, first, newest, oldest, unless, onlyIf, sinceNewest, afterOldest, statusOf, commandOf, limitsTold, controllerOf, openingOf, finishedOf, sinceFinished, opening, inSession}
 use Rattle.rules.specs.Rules.{sessionStatus, sessionControl, limitOf, limitBy, f1, f2, f3, f4, f5, f6, f7, f8, f9, f10, f11, rules01}
 use Rattle.watch_ticks.specs.Marks.{frames, Tickless, ReadsFrames, Every}
 
@@ -12,7 +12,7 @@ first-none : {A : Type 0} (o : Option A) → first o none ≡ o
 first-none none = refl
 first-none (some a) = refl
 
-module _ (asked : Event → Option (ℕ × ℕ)) (silent : Tickless asked) where
+module _ (asked : Event → Option Said) (silent : Tickless asked) where
   pub newest-frames : (h : History) → newest asked (frames h) ≡ newest asked h
   newest-frames [] = refl
   newest-frames (frame t k raw ∷ h) = rw (newest-frames h)
@@ -27,7 +27,7 @@ module _ (asked : Event → Option (ℕ × ℕ)) (silent : Tickless asked) where
   since-frames [] = refl
   since-frames (frame t k raw ∷ h) = rw (since-frames h) (go (asked (frame t k raw)))
     where
-      go : (o : Option (ℕ × ℕ)) → unless o (frame t k raw ∷ frames (sinceNewest asked h)) ≡ frames (unless o (frame t k raw ∷ sinceNewest asked h))
+      go : (o : Option Said) → unless o (frame t k raw ∷ frames (sinceNewest asked h)) ≡ frames (unless o (frame t k raw ∷ sinceNewest asked h))
       go none = refl
       go (some a) = refl
   since-frames (tick t ∷ h) = rw (silent t) (since-frames h)
@@ -36,7 +36,7 @@ module _ (asked : Event → Option (ℕ × ℕ)) (silent : Tickless asked) where
   none-after [] q = refl
   none-after (e ∷ h) q = go (oldest asked h) q
     where
-      go : (o : Option (ℕ × ℕ)) → first o (asked e) ≡ none → onlyIf o (e ∷ afterOldest asked h) ≡ []
+      go : (o : Option Said) → first o (asked e) ≡ none → onlyIf o (e ∷ afterOldest asked h) ≡ []
       go none r = refl
       go (some a) r = cc
 
@@ -44,12 +44,12 @@ module _ (asked : Event → Option (ℕ × ℕ)) (silent : Tickless asked) where
   after-frames [] = refl
   after-frames (frame t k raw ∷ h) = rw (after-frames h, oldest-frames h) (go (oldest asked h))
     where
-      go : (o : Option (ℕ × ℕ)) → onlyIf o (frame t k raw ∷ frames (afterOldest asked h)) ≡ frames (onlyIf o (frame t k raw ∷ afterOldest asked h))
+      go : (o : Option Said) → onlyIf o (frame t k raw ∷ frames (afterOldest asked h)) ≡ frames (onlyIf o (frame t k raw ∷ afterOldest asked h))
       go none = refl
       go (some a) = refl
   after-frames (tick t ∷ h) = after-frames h ∙ go (oldest asked h) refl
     where
-      go : (o : Option (ℕ × ℕ)) → oldest asked h ≡ o → frames (afterOldest asked h) ≡ frames (onlyIf o (tick t ∷ afterOldest asked h))
+      go : (o : Option Said) → oldest asked h ≡ o → frames (afterOldest asked h) ≡ frames (onlyIf o (tick t ∷ afterOldest asked h))
       go none q = ap frames (none-after h q)
       go (some a) q = refl
 

@@ -12,7 +12,7 @@ use Rattle.rule_limits.specs.declared.PlainLimits.{PlainLimits}
 use Rattle.rules.specs.declared.SessionPart.{SessionPart}
 use Rattle.rules.specs.declared.SessionPart.the-variants as part
 use Rattle.rules.specs.declared.Record.{Record}
-use Rattle.rules.specs.History.{Event, frame, tick, History, timeOf, sinceFinished, opening, inSession}
+use Rattle.rules.specs.History.{Event, frame, tick, History, Said, saidAt, timeOf, sinceFinished, opening, inSession}
 use Rattle.rules.specs.Times.{earlierIn, elapsed, latestTime, Unrolled}
 use Rattle.rules.specs.Rules.{sessionStatus, sessionControl, f1, f2, f3, f4, f5, f6, f7, f8, f9, f10, f11, findings01, Rule}
 use Rattle.rules.specs.Record.{recordAsOf, recordOf}
@@ -24,7 +24,7 @@ use Rattle.watch_ticks.specs.Silence.{apart, TickedWithin, quietFrom, To
 
 -- W 100 ms
 abbrev limits : PlainLimits
-limits = record { voltage = 5000; charge = 1000; discharge = 500; silence = 100; sensor = 0 }
+limits = record { voltage = 5000; charge = 1000; discharge = 500; silence = 100; sensor = 0; interface = 0 }
 
 abbrev session : ℕ → Event
 session t = frame t sessionKind 258
@@ -55,13 +55,13 @@ or-true : (a b : Bool) → b ≡ true → (a || b) ≡ true
 or-true true b q = refl
 or-true false b q = q
 
-told-tells : (o : ℕ × ℕ) (b : ℕ) (h : History) → Some (Told limits o b) h → tells b h ≡ true
+told-tells : (o : Said) (b : ℕ) (h : History) → Some (Told limits o b) h → tells b h ≡ true
 told-tells o b (e ∷ h) (here t) = rw (t .finds, lt-ltb _ _ (t .passed), le-leb _ _ (t .soon)) refl
 told-tells o b (e ∷ h) (there more) = or-true (tellsAt b h e) (tells b h) (told-tells o b h more)
 
 -- no event tells of a silence since b
 abbrev Untold : ℕ → History → Type 0
-Untold b h = (o : ℕ × ℕ) → Some (Told limits o b) h → ⊥
+Untold b h = (o : Said) → Some (Told limits o b) h → ⊥
 
 untold : (b : ℕ) (h : History) → tells b h ≡ false → Untold b h
 untold b h q o told = true≢false (sym (told-tells o b h told) ∙ q)

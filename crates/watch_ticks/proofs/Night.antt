@@ -8,7 +8,10 @@ use mathlib.Core.List.{List, [], _∷_, map}
 use lib.ListN.{length}
 use mathlib.Core.Option.{none, some}
 use Rattle.page_rows.specs.Table.{rows, ofKind, firstAt, covered}
-use Rattle.page_read.specs.Judge.{unlabelled, strayBelow, judgedNumber, judgeOf}
+use Rattle.page_read.specs.Judge.{unlabelled, strayBelow, judgedNumber, judgeOn}
+use Rattle.page_interfaces.specs.Foreign.{isForeign, judgeFor}
+use Rattle.rule_pages.specs.Roles.{roleOf}
+use Rattle.rule_pages.specs.Said.{statusBy, openingBy, limitsBy, commandBy}
 use Rattle.page_write.specs.Raws.{wholesOf, pad, rawsOf}
 use Rattle.signal.specs.Signal.{getBits}
 use Rattle.payload.specs.Payload.{leNumber}
@@ -17,7 +20,7 @@ use Rattle.message_parts.specs.Parts.{statusKind, controllerKind, sessionKind, 
 use Rattle.rule_limits.specs.declared.PlainLimits.{PlainLimits}
 use Rattle.rule_limits.specs.Limits.{limitsFit}
 use Rattle.rule_asks.specs.Judgements.{lowersBadly, outside, leaking, badInsulation, differs}
-use Rattle.rules.specs.History.{History, sinceFinished, opening, inSession}
+use Rattle.rules.specs.History.{History, Said, saidAt, sinceFinished, opening, inSession}
 use Rattle.rules.specs.History as history
 use Rattle.rules.specs.Times.{earlierIn, Unrolled}
 use Rattle.rules.specs.Rules.{sessionStatus, sessionControl, limitOf, f1, f2, f3, f4, f5, f6, f7, f8, f9, f10, f11, rules01, findings01}
@@ -40,7 +43,7 @@ use Rattle.watch_ticks.proofs.Answers.{answers-judged}
 use Rattle.watch_ticks.proofs.Runs.{answers-alike, counts-alike, shown-alike, silence-answered}
 
 abbrev limits : PlainLimits
-limits = record { voltage = 5000; charge = 1000; discharge = 500; silence = 100; sensor = 0 }
+limits = record { voltage = 5000; charge = 1000; discharge = 500; silence = 100; sensor = 0; interface = 0 }
 
 -- New_Charge_Session, Advantics_Controller_Status Charging and Power_Modules_Status (no current, Allowed) on channel 4
 abbrev session : ℕ → Request
@@ -89,7 +92,7 @@ none-in = 0 ∷ 0 ∷ 0 ∷ 0 ∷ 0 ∷ 0 ∷ 0 ∷ 0 ∷ 0 ∷ 0 ∷ 0 ∷ []
 computed : (standing 0 (accepted plain) ≡ held 4 limits (whole fewer)) × (standing 0 (accepted ticking) ≡ held 4 limits (whole more))
     × (judged limits (whole fewer) ≡ 3 ∷ 0 ∷ 0 ∷ 0 ∷ []) × (judged limits (whole more) ≡ 2 ∷ 3 ∷ 3 ∷ 0 ∷ 0 ∷ 0 ∷ 0 ∷ [])
     × (extrasBy rules01 limits more ≡ put-in) × (extrasBy rules01 limits fewer ≡ none-in)
-unfolding standing findFrom holder otherHolds feed01 setUp01 feedSteps setUpSteps limitsFit accepted sinceFinished opening inSession earlierIn lowersBadly outside leaking badInsulation differs sessionStatus sessionControl limitOf f1 f2 f3 f4 f5 f6 f7 f8 f9 f10 f11 findings01 rows ofKind firstAt covered unlabelled strayBelow judgedNumber judgeOf wholesOf pad rawsOf getBits leNumber toSigned statusIn parametersIn sessionIn controlIn
+unfolding standing findFrom holder otherHolds feed01 setUp01 feedSteps setUpSteps limitsFit accepted sinceFinished opening inSession earlierIn lowersBadly outside leaking badInsulation differs sessionStatus sessionControl limitOf f1 f2 f3 f4 f5 f6 f7 f8 f9 f10 f11 findings01 rows ofKind firstAt covered unlabelled strayBelow judgedNumber judgeOn isForeign judgeFor roleOf statusBy openingBy limitsBy commandBy wholesOf pad rawsOf getBits leNumber toSigned statusIn parametersIn sessionIn controlIn
 computed = (refl, refl, refl, refl, refl, refl)
 
 -- the answers to the kept events with the ticks are those without them: F1 and F2 of the late status, and nothing of the others
@@ -123,12 +126,12 @@ heard = history.tick 1200 ∷ history.tick 1100 ∷ history.frame 1000 sessionKi
 abbrev since : History
 since = history.tick 1210 ∷ history.frame 1201 statusKind allowed ∷ heard
 
-abbrev opened : ℕ × ℕ
+abbrev opened : Said
 opened = (1000, 258)
 
 silent-there : (standing 0 (accepted quiet) ≡ held 4 limits since) × (opening heard ≡ some opened) × (inSession heard ≡ history.tick 1200 ∷ history.tick 1100 ∷ [])
     × (sessionStatus heard ≡ none) × (judged limits since ≡ 0 ∷ 1 ∷ 1 ∷ 0 ∷ 0 ∷ [])
-unfolding standing findFrom holder otherHolds feed01 setUp01 feedSteps setUpSteps limitsFit accepted sinceFinished opening inSession earlierIn lowersBadly outside leaking badInsulation differs sessionStatus sessionControl limitOf f1 f2 f3 f4 f5 f6 f7 f8 f9 f10 f11 findings01 rows ofKind firstAt covered unlabelled strayBelow judgedNumber judgeOf wholesOf pad rawsOf getBits leNumber toSigned statusIn parametersIn sessionIn controlIn
+unfolding standing findFrom holder otherHolds feed01 setUp01 feedSteps setUpSteps limitsFit accepted sinceFinished opening inSession earlierIn lowersBadly outside leaking badInsulation differs sessionStatus sessionControl limitOf f1 f2 f3 f4 f5 f6 f7 f8 f9 f10 f11 findings01 rows ofKind firstAt covered unlabelled strayBelow judgedNumber judgeOn isForeign judgeFor roleOf statusBy openingBy limitsBy commandBy wholesOf pad rawsOf getBits leNumber toSigned statusIn parametersIn sessionIn controlIn
 silent-there = (refl, refl, refl, refl, refl)
 
 silence : Silent limits opened 1000 heard (history.frame 1201 statusKind allowed)

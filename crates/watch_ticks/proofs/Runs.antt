@@ -7,7 +7,7 @@ use mathlib.Core.List.{List, [], _∷_, map}
 use mathlib.Core.Bool.{Bool, true, false}
 use borrow.Author.Tests.{lt-ltb}
 use Rattle.rule_limits.specs.declared.PlainLimits.{PlainLimits}
-use Rattle.rules.specs.History.{Event, History}
+use Rattle.rules.specs.History.{Event, History, Said, saidAt}
 use Rattle.rules.specs.Times.{Unrolled}
 use Rattle.rules.specs.Rules.{rules01, f1, f2, f3, f4, f5, f6, f7, f8, f9, f10, f11, found, bitsFrom, findings01}
 use Rattle.rules.specs.Record.{recordAsOf, recordOf}
@@ -76,7 +76,7 @@ f1-bit : (lim : PlainLimits) (h : History) (e : Event) → f1 lim h e ≡ true �
 unfolding findings01
 f1-bit lim h e q = rw q (omega (arith, even 1 (found (f2 ∷ f3 ∷ f4 ∷ f5 ∷ f6 ∷ f7 ∷ f8 ∷ f9 ∷ f10 ∷ f11 ∷ []) lim h e)))
 
-module _ (lim : PlainLimits) (o : ℕ × ℕ) (b : ℕ) where
+module _ (lim : PlainLimits) (o : Said) (b : ℕ) where
   abbrev TellsOf : History → Event → Answer → Type 0
   TellsOf h e w = Told lim o b h e × HasF1 w
 

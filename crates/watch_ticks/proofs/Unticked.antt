@@ -4,7 +4,9 @@ use Prim.Native.Nat.{ℕ}
 use mathlib.Core.Path.{_≡_, refl, sym, ap, _∙_}
 use mathlib.Core.List.{List, [], _∷_, map}
 use mathlib.Core.Option.{Option, none, some}
-use Rattle.message_parts.specs.Parts.{statusKind, controlKind, sessionIn}
+use Rattle.message_types.specs.KindNumbers.{kindCount}
+use Rattle.older_build.specs.Built as older
+use Rattle.rule_pages.specs.Said.{openingBy}
 use Rattle.message_build.specs.Built.{messageOf}
 use Rattle.rule_limits.specs.declared.PlainLimits.{PlainLimits}
 use Rattle.rule_limits.specs.Sensor.{limitsOf}
@@ -15,12 +17,12 @@ use Rattle.rules.specs.declared.Latest.{Latest}
 use Rattle.rules.specs.declared.SessionPart.{SessionPart}
 use Rattle.rules.specs.declared.SessionPart.the-variants as part
 use Rattle.rules.specs.declared.Record.{Record}
-use Rattle.rules.specs.History.{History, newest, ofKind, opening, countFrom}
+use Rattle.rules.specs.History.{History, Said, newest, opening, countFrom}
 use Rattle.rules.specs.Times.{receivedOf, latestTime}
 use Rattle.rules.specs.Rules.{sessionStatus, sessionControl}
-use Rattle.rules.specs.Record.{kindCount, datedOf, partOf, recordAsOf, recordOf}
+use Rattle.rules.specs.Record.{placeCount, datedAt, datedOf, atPlace, partOf, recordAsOf, recordOf}
 use Rattle.watch_clock.specs.Later.{atTime}
-use Rattle.watch_clock.proofs.Later.{kind-timely, newest-retimed, opening-retimed, status-retimed, control-retimed}
+use Rattle.watch_clock.proofs.Later.{place-timely, newest-retimed, opening-retimed, status-retimed, control-retimed}
 use Rattle.watch_ticks.specs.Marks.{Mark, whole, without, frames}
 use Rattle.watch_ticks.specs.Gaps.{asReceived}
 use Rattle.watch_ticks.specs.Unticked.{ageless, agelessLatest, agelessPart, unticked}
@@ -29,35 +31,50 @@ use Rattle.watch_ticks.proofs.Marked.{same-frames}
 
 -- ---- by times as received
 
-abbrev plainDated : ℕ → Option (ℕ × ℕ) → Dated
-plainDated k none = dated.Nothing
-plainDated k (some m) = dated.At (m .0) 0 (messageOf k (m .1))
+abbrev plainDated : Option Said → Dated
+plainDated none = dated.Nothing
+plainDated (some m) = datedAt (m .time) 0 (m .kind) (m .raw)
 
-abbrev plainLatest : ℕ → Option (ℕ × ℕ) → Latest
-plainLatest k o = record { message = plainDated k o }
+abbrev plainLatest : Option Said → Latest
+plainLatest o = record { message = plainDated o }
 
-abbrev plainPart : Option (ℕ × ℕ) → Option (ℕ × ℕ) → Option (ℕ × ℕ) → SessionPart
+abbrev plainPart : Option Said → Option Said → Option Said → SessionPart
 plainPart none s d = part.Closed
 plainPart (some o) s d =
     part.Opened
-    (record { since = o .0; age = 0; protocol = sessionIn (o .1) .protocol; plug = sessionIn (o .1) .plug; status = plainDated statusKind s; control = plainDated controlKind d })
+    (record {
+      since = o .time;
+      age = 0;
+      protocol = openingBy (o .kind) (o .raw) .protocol;
+      plug = openingBy (o .kind) (o .raw) .plug;
+      status = plainDated s;
+      control = plainDated d;
+    })
 
 -- what was found, as it was received
-abbrev received : Option (ℕ × ℕ) → Option (ℕ × ℕ)
+abbrev received : Option Said → Option Said
 received o = atTime receivedOf o
 
-dated-plain : (now k : ℕ) (o : Option (ℕ × ℕ)) → ageless (datedOf now k o) ≡ plainDated k (received o)
-dated-plain now k none = refl
-dated-plain now k (some m) = refl
+ageless-at : (t age k raw : ℕ) → ageless (datedAt t age k raw) ≡ datedAt t 0 k raw
+unfolding datedAt
+ageless-at t age k raw = go (ltb k kindCount)
+  where
+    go : (b : Bool) → ageless (cond b (dated.At t age (messageOf k raw)) (dated.OlderAt t age (older.messageOf k raw))) ≡ cond b (dated.At t 0 (messageOf k raw)) (dated.OlderAt t 0 (older.messageOf k raw))
+    go true = refl
+    go false = refl
 
-part-plain : (now : ℕ) (o s d : Option (ℕ × ℕ)) → agelessPart (partOf now o s d) ≡ plainPart (received o) (received s) (received d)
+dated-plain : (now : ℕ) (o : Option Said) → ageless (datedOf now o) ≡ plainDated (received o)
+dated-plain now none = refl
+dated-plain now (some m) = ageless-at (receivedOf (m .time)) (ageOf now (m .time)) (m .kind) (m .raw)
+
+part-plain : (now : ℕ) (o s d : Option Said) → agelessPart (partOf now o s d) ≡ plainPart (received o) (received s) (received d)
 part-plain now none s d = refl
-part-plain now (some o) s d = rw (dated-plain now statusKind s, dated-plain now controlKind d)
+part-plain now (some o) s d = rw (dated-plain now s, dated-plain now d)
 
 latests-plain : (now : ℕ) (h : History) (ks : List ℕ)
-    → map agelessLatest (map (λ k. record { message = datedOf now k (newest (ofKind k) h) }) ks) ≡ map (λ k. plainLatest k (received (newest (ofKind k) h))) ks
+    → map agelessLatest (map (λ j. record { message = datedOf now (newest (atPlace j) h) }) ks) ≡ map (λ j. plainLatest (received (newest (atPlace j) h))) ks
 latests-plain now h [] = refl
-latests-plain now h (k ∷ ks) = rw (dated-plain now k (newest (ofKind k) h), latests-plain now h ks)
+latests-plain now h (j ∷ ks) = rw (dated-plain now (newest (atPlace j) h), latests-plain now h ks)
 
 unfoldable plainRecord : ℕ → PlainLimits → History → Record
 plainRecord c lim h =
@@ -65,7 +82,7 @@ plainRecord c lim h =
       channel = c;
       limits = limitsOf lim;
       last = last.Never;
-      latest = map (λ k. plainLatest k (received (newest (ofKind k) h))) (countFrom 0 kindCount);
+      latest = map (λ j. plainLatest (received (newest (atPlace j) h))) (countFrom 0 placeCount);
       session = plainPart (received (opening h)) (received (sessionStatus h)) (received (sessionControl h));
       accepted = 0;
       tallies = [];
@@ -74,7 +91,7 @@ plainRecord c lim h =
 record-plain : (c : ℕ) (lim : PlainLimits) (h : History) → unticked (recordOf c lim h) ≡ plainRecord c lim h
 unfolding recordAsOf unticked plainRecord
 record-plain c lim h =
-    rw (latests-plain (latestTime h) h (countFrom 0 kindCount), part-plain (latestTime h) (opening h) (sessionStatus h) (sessionControl h))
+    rw (latests-plain (latestTime h) h (countFrom 0 placeCount), part-plain (latestTime h) (opening h) (sessionStatus h) (sessionControl h))
 
 -- ---- which are those of the kept events
 
@@ -87,8 +104,8 @@ module _ (m n : List Mark) (same : map asReceived (without m) ≡ map asReceived
       side : (x : List Mark) → at (look (whole x)) ≡ look (map asReceived (without x))
       side x = ap at (sym (reads (whole x)) ∙ ap look (same-frames x) ∙ reads (without x)) ∙ sym (timely (without x))
 
-  newest-alike : (k : ℕ) → received (newest (ofKind k) (whole m)) ≡ received (newest (ofKind k) (whole n))
-  newest-alike k = alike (newest (ofKind k)) received (newest-frames (ofKind k) (λ t. refl)) (newest-retimed receivedOf (ofKind k) (kind-timely k))
+  newest-alike : (j : ℕ) → received (newest (atPlace j) (whole m)) ≡ received (newest (atPlace j) (whole n))
+  newest-alike j = alike (newest (atPlace j)) received (newest-frames (atPlace j) (λ t. refl)) (newest-retimed receivedOf (atPlace j) (place-timely j))
 
   plain-alike : (c : ℕ) (lim : PlainLimits) → plainRecord c lim (whole m) ≡ plainRecord c lim (whole n)
   unfolding plainRecord
@@ -97,13 +114,13 @@ module _ (m n : List Mark) (same : map asReceived (without m) ≡ map asReceived
         alike opening received opening-frames (opening-retimed receivedOf),
         alike sessionStatus received status-frames (status-retimed receivedOf),
         alike sessionControl received control-frames (control-retimed receivedOf),
-        latests (countFrom 0 kindCount),
+        latests (countFrom 0 placeCount),
       )
     where
       latests : (ks : List ℕ)
-          → map (λ k. plainLatest k (received (newest (ofKind k) (whole m)))) ks ≡ map (λ k. plainLatest k (received (newest (ofKind k) (whole n)))) ks
+          → map (λ j. plainLatest (received (newest (atPlace j) (whole m)))) ks ≡ map (λ j. plainLatest (received (newest (atPlace j) (whole n)))) ks
       latests [] = refl
-      latests (k ∷ ks) = rw (newest-alike k, latests ks)
+      latests (j ∷ ks) = rw (newest-alike j, latests ks)
 
   pub record-alike : (c : ℕ) (lim : PlainLimits) → unticked (recordOf c lim (whole m)) ≡ unticked (recordOf c lim (whole n))
   record-alike c lim = record-plain c lim (whole m) ∙ plain-alike c lim ∙ sym (record-plain c lim (whole n))

@@ -7,7 +7,7 @@ use mathlib.Core.Bool.{Bool}
 use mathlib.Core.Option.{Option, none}
 use Rattle.rule_limits.specs.declared.PlainLimits.{PlainLimits}
 use Rattle.rule_asks.specs.Judgements.{bit}
-use Rattle.rules.specs.History.{Event, frame, tick, History}
+use Rattle.rules.specs.History.{Event, frame, tick, History, Said}
 use Rattle.rules.specs.Rules.{Rule, found, findings01}
 
 -- newest first, as in a history; a kept event may be a tick too
@@ -65,7 +65,7 @@ frames [] = []
 frames (frame t k raw ∷ h) = frame t k raw ∷ frames h
 frames (tick t ∷ h) = frames h
 
-abbrev pub Tickless : (Event → Option (ℕ × ℕ)) → Type 0
+abbrev pub Tickless : (Event → Option Said) → Type 0
 Tickless asked = (t : ℕ) → asked (tick t) ≡ none
 
 -- a rule that reads no tick of the history before the event

@@ -5,7 +5,7 @@ use mathlib.Core.List.{[], _∷_}
 use mathlib.Core.Bool.{true}
 use mathlib.Core.Option.{some}
 use Rattle.rule_limits.specs.declared.PlainLimits.{PlainLimits}
-use Rattle.rules.specs.History.{Event, frame, tick, History, timeOf, opening, inSession}
+use Rattle.rules.specs.History.{Event, frame, tick, History, Said, timeOf, opening, inSession}
 use Rattle.rules.specs.Rules.{laterTime, sessionStatus, f1}
 
 -- "ticks come at most 100 ms apart"
@@ -28,16 +28,16 @@ quietFrom o h = laterTime o (sessionStatus h)
 -- An event after h ends a silence since b: the next Power_Modules_Status of the session that opened at o, or the session's last event, or any in between;
 -- and ticks came often enough since the opening.
 -- 02 speaks of a silence "longer than W + 100": it need but be longer than W, since the event that ends it is judged too.
-pub record Silent (lim : PlainLimits) (o : ℕ × ℕ) (b : ℕ) (h : History) (e : Event) : Type 0 where
+pub record Silent (lim : PlainLimits) (o : Said) (b : ℕ) (h : History) (e : Event) : Type 0 where
   pub opened : opening h ≡ some o
-  pub since : quietFrom (o .0) h ≡ b
-  pub ticked : Ticked (o .0) (timeOf e) (inSession h)
+  pub since : quietFrom (o .time) h ≡ b
+  pub ticked : Ticked (o .time) (timeOf e) (inSession h)
   pub long : b + lim .silence < timeOf e
 
 -- an event after h has F1 for that silence, "after the silence passed W" and "no more than 100 ms after" that
-pub record Told (lim : PlainLimits) (o : ℕ × ℕ) (b : ℕ) (h : History) (e : Event) : Type 0 where
+pub record Told (lim : PlainLimits) (o : Said) (b : ℕ) (h : History) (e : Event) : Type 0 where
   pub opened : opening h ≡ some o
-  pub since : quietFrom (o .0) h ≡ b
+  pub since : quietFrom (o .time) h ≡ b
   pub finds : f1 lim h e ≡ true
   pub passed : b + lim .silence < timeOf e
   pub soon : timeOf e ≤ b + lim .silence + apart

@@ -13,6 +13,7 @@ use Rattle.rules.specs.declared.Record.{Record}
 abbrev pub ageless : Dated → Dated
 ageless dated.Nothing = dated.Nothing
 ageless (dated.At t age m) = dated.At t 0 m
+ageless (dated.OlderAt t age m) = dated.OlderAt t 0 m
 
 abbrev pub agelessLatest : Latest → Latest
 agelessLatest l = record { message = ageless (l .message) }
