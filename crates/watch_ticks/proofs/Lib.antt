@@ -8,3 +8,4 @@ pub mod Answers
 pub mod Runs
 pub mod Night
 pub mod Needed
+pub mod OlderNight

@@ -8,6 +8,8 @@ use mathlib.Core.List.{List, [], _∷_}
 use mathlib.Core.Option.{some}
 use lib.Dec.{ltb, leb}
 use Rattle.message_parts.specs.Parts.{statusKind, sessionKind, finishedKind}
+use Rattle.rule_pages.specs.Roles.{roleOf}
+use Rattle.rule_pages.specs.Said.{openingBy}
 use Rattle.rule_limits.specs.declared.PlainLimits.{PlainLimits}
 use Rattle.rules.specs.declared.SessionPart.{SessionPart}
 use Rattle.rules.specs.declared.SessionPart.the-variants as part
@@ -68,7 +70,7 @@ untold b h q o told = true≢false (sym (told-tells o b h told) ∙ q)
 
 -- a session that opened at o, silent since b, and ticks that come at most `most` ms apart until the time `to`
 abbrev Quiet : ℕ → ℕ → ℕ → ℕ → History → Type 0
-Quiet most o b to h = (opening h ≡ some (o, 258)) × (quietFrom o h ≡ b) × TickedWithin most o to (inSession h)
+Quiet most o b to h = (opening h ≡ some (saidAt o sessionKind 258)) × (quietFrom o h ≡ b) × TickedWithin most o to (inSession h)
 
 -- it is longer than W at the time `to`
 abbrev Long : ℕ → ℕ → Type 0
@@ -79,7 +81,7 @@ abbrev far : History
 far = tick 1201 ∷ tick 1100 ∷ session 1000 ∷ []
 
 pub apart-needed : Unrolled (status 1202 ∷ far) × Quiet 101 1000 1000 1202 far × Long 1000 1202 × Untold 1000 (status 1202 ∷ far)
-unfolding sinceFinished opening inSession sessionStatus f1 earlierIn
+unfolding roleOf openingBy sinceFinished opening inSession sessionStatus f1 earlierIn
 apart-needed = ((refl, refl, (refl, refl, (refl, refl, (refl, refl, tt)))), (refl, refl, (omega arith, (omega arith, omega arith))), omega arith, untold 1000 (status 1202 ∷ far) refl)
 
 -- the last tick 101 ms before the silence's end
@@ -87,7 +89,7 @@ abbrev early : History
 early = tick 1100 ∷ session 1000 ∷ []
 
 pub last-needed : Unrolled (status 1201 ∷ early) × Quiet 101 1000 1000 1201 early × Long 1000 1201 × Untold 1000 (status 1201 ∷ early)
-unfolding sinceFinished opening inSession sessionStatus f1 earlierIn
+unfolding roleOf openingBy sinceFinished opening inSession sessionStatus f1 earlierIn
 last-needed = ((refl, refl, (refl, refl, (refl, refl, tt))), (refl, refl, (omega arith, omega arith)), omega arith, untold 1000 (status 1201 ∷ early) refl)
 
 -- the first tick 201 ms after the opening
@@ -95,12 +97,12 @@ abbrev late : History
 late = tick 1201 ∷ session 1000 ∷ []
 
 pub first-needed : Unrolled (status 1202 ∷ late) × Quiet 201 1000 1000 1202 late × Long 1000 1202 × Untold 1000 (status 1202 ∷ late)
-unfolding sinceFinished opening inSession sessionStatus f1 earlierIn
+unfolding roleOf openingBy sinceFinished opening inSession sessionStatus f1 earlierIn
 first-needed = ((refl, refl, (refl, refl, (refl, refl, tt))), (refl, refl, (omega arith, omega arith)), omega arith, untold 1000 (status 1202 ∷ late) refl)
 
 -- a silence of W and no more
 pub long-needed : Unrolled (status 1100 ∷ early) × Quiet 100 1000 1000 1100 early × Untold 1000 (status 1100 ∷ early)
-unfolding sinceFinished opening inSession sessionStatus f1 earlierIn
+unfolding roleOf openingBy sinceFinished opening inSession sessionStatus f1 earlierIn
 long-needed = ((refl, refl, (refl, refl, (refl, refl, tt))), (refl, refl, (omega arith, omega arith)), untold 1000 (status 1100 ∷ early) refl)
 
 -- the session does not stay open
@@ -108,7 +110,7 @@ abbrev closed : History
 closed = tick 1200 ∷ tick 1100 ∷ finished 1050 ∷ session 1000 ∷ []
 
 pub open-needed : Unrolled (status 1201 ∷ closed) × TickedWithin 100 1000 1201 closed × Long 1000 1201 × Untold 1000 (status 1201 ∷ closed)
-unfolding sinceFinished opening inSession sessionStatus f1 earlierIn
+unfolding roleOf openingBy sinceFinished opening inSession sessionStatus f1 earlierIn
 open-needed =
     ((refl, refl, (refl, refl, (refl, refl, (refl, refl, (refl, refl, tt))))), (omega arith, (omega arith, omega arith)), omega arith, untold 1000 (status 1201 ∷ closed) refl)
 
@@ -117,7 +119,7 @@ abbrev back : History
 back = status 1000 ∷ tick 1101 ∷ status 1090 ∷ tick 1050 ∷ session 1000 ∷ []
 
 pub order-needed : Quiet 100 1000 1000 1201 back × Long 1000 1201 × Untold 1000 (status 1201 ∷ back)
-unfolding sinceFinished opening inSession sessionStatus f1 earlierIn
+unfolding roleOf openingBy sinceFinished opening inSession sessionStatus f1 earlierIn
 order-needed = ((refl, refl, (omega arith, (omega arith, omega arith))), omega arith, untold 1000 (status 1201 ∷ back) refl)
 
 -- ---- ticks put in or taken out
@@ -137,7 +139,7 @@ differ : (m n : List Mark) (k l : List ℕ) → keptOf m (judged limits (whole m
 differ m n k l p q other same = other (sym p ∙ same ∙ q)
 
 pub gaps-needed : Unrolled (whole on) × Unrolled (whole past) × (said (without on) ≡ said (without past)) × Differ on past
-unfolding sinceFinished opening inSession sessionStatus sessionControl f1 f2 f3 f4 f5 f6 f7 f8 f9 f10 f11 findings01 earlierIn
+unfolding roleOf openingBy sinceFinished opening inSession sessionStatus sessionControl f1 f2 f3 f4 f5 f6 f7 f8 f9 f10 f11 findings01 earlierIn
 gaps-needed =
     ((refl, refl, (refl, refl, tt)), (refl, refl, (refl, refl, tt)), refl, differ on past (0 ∷ 0 ∷ []) (1 ∷ 0 ∷ []) refl refl (λ q. zero-one (ap head q)))
 
@@ -146,7 +148,7 @@ abbrev other : List Mark
 other = kept (tick 1101) ∷ kept (status 1000) ∷ []
 
 pub same-needed : Unrolled (whole other) × Unrolled (whole past) × (gaps (without other) ≡ gaps (without past)) × Differ other past
-unfolding sinceFinished opening inSession sessionStatus sessionControl f1 f2 f3 f4 f5 f6 f7 f8 f9 f10 f11 findings01 earlierIn
+unfolding roleOf openingBy sinceFinished opening inSession sessionStatus sessionControl f1 f2 f3 f4 f5 f6 f7 f8 f9 f10 f11 findings01 earlierIn
 same-needed =
     ((refl, refl, (refl, refl, tt)), (refl, refl, (refl, refl, tt)), refl, differ other past (0 ∷ 0 ∷ []) (1 ∷ 0 ∷ []) refl refl (λ q. zero-one (ap head q)))
 
@@ -158,7 +160,7 @@ abbrev taken : List Mark
 taken = kept (tick 1501) ∷ kept (tick 1000) ∷ kept (session 1000) ∷ []
 
 pub whole-needed : Unrolled (whole taken) × (said (without refused) ≡ said (without taken)) × (gaps (without refused) ≡ gaps (without taken)) × Differ refused taken
-unfolding sinceFinished opening inSession sessionStatus sessionControl f1 f2 f3 f4 f5 f6 f7 f8 f9 f10 f11 findings01 earlierIn
+unfolding roleOf openingBy sinceFinished opening inSession sessionStatus sessionControl f1 f2 f3 f4 f5 f6 f7 f8 f9 f10 f11 findings01 earlierIn
 whole-needed =
     ((refl, refl, (refl, refl, (refl, refl, tt))), refl, refl, differ refused taken (0 ∷ 0 ∷ 0 ∷ []) (1 ∷ 0 ∷ 0 ∷ []) refl refl (λ q. zero-one (ap head q)))
 
@@ -187,5 +189,5 @@ sinceIn (part.Opened s) = s .since
 
 pub received-needed : (said (session 1000 ∷ []) ≡ said (session 1001 ∷ [])) × (gaps (session 1000 ∷ []) ≡ gaps (session 1001 ∷ []))
     × (unticked (recordOf 4 limits (session 1000 ∷ [])) ≡ unticked (recordOf 4 limits (session 1001 ∷ [])) → ⊥)
-unfolding sinceFinished opening inSession sessionStatus sessionControl recordAsOf unticked
+unfolding roleOf openingBy sinceFinished opening inSession sessionStatus sessionControl recordAsOf unticked
 received-needed = (refl, refl, λ q. let z : _≡_ {A = ℕ} 1000 1001 = ap (λ (r : Record). sinceIn (r .session)) q in omega (arith, z))

@@ -127,7 +127,7 @@ abbrev since : History
 since = history.tick 1210 ∷ history.frame 1201 statusKind allowed ∷ heard
 
 abbrev opened : Said
-opened = (1000, 258)
+opened = saidAt 1000 sessionKind 258
 
 silent-there : (standing 0 (accepted quiet) ≡ held 4 limits since) × (opening heard ≡ some opened) × (inSession heard ≡ history.tick 1200 ∷ history.tick 1100 ∷ [])
     × (sessionStatus heard ≡ none) × (judged limits since ≡ 0 ∷ 1 ∷ 1 ∷ 0 ∷ 0 ∷ [])

@@ -3,6 +3,8 @@
 use Prim.Native.Nat.{ℕ}
 use mathlib.Core.Path.{_≡_, refl, sym, ap, _∙_}
 use mathlib.Core.List.{List, [], _∷_, map}
+use mathlib.Core.Bool.{Bool, true, false, cond}
+use lib.Dec.{ltb}
 use mathlib.Core.Option.{Option, none, some}
 use Rattle.message_types.specs.KindNumbers.{kindCount}
 use Rattle.older_build.specs.Built as older
@@ -18,7 +20,7 @@ use Rattle.rules.specs.declared.SessionPart.{SessionPart}
 use Rattle.rules.specs.declared.SessionPart.the-variants as part
 use Rattle.rules.specs.declared.Record.{Record}
 use Rattle.rules.specs.History.{History, Said, newest, opening, countFrom}
-use Rattle.rules.specs.Times.{receivedOf, latestTime}
+use Rattle.rules.specs.Times.{receivedOf, latestTime, ageOf}
 use Rattle.rules.specs.Rules.{sessionStatus, sessionControl}
 use Rattle.rules.specs.Record.{placeCount, datedAt, datedOf, atPlace, partOf, recordAsOf, recordOf}
 use Rattle.watch_clock.specs.Later.{atTime}
