@@ -17,6 +17,8 @@ mod codec;
 mod compare;
 mod coverage;
 mod desk;
+#[cfg(test)]
+mod documents;
 mod explain;
 mod fields;
 mod history;
