@@ -55,8 +55,8 @@ const FINDINGS: [u32; 8] = [1, 2, 4, 5, 8, 9, 10, 11];
 
 /// Each of 001's messages on a post and without one, and the rest.
 pub fn wanted() -> impl Iterator<Item = String> {
-    let messages = OLDER_PAGES.iter().flat_map(|page| ["frame", "read1, change1 or write1"].map(|by| (page.id, by)));
-    let messages = messages.map(|(id, by)| format!("{id:x} by {by}"));
+    let messages = OLDER_PAGES.iter().flat_map(|page| ["by frame", "without a post"].map(|way| (page.id, way)));
+    let messages = messages.map(|(id, way)| format!("{id:x} {way}"));
     let findings = FINDINGS.map(|number| format!("older F{number}"));
     messages.chain(findings).chain(OTHERS.map(str::to_string))
 }
@@ -190,7 +190,7 @@ fn without_post(fields: &[&[u8]], answer: &str) -> Option<Vec<String>> {
         ("read1", "R3") => those(&[(newer && extended, "read1 R3 for 000")]),
         ("read", "R3") => those(&[(older, "read R3 for 001")]),
         ("write", "X") => those(&[(older, "write X for 001")]),
-        ("read1" | "change1" | "write1", "A") if older => vec![format!("{id} by read1, change1 or write1")],
+        ("read1" | "change1" | "write1", "A") if older => vec![format!("{id} without a post")],
         _ => Vec::new(),
     })
 }
@@ -309,9 +309,9 @@ mod tests {
             (shows("read 68009 x 07"), &["read R3 for 001"]),
             (shows("read 68009 s 07"), &[]),
             (shows("write 68009 x 7 00"), &["write X for 001"]),
-            (shows("read1 68009 x 07"), &["68009 by read1, change1 or write1"]),
-            (shows("change1 68009 x 07 0 6"), &["68009 by read1, change1 or write1"]),
-            (shows("write1 68009 x 7 00"), &["68009 by read1, change1 or write1"]),
+            (shows("read1 68009 x 07"), &["68009 without a post"]),
+            (shows("change1 68009 x 07 0 6"), &["68009 without a post"]),
+            (shows("write1 68009 x 7 00"), &["68009 without a post"]),
             (shows("write1 68009 x 14 00"), &[]),
             (shows("replay 000481c0350107 0,4,5000,1000,500,500,0,1"), &["replay with R29"]),
             (shows("replay 000481c0350107 0,4,5000,1000,500,500,0,0"), &[]),

@@ -2,11 +2,13 @@
 
 use crate::asked::{function, told, Limit, CONTROL, OPENING, STATUS};
 use crate::codec::{self, Heading, Message, Reader, Refusal};
-use crate::desk::Desk;
+use crate::desk::{Desk, Recorder};
 use crate::history::{latest, latest_message, session, Event};
 use crate::log;
 use crate::pages::{self, only_other_has, other, Kind, NEWER, OLDER};
-use crate::posts::{by_own_pages, in_range, Admission, Frame, Hearing, Post, Table, OTHER_INTERFACE};
+use crate::posts::{
+    by_own_pages, in_range, timed_and_read, Admission, Arrival, Frame, Hearing, Listener, Post, Table, OTHER_INTERFACE,
+};
 use crate::record::{self, Form, FORM};
 use crate::replay::{played, Line, Replay, SetUp};
 use crate::rules::{limit, poor_insulation, Limits, Rule, CONTROLLER_LIMIT, RULES};
@@ -43,12 +45,23 @@ const WRONG_ADMISSIONS: [(&str, Admission); 3] =
 const RESERVED: (&str, Reader) = ("older-reserved", reserved_dropped);
 const ALONE: (&str, Reader) = ("older-alone", other_interface_without_a_post);
 
-const FIRST: &str = "older-first";
+const EARLY: (&str, Listener) = ("older-early", other_interface_before_the_clock);
+
+/// In the record: all that the opening says, and Charging_Loop alone for DC_Power_Control.
+const WRONG_RECORDERS: [(&str, Recorder); 2] = [
+    ("older-first", |post, counts| record::line_in(&Form { first: Message::values, ..FORM }, post, counts)),
+    ("older-control", |post, counts| {
+        let control = &[Kind::DcPowerControl, Kind::ChargingLoop];
+        record::line_in(&Form { control, ..FORM }, post, counts)
+    }),
+];
+
 const REPLAYED: &str = "older-replay";
 
 pub fn names() -> impl Iterator<Item = &'static str> {
+    let others = WRONG_RECORDERS.map(|(name, _)| name).into_iter().chain([EARLY.0, RESERVED.0, ALONE.0, REPLAYED]);
     let posts = WRONG_HEARINGS.map(|(name, _)| name).into_iter().chain(WRONG_RULES.map(|(name, _)| name));
-    posts.chain(WRONG_ADMISSIONS.map(|(name, _)| name)).chain([RESERVED.0, ALONE.0, FIRST, REPLAYED])
+    posts.chain(WRONG_ADMISSIONS.map(|(name, _)| name)).chain(others)
 }
 
 /// `None` where there is no slip of that name.
@@ -63,8 +76,10 @@ pub fn put_into(desk: &mut Desk, name: &str) -> Option<()> {
         (desk.reader, desk.table.reader) = (RESERVED.1, RESERVED.1);
     } else if name == ALONE.0 {
         desk.reader = ALONE.1;
-    } else if name == FIRST {
-        desk.recorder = |post, counts| record::line_in(&Form { first: Message::values, ..FORM }, post, counts);
+    } else if name == EARLY.0 {
+        desk.table.listener = EARLY.1;
+    } else if let Some((_, recorder)) = WRONG_RECORDERS.iter().find(|(known, _)| *known == name) {
+        desk.recorder = *recorder;
     } else if name == REPLAYED {
         desk.replayer = every_post_is_newer;
     } else {
@@ -119,6 +134,13 @@ fn form_does_not_count(reader: Reader, interface: u32, frame: &Frame) -> Result<
     match by_own_pages(reader, interface, frame) {
         Err(Refusal::Number(3)) if only_other_has(interface, frame.id, !frame.extended) => Err(OTHER_INTERFACE),
         heard => heard,
+    }
+}
+
+fn other_interface_before_the_clock(table: &Table, place: usize, arrival: &Arrival) -> Result<Event, Refusal> {
+    match arrival.frame.as_ref().map(|frame| table.read(place, frame)) {
+        Some(Err(OTHER_INTERFACE)) => Err(OTHER_INTERFACE),
+        _ => timed_and_read(table, place, arrival),
     }
 }
 

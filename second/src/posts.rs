@@ -56,6 +56,9 @@ pub type Clock = fn(&[Option<Post>], usize, u32) -> Option<u64>;
 /// What a post with that interface makes of a frame, with that reader for its own pages.
 pub type Hearing = fn(Reader, u32, &Frame) -> Result<Message, Refusal>;
 
+/// The event that an arrival is to the post at that place, if nothing refuses it.
+pub type Listener = fn(&Table, usize, &Arrival) -> Result<Event, Refusal>;
+
 /// 29: "A frame whose identifier only the other interface has".
 pub const OTHER_INTERFACE: Refusal = Refusal::Number(29);
 
@@ -73,6 +76,7 @@ pub struct Table {
     pub clock: Clock,
     pub reader: Reader,
     pub hearing: Hearing,
+    pub listener: Listener,
     pub admission: Admission,
 }
 
@@ -86,6 +90,7 @@ impl Table {
             clock: own_clock,
             reader: codec::read,
             hearing: by_own_pages,
+            listener: timed_and_read,
             admission: in_range,
         }
     }
@@ -131,19 +136,20 @@ impl Table {
 
     fn hear(&mut self, arrival: &Arrival) -> Result<u32, Refusal> {
         let place = self.holder(arrival.channel).ok_or(Refusal::Number(1))?;
-        let time = (self.clock)(&self.posts, place, arrival.time).ok_or(Refusal::Number(2))?;
-        let post = self.posts[place].as_mut().ok_or(Refusal::Number(1))?;
-        let message = match &arrival.frame {
-            Some(frame) => Some((self.hearing)(self.reader, post.limits.interface, frame)?),
-            None => None,
-        };
+        let event = (self.listener)(self, place, arrival)?;
+        let post = self.posts[place].as_mut().expect("the channel's holder");
         if post.history.len() >= self.largest as usize {
             return Err(FULL);
         }
-        let event = Event { time, message };
         let found = findings(&self.rules, &post.limits, &post.history, &event);
         post.history.push(event);
         Ok(found)
+    }
+
+    /// What a frame says to the post at that place.
+    pub fn read(&self, place: usize, frame: &Frame) -> Result<Message, Refusal> {
+        let post = self.posts[place].as_ref().expect("the channel's holder");
+        (self.hearing)(self.reader, post.limits.interface, frame)
     }
 
     /// The post that holds a channel.
@@ -164,6 +170,13 @@ fn place(post: u32) -> Result<usize, Refusal> {
     } else {
         Err(Refusal::Number(9))
     }
+}
+
+/// 2 before all that is wrong with a frame.
+pub fn timed_and_read(table: &Table, place: usize, arrival: &Arrival) -> Result<Event, Refusal> {
+    let time = (table.clock)(&table.posts, place, arrival.time).ok_or(Refusal::Number(2))?;
+    let message = arrival.frame.as_ref().map(|frame| table.read(place, frame)).transpose()?;
+    Ok(Event { time, message })
 }
 
 /// 02: "gets, on that post, a refusal number of its own in 3's place, never a message".

@@ -5,7 +5,7 @@ use crate::clock::{age, as_received};
 use crate::codec::Message;
 use crate::fields::form;
 use crate::history::{latest, latest_time, session, Event};
-use crate::pages::{self, Page};
+use crate::pages::{self, Kind, Page};
 use crate::posts::Post;
 use crate::tallies::Counts;
 
@@ -13,6 +13,8 @@ use crate::tallies::Counts;
 pub struct Form {
     /// The order of the latest messages.
     pub order: fn(&Page) -> (bool, u32),
+    /// What stands for DC_Power_Control in the session's part.
+    pub control: &'static [Kind],
     /// What is told of the session's opening.
     pub first: fn(&Message) -> Vec<i64>,
     /// `T`, for the latest accepted time and the kept one, both unrolled.
@@ -23,6 +25,7 @@ pub struct Form {
 /// them".
 pub const FORM: Form = Form {
     order: |page| (page.extended, page.id),
+    control: CONTROL,
     first: |opening| protocol_and_plug(opening).to_vec(),
     kept: |latest, kept| format!("{}+{}", as_received(kept), age(latest, kept)),
 };
@@ -52,7 +55,7 @@ pub fn line_in(form: &Form, post: &Post, counts: &Counts) -> String {
         format!("since={}", or_none(session.map(|session| kept(&session[0])))),
         format!("first={}", or_none(first.map(|first| joined(&(form.first)(&first))))),
         format!("spms={}", or_none(in_session(STATUS))),
-        format!("sdpc={}", or_none(in_session(CONTROL))),
+        format!("sdpc={}", or_none(in_session(form.control))),
         format!("n={}", counts.accepted),
         format!("tally={}", counts.tallies.map(|tally| tally.to_string()).join(",")),
         format!("latest={}", or_none(each_latest(past, form.order, stamped))),

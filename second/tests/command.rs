@@ -99,7 +99,7 @@ fn too_few_steps_to_reach_everything_fail() {
         "F1 across the round",
         "record with an age that stopped growing",
         "60010 by frame",
-        "6800f by read1, change1 or write1",
+        "6800f without a post",
         "R29 on a newer post for R6",
         "R29 on an older post for A",
         "older F9",
