@@ -14,7 +14,7 @@ pub const FINISHED: &[Kind] = &[Kind::ChargeSessionFinished, Kind::OlderChargeSe
 /// DC_Power_Control".
 pub const CONTROL: &[Kind] = &[Kind::DcPowerControl, Kind::InsulationTest, Kind::Precharge, Kind::ChargingLoop];
 
-/// 001 has no word for contactors, for lowering, or for a function that is off: F3, F6 and F7 ask 000's control alone.
+/// 02: "F3, F6 and F7 give no finding there"; they ask for 000's message alone.
 pub const DC_POWER_CONTROL: &[Kind] = &[Kind::DcPowerControl];
 
 /// What tells limits.
