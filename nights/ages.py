@@ -2,7 +2,7 @@
 
 import re
 
-from pages import FINISHED, NEW_SESSION
+from pages import FINISHED, NEW_SESSION, OLDER_FINISHED, OLDER_NEW_SESSION
 from traffic import ROUND
 
 KEPT = re.compile(r"([0-9a-f]+[xs]):[-0-9,]+@([0-9]+\+[0-9]+)")
@@ -20,9 +20,9 @@ class Times:
         self.latest = received if self.latest is None else self.latest + (received - self.latest) % ROUND
         if kind is not None:
             self.kinds[kind] = self.latest
-        if kind == f"{NEW_SESSION}x" and self.opened is None:
+        if kind in (f"{NEW_SESSION}x", f"{OLDER_NEW_SESSION}x") and self.opened is None:
             self.opened = self.latest
-        if kind == f"{FINISHED}x":
+        if kind in (f"{FINISHED}x", f"{OLDER_FINISHED}x"):
             self.opened = None
 
     def kept(self, time):

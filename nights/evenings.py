@@ -1,6 +1,7 @@
 """The nights: what happens, and what is said of it."""
 
 from coming_round import coming_round
+from older import older
 from pages import *
 from safety import safety
 from says import told
@@ -354,4 +355,4 @@ def damaged():
     return night
 
 
-NIGHTS = (clean, march, faults, sensor, damaged, safety, coming_round)
+NIGHTS = (clean, march, faults, sensor, damaged, safety, coming_round, older)

@@ -1,7 +1,7 @@
 #!/usr/bin/env python3
 """Composes the nights: desk scripts of whole evenings at a charger, with comments, and their answers.
 
-The traffic follows the cycles of the maker's pages (000). The answers come from the second program, never from here.
+The traffic follows the cycles of the maker's pages (000 and 001). The answers come from the second program, never from here.
 Each finding and each refusal must be announced in a comment directly before its step, and nothing else may be.
 
     make.py [--second PROGRAM]           writes NAME.desk and NAME.answers beside this file

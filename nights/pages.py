@@ -1,4 +1,4 @@
-"""Identifiers, label numbers and payloads of the maker's pages (000, and 004 behind it)."""
+"""Identifiers, label numbers and payloads of the maker's pages (000, behind it 004, and 001)."""
 
 import struct
 
@@ -60,3 +60,29 @@ def probe_bytes(*probes):
     """Four times tenths of a degree, whether that probe stops the charge, and whether its self-test failed."""
     words = ((tenths & 0x3fff) << 2 | flags(stopped, failed) for tenths, stopped, failed in probes)
     return struct.pack(">4H", *words).hex()
+
+
+# 001: label numbers are those of 000.
+OLDER_PMS, LIMITS, SEQUENCE, OLDER_NEW_SESSION, TEST_LOOP, PRECHARGE_LOOP, OLDER_CHANGE, CHARGING_LOOP, OLDER_STOP, \
+    OLDER_FINISHED, OLDER_STATUS, INPUTS, OLDER_EV_ID, EXTRA = (
+        "60010", "60011", "60012", "68001", "68002", "68003", "68004", "68005", "68006", "68007", "68009", "6800b",
+        "6800c", "6800e")
+DUTY_5, CP_STATE_C = 50, 6
+
+
+def older_opening_bytes(protocol, plug, volt, amps, capacity, charged):
+    """New_Charge_Session: tenths, kWh of 2 each, percent."""
+    return struct.pack("<BBHHBB", protocol, plug, volt, amps, capacity // 2, charged).hex()
+
+
+def limit_bytes(volt=0, amps=0):
+    return struct.pack("<HhI", volt, amps, 0).hex()
+
+
+def input_bytes(inputs, *celsius):
+    """ADM_CS_SECC_Inputs: four bits, and the temperatures of the processor and of the pistol's two sensors."""
+    return (bytes([inputs, 0, 0, 0, 0]) + bytes(degrees + 40 for degrees in celsius)).hex()
+
+
+def extra_bytes(state, duty):
+    return struct.pack("<BH5x", state, duty).hex()

@@ -31,6 +31,13 @@ SAYS_02 = {
     "F9 yes/no": "For a yes/no sensor F9's insulation test is raw 0 and nothing else",
     "F1 unrolled": "F1 and F2 read unrolled times, the sum of accepted differences, and never come round",
     "F2 unrolled": "F1 and F2 read unrolled times, the sum of accepted differences, and never come round",
+    "F4 older": "Insulation_Test, Precharge and Charging_Loop count as the three functions",
+    "F8 older": "Power_Modules_Limits sets the voltage and charge limits",
+    "F9 older": "Insulation_Test, Precharge and Charging_Loop count as the three functions, the latest of them standing "
+                "for DC_Power_Control",
+    "R12 older": "Set-up names a post's interface",
+    "R29": "A frame whose identifier only the other interface has gets, on that post, a refusal number of its own in "
+           "3's place, never a message",
     "R2 wrapped": "a time is earlier than the latest when the wrapped difference is 2^31 or more",
 }
 

@@ -32,6 +32,12 @@ class Night:
 class Post:
     """The traffic of one post. A cycle is 100 ms: controller status at its start, then the other periodic messages."""
 
+    # What a post of this interface is told, by whom its messages are described, and how it says that nothing is asked.
+    interface = None
+    document = "000"
+    identifiers = dict(status=STATUS, new=NEW_SESSION, modules=PMS, vehicle=EV_ID, change=CHANGE, finished=FINISHED)
+    off = dict(function=OFF)
+
     def __init__(self, night, number, channel, time, phase=0):
         self.night, self.number, self.channel = night, number, channel
         self.time = time + phase
@@ -40,8 +46,10 @@ class Post:
         self.remarks = ()
 
     def set_up(self, volt=5000, charge=2000, discharge=500, silence=500, sensor=None, comments=()):
-        """A set-up that says nothing of the sensor means a measuring one."""
+        """A set-up that says nothing of the sensor means a measuring one, and one without an interface the newer."""
         limits = [volt, charge, discharge, silence] + ([] if sensor is None else [sensor])
+        if self.interface is not None:
+            limits = [*limits, *([0] if sensor is None else []), self.interface]
         self.night.at(self.time - 50, f"setup {self.number} {self.channel} {' '.join(map(str, limits))}", *comments)
 
     def frame(self, after, identifier, payload, *comments, form="x"):
@@ -63,6 +71,13 @@ class Post:
         remarks, self.remarks = self.remarks, ()
         return (*remarks, *comments)
 
+    def opening(self, protocol, plug):
+        return byte(protocol) + byte(plug)
+
+    def command(self, **control):
+        """The identifier and the payload of what the controller asks for."""
+        return CONTROL, control_bytes(**control)
+
     def cycle(self, state, new=None, modules=False, control=None, status=True, tick=False, notes=None):
         """One cycle; `notes` has comments for the step of that name."""
         notes = notes or {}
@@ -72,15 +87,16 @@ class Post:
             return self.remarked((found,) if isinstance(found, str) else found)
 
         if status:
-            self.frame(0, STATUS, byte(state), *of("status"))
+            self.frame(0, self.identifiers["status"], byte(state), *of("status"))
         if new is not None:
-            self.frame(10, NEW_SESSION, byte(new[0]) + byte(new[1]), *of("new"))
+            self.frame(10, self.identifiers["new"], self.opening(*new), *of("new"))
         if modules:
-            self.frame(20, PMS, status_bytes(self.volt, self.amps, self.enable, self.insulation), *of("modules"))
+            status = status_bytes(self.volt, self.amps, self.enable, self.insulation)
+            self.frame(20, self.identifiers["modules"], status, *of("modules"))
         if control is not None:
-            self.frame(30, CONTROL, control_bytes(**control), *of("control"))
+            self.frame(30, *self.command(**control), *of("control"))
         if self.vehicle and (self.time // 100) % 10 == 5:
-            self.frame(40, EV_ID, self.vehicle, *of("vehicle"))
+            self.frame(40, self.identifiers["vehicle"], self.vehicle, *of("vehicle"))
         if tick:
             self.tick(70, *of("tick"))
         self.time += 100
@@ -98,7 +114,8 @@ class Post:
             for _ in range(2):
                 self.cycle(AUTHORISING)
         self.vehicle = vehicle
-        self.say(f"post {self.number}: New_Charge_Session, each 100 ms until the power modules answer Allowed (000)")
+        self.say(f"post {self.number}: New_Charge_Session, each 100 ms until the power modules answer Allowed "
+                 f"({self.document})")
         self.enable = 0
         self.cycle(FULL_INFO, new=(protocol, plug))
         for _ in range(3):
@@ -135,7 +152,7 @@ class Post:
     def start_charge(self, battery=3850):
         self.say(f"post {self.number}: the vehicle is ready")
         control = dict(function=PRECHARGE, target=battery, most=20, mode=RANGE_MODE, contactors=CLOSE)
-        self.frame(5, CHANGE, byte(1))
+        self.frame(5, self.identifiers["change"], byte(1))
         for _ in range(2):
             self.cycle(WAITING_FOR_CHARGE, modules=True, control=control)
 
@@ -156,7 +173,7 @@ class Post:
 
     def end_charge(self):
         self.say(f"post {self.number}: the vehicle stops; the current comes down")
-        self.frame(5, CHANGE, byte(0))
+        self.frame(5, self.identifiers["change"], byte(0))
         self.ramp(0, step=400, state=ENDING)
         self.say(f"post {self.number}: below 1 A the contactors open and the voltage is lowered (000)")
         for part in (8, 5, 3):
@@ -169,7 +186,7 @@ class Post:
 
     def close(self, stop=CLEAN_STOP, notes=()):
         self.say(f"post {self.number}: the session ends")
-        self.cycle(CLOSING, modules=True, control=dict(function=OFF))
-        self.frame(5, FINISHED, byte(stop), *self.remarked(notes))
+        self.cycle(CLOSING, modules=True, control=self.off)
+        self.frame(5, self.identifiers["finished"], byte(stop), *self.remarked(notes))
         self.vehicle, self.enable, self.volt, self.amps = None, 0, 0, 0
         self.cycle(CLOSING)

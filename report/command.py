@@ -12,7 +12,7 @@ from .page import page
 DESCRIPTION = """\
 Writes a night as one page of HTML, with nothing beside it: the sessions, findings, refusals and readings of each post.
 
-  POSTS    the set-ups of the replay, desk lines: setup POST CHANNEL VOLT CHG DIS W [SENSOR]
+  POSTS    the set-ups of the replay, desk lines: setup POST CHANNEL VOLT CHG DIS W [SENSOR [IFACE]]
   LOG      the night log
   LINES    what `replay POSTS LOG` wrote on standard output; - is standard input
   OUT      the page; - is standard output

@@ -1,7 +1,7 @@
 """What a mark or a bar says on hover, and the names by which the drawings point to the tables."""
 from . import clock, messages
 from .nightlog import Raw
-from .words import FINDINGS, REFUSALS, YES_NO
+from .words import FINDINGS, REFUSALS, mended
 
 
 def finding_id(post, number, group):
@@ -19,7 +19,7 @@ def refusals_id(number):
 def rule(post, number):
     """A finding's name, and the sentence behind it."""
     words = f'F{number} {FINDINGS[number].name}\n01: "{FINDINGS[number].sentence}"'
-    return words + f'\n02: "{YES_NO}"' if number == 9 and post.set_up.yes_no else words
+    return words + ''.join(f'\n02: "{sentence}"' for sentence in mended(number, post.set_up))
 
 
 def findings(post, number, group):

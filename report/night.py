@@ -54,7 +54,7 @@ class Post:
                 lane = self.findings[number] = Lane()
             lane.add(time, count, raw, answer)
         # most of a night is these
-        if part == messages.STATUS:
+        if part in messages.STATUSES:
             self.read(time, messages.status_in(held))
         elif part in messages.OTHERS:
             self.hear(time, messages.read(Raw(*raw).record()))

@@ -4,7 +4,7 @@ from .groups import times
 from .markup import tag, text
 from .messages import tenths
 from .nightlog import Raw
-from .words import FINDINGS, REFUSALS, YES_NO
+from .words import FINDINGS, REFUSALS, mended
 
 TALLIES = 'The tallies of each post\'s record at the end of the night: frames and ticks accepted since set-up, and how many of them have each finding'
 
@@ -42,7 +42,8 @@ def tallies(night):
 
 def limits(set_up):
     sensor = ', a yes/no insulation sensor' if set_up.yes_no else ''
-    return f'{tenths(set_up.volt)} V, {tenths(set_up.charge)} A out, {tenths(set_up.discharge)} A back{sensor}'
+    interface = ', the older interface (001)' if set_up.older else ''
+    return f'{tenths(set_up.volt)} V, {tenths(set_up.charge)} A out, {tenths(set_up.discharge)} A back{sensor}{interface}'
 
 
 def totals(lanes):
@@ -120,8 +121,8 @@ def refused(group, listed):
 def rules(night):
     def of(number, total):
         sentence = text('01: ') + tag('q', text(FINDINGS[number].sentence))
-        if number == 9 and any(post.set_up.yes_no for post in night.posts):
-            sentence += text(' 02: ') + tag('q', text(YES_NO))
+        for more in dict.fromkeys(more for post in night.posts for more in mended(number, post.set_up)):
+            sentence += text(' 02: ') + tag('q', text(more))
         return row(text(f'F{number}'), text(FINDINGS[number].name), sentence, text(f'{total:,}'))
 
     return table('The rules behind the findings of this night', ('Finding', 'Name', 'Sentence', 'Found'), (of(*each) for each in night.found().items()))

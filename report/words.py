@@ -36,6 +36,20 @@ FINDINGS = {
 # 02, Req 03, of F9 on a post with such a sensor
 YES_NO = 'For a yes/no sensor F9\'s insulation test is raw 0 and nothing else'
 
+# 02, Req 11, of a post with the pages of 001
+FUNCTIONS = 'Insulation_Test, Precharge and Charging_Loop count as the three functions, the latest of them standing for DC_Power_Control'
+LIMITS = 'Power_Modules_Limits sets the voltage and charge limits, a current of 0 or less meaning the default'
+OLDER = {4: FUNCTIONS, 5: FUNCTIONS, 8: LIMITS, 9: FUNCTIONS}
+
+
+def mended(number, set_up):
+    """What 02 adds to a finding's sentence on a post with that set-up."""
+    if number == 9 and set_up.yes_no:
+        yield YES_NO
+    if number in OLDER and set_up.older:
+        yield OLDER[number]
+
+
 REFUSALS = {
     1: 'channel above 31, or held by no post',
     2: 'time earlier than the post\'s latest accepted frame or tick',
@@ -45,6 +59,7 @@ REFUSALS = {
     6: 'a bit that no signal covers is 1',
     15: 'longer than the table\'s length',
     25: 'the post\'s count of accepted frames and ticks is at its largest',
+    29: 'identifier that only the other interface has',
 }
 
 # of a set-up, which ends the replay

@@ -2,12 +2,12 @@
 
 use std::collections::BTreeMap;
 
+use crate::asked::{CONTROLLER_STATUS, STATUS};
 use crate::clock::{as_received, difference, unrolled, EARLIER, OLDEST, ROUND};
 use crate::desk;
 use crate::fields::{bytes, natural};
 use crate::history::{latest, latest_time, session, Event};
 use crate::log;
-use crate::pages::Kind;
 use crate::posts::{Arrival, Post, Table, CHANNELS};
 use crate::safety_coverage::those;
 
@@ -101,17 +101,17 @@ fn by_arrival(table: &Table, arrival: &Arrival, answer: &str) -> Option<Vec<Stri
 /// When F1 last heard of the power modules.
 fn power_modules(post: &Post) -> Option<u64> {
     let session = session(&post.history)?;
-    Some(latest(session, Kind::PowerModulesStatus).unwrap_or(&session[0]).time)
+    Some(latest(session, STATUS).unwrap_or(&session[0]).time)
 }
 
 fn controller(post: &Post) -> Option<u64> {
-    latest(&post.history, Kind::AdvanticsControllerStatus).map(|status| status.time)
+    latest(&post.history, CONTROLLER_STATUS).map(|status| status.time)
 }
 
 fn by_record(table: &Table, post: u32) -> Option<Vec<String>> {
     let history = &table.post(post).ok()?.history;
     let now = latest_time(history)?;
-    let kept: Vec<&Event> = history.iter().filter_map(|event| latest(history, event.message?.kind)).collect();
+    let kept: Vec<&Event> = history.iter().filter_map(|event| latest(history, &[event.message?.kind])).collect();
     let ages: Vec<u64> = kept.iter().map(|event| now - event.time).collect();
     let oldest = u64::from(OLDEST);
     Some(those(&[

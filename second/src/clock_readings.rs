@@ -12,7 +12,7 @@ fn holds_on_a_post(story: &str) {
 /// A record with no session and these parts.
 fn record(last: &str, n: u32, tally: &str, latest: &str) -> String {
     format!(
-        "K ch=4 volt=5000 chg=1000 dis=500 w=500 sensor=0 last={last} open=0 since=- first=- spms=- sdpc=- n={n} \
+        "K ch=4 volt=5000 chg=1000 dis=500 w=500 sensor=0 iface=0 last={last} open=0 since=- first=- spms=- sdpc=- n={n} \
          tally={tally} latest={latest}"
     )
 }
@@ -121,7 +121,7 @@ fn every_kept_time_has_its_age() {
          frame 4 4294967290 63000 x a00f83ff41000164 => A0
          frame 4 5 6b003 x 00000000000001 => A0
          frame 4 15 6b000 x 01 => A0
-         record 0 => K ch=4 volt=5000 chg=1000 dis=500 w=500 sensor=0 last=15 open=1 since=4294967200+111 first=2,1 \
+         record 0 => K ch=4 volt=5000 chg=1000 dis=500 w=500 sensor=0 iface=0 last=15 open=1 since=4294967200+111 first=2,1 \
          spms=63000x:4000,-125,25,-40,1,200@4294967290+21 sdpc=6b003x:0,0,0,1,0,0,0,0@5+10 n=4 tally=0,0,0,0,0,0,0,0,0,0,0 \
          latest=63000x:4000,-125,25,-40,1,200@4294967290+21;6b000x:1@15+0;6b001x:2,1@4294967200+111;\
          6b003x:0,0,0,1,0,0,0,0@5+10",

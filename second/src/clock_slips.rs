@@ -1,9 +1,9 @@
 //! Wrong readings of Req 09.
 
+use crate::asked::{CONTROLLER_STATUS, STATUS};
 use crate::clock::{as_received, difference, unrolled, EARLIER, ROUND};
 use crate::desk::{Desk, Recorder};
 use crate::history::{latest, session, Event};
-use crate::pages::Kind;
 use crate::posts::{own_latest, Clock, Post};
 use crate::record::{self, Form, FORM};
 use crate::rules::{Limits, Rule, CONTROLLER_LIMIT};
@@ -74,7 +74,7 @@ fn first_behind_0(posts: &[Option<Post>], place: usize, received: u32) -> Option
 /// Which are below the earlier ones behind the round.
 fn f1_on_received_times(limits: &Limits, past: &[Event], event: &Event) -> bool {
     session(past).is_some_and(|session| {
-        let status = latest(session, Kind::PowerModulesStatus).map_or(0, |status| as_received(status.time));
+        let status = latest(session, STATUS).map_or(0, |status| as_received(status.time));
         let later = status.max(as_received(session[0].time));
         as_received(event.time).saturating_sub(later) > limits.silence
     })
@@ -83,13 +83,13 @@ fn f1_on_received_times(limits: &Limits, past: &[Event], event: &Event) -> bool 
 /// A silence of 49.7 days is none.
 fn f1_that_comes_round(limits: &Limits, past: &[Event], event: &Event) -> bool {
     session(past).is_some_and(|session| {
-        let seen = latest(session, Kind::PowerModulesStatus).unwrap_or(&session[0]);
+        let seen = latest(session, STATUS).unwrap_or(&session[0]);
         (event.time - seen.time) % ROUND > u64::from(limits.silence)
     })
 }
 
 fn f2_on_received_times(_: &Limits, past: &[Event], event: &Event) -> bool {
-    latest(past, Kind::AdvanticsControllerStatus).is_some_and(|status| {
+    latest(past, CONTROLLER_STATUS).is_some_and(|status| {
         let (now, then) = (as_received(event.time), as_received(status.time));
         u64::from(now.saturating_sub(then)) > CONTROLLER_LIMIT
     })

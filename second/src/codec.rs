@@ -24,8 +24,22 @@ impl fmt::Display for Refusal {
     }
 }
 
-pub type Reader = fn(u32, bool, &[u8]) -> Result<Message, Refusal>;
-pub type Changer = fn(u32, bool, &mut [u8], u32, i64) -> Result<(), Refusal>;
+/// A frame's identifier and form, and the interface by whose pages it is read.
+#[derive(Clone, Copy, Debug)]
+pub struct Heading {
+    pub interface: u32,
+    pub id: u32,
+    pub extended: bool,
+}
+
+impl Heading {
+    pub fn page(self) -> Option<&'static Page> {
+        pages::find(self.interface, self.id, self.extended)
+    }
+}
+
+pub type Reader = fn(Heading, &[u8]) -> Result<Message, Refusal>;
+pub type Changer = fn(Heading, &mut [u8], u32, i64) -> Result<(), Refusal>;
 
 /// The largest count of signals on a page.
 const MOST: usize = 15;
@@ -65,7 +79,7 @@ impl Message {
         label_name(signal, raw).expect("a message holds labelled numbers only")
     }
 
-    /// The fields as the desk shows them: whole tenths, °C, kOhm, label numbers.
+    /// The fields as the desk shows them: whole tenths, °C, kOhm, kWh, label numbers.
     pub fn values(&self) -> Vec<i64> {
         self.signals().map(|(signal, raw)| value_of(signal, raw)).collect()
     }
@@ -94,7 +108,7 @@ fn lacks_label(signal: &Signal, raw: i64) -> bool {
 fn value_of(signal: &Signal, raw: i64) -> i64 {
     match signal.unit {
         Unit::Celsius => raw - 40,
-        Unit::KiloOhms => raw * 2,
+        Unit::KiloOhms | Unit::KiloWattHours => raw * 2,
         Unit::None | Unit::Volts | Unit::Amps | Unit::Tenths => raw,
     }
 }
@@ -103,8 +117,8 @@ fn value_of(signal: &Signal, raw: i64) -> i64 {
 fn raw_of(signal: &Signal, value: i64) -> Option<i64> {
     let raw = match signal.unit {
         Unit::Celsius => value.checked_add(40)?,
-        Unit::KiloOhms if value % 2 != 0 => return None,
-        Unit::KiloOhms => value / 2,
+        Unit::KiloOhms | Unit::KiloWattHours if value % 2 != 0 => return None,
+        Unit::KiloOhms | Unit::KiloWattHours => value / 2,
         Unit::None | Unit::Volts | Unit::Amps | Unit::Tenths => value,
     };
     (fits(signal, raw) && !lacks_label(signal, raw)).then_some(raw)
@@ -216,8 +230,8 @@ fn judge_labels(page: &Page, bytes: &[u8]) -> Result<(), Refusal> {
 }
 
 /// Gives 3 to 6, the lowest that applies, with 15 in 4's place.
-pub fn read(id: u32, extended: bool, bytes: &[u8]) -> Result<Message, Refusal> {
-    let page = pages::find(id, extended).ok_or(Refusal::Number(3))?;
+pub fn read(heading: Heading, bytes: &[u8]) -> Result<Message, Refusal> {
+    let page = heading.page().ok_or(Refusal::Number(3))?;
     judge_length(page, bytes)?;
     judge_labels(page, bytes)?;
     if !uncovered(page, bytes).is_empty() {
@@ -244,8 +258,8 @@ pub fn write(page: &Page, values: &[i64], buffer: &mut [u8]) -> Result<(), Refus
 }
 
 /// 01: "first the frame's own 3 to 6, then 13, then 7, then 5 for the new label".
-pub fn change(id: u32, extended: bool, bytes: &mut [u8], start: u32, raw: i64) -> Result<(), Refusal> {
-    let page = read(id, extended, bytes)?.kind.page();
+pub fn change(heading: Heading, bytes: &mut [u8], start: u32, raw: i64) -> Result<(), Refusal> {
+    let page = read(heading, bytes)?.kind.page();
     let signal = page.signals.iter().find(|signal| signal.start == start).ok_or(Refusal::Number(13))?;
     if !fits(signal, raw) {
         return Err(Refusal::Number(7));

@@ -205,11 +205,12 @@ mod tests {
                 Verdict::Agreed(_) => panic!("{name} was not found"),
                 Verdict::Differs(found) => {
                     let (lines, bytes) = (found.shortest.len(), joined(&found.shortest).len());
-                    // A log stands by itself, a frame needs its set-up at most, and little of either.
+                    // A log stands by itself, a frame needs its set-up at most, which may name its interface, and little of
+                    // either.
                     let few = match name.split_once('-') {
                         Some(("log", _)) => lines == 1 && bytes <= 40,
-                        Some(("label", _)) => lines <= 2 && bytes <= 60,
-                        Some(("sensor" | "safety", _)) => lines <= 5,
+                        Some(("label", _)) => lines <= 2 && bytes <= 64,
+                        Some(("sensor" | "safety" | "older", _)) => lines <= 5,
                         // Two steps of less than 2^31 ms are less than a round.
                         Some(("clock", _)) => lines <= 6,
                         Some(("replay", _)) => lines <= 3 && bytes <= 100,

@@ -5,6 +5,7 @@ use std::fmt;
 
 use crate::batch_coverage;
 use crate::clock_coverage;
+use crate::older_coverage;
 use crate::posts::Table;
 use crate::recordings_coverage;
 use crate::replay_coverage;
@@ -12,15 +13,15 @@ use crate::safety_coverage;
 use crate::sensor_coverage;
 use crate::tally_coverage::{self, Since};
 
-const WORDS: [&[u8]; 17] = [
-    b"setup", b"release", b"frame", b"tick", b"record", b"refused", b"read", b"change", b"write", b"explain", b"logr",
-    b"logw", b"replay", b"batch", b"compare", b"probe", b"duty",
+const WORDS: [&[u8]; 20] = [
+    b"setup", b"release", b"frame", b"tick", b"record", b"refused", b"read", b"change", b"write", b"read1", b"change1",
+    b"write1", b"explain", b"logr", b"logw", b"replay", b"batch", b"compare", b"probe", b"duty",
 ];
 
 const REFUSALS: std::ops::RangeInclusive<u32> = 1..=15;
 
 /// Each of these gives refusal 5 by a way of its own.
-const LABELLED: [&str; 3] = ["frame", "read", "change"];
+const LABELLED: [&str; 5] = ["frame", "read", "change", "read1", "change1"];
 const STARTS: usize = 3;
 
 /// The writer and the reader give some of the same refusals, so what each comes to is counted apart.
@@ -38,6 +39,7 @@ pub struct Coverage {
     logs: BTreeMap<String, u64>,
     sensors: BTreeMap<&'static str, u64>,
     safety: BTreeMap<String, u64>,
+    older: BTreeMap<String, u64>,
     counts: BTreeMap<String, u64>,
     since: Since,
     replays: BTreeMap<String, u64>,
@@ -68,6 +70,9 @@ impl Coverage {
         }
         for shown in safety_coverage::shown(step, answer) {
             *self.safety.entry(shown).or_default() += 1;
+        }
+        for shown in older_coverage::shown(table, step, answer) {
+            *self.older.entry(shown).or_default() += 1;
         }
         for shown in self.since.shown(table, step, answer) {
             *self.counts.entry(shown).or_default() += 1;
@@ -124,6 +129,7 @@ impl Coverage {
         let sensors = sensor_coverage::WANTED.iter().filter(|shown| !self.sensors.contains_key(*shown));
         missing.extend(sensors.map(|shown| shown.to_string()));
         missing.extend(safety_coverage::wanted().into_iter().filter(|shown| !self.safety.contains_key(shown)));
+        missing.extend(older_coverage::wanted().filter(|shown| !self.older.contains_key(shown)));
         missing.extend(tally_coverage::wanted().filter(|shown| !self.counts.contains_key(shown)));
         missing.extend(replay_coverage::wanted().filter(|shown| !self.replays.contains_key(shown)));
         missing.extend(batch_coverage::wanted().filter(|shown| !self.batches.contains_key(shown)));
@@ -164,6 +170,10 @@ impl fmt::Display for Coverage {
         write!(out, "\nsafety:  ")?;
         for shown in safety_coverage::wanted() {
             write!(out, " {shown} {},", self.safety.get(&shown).unwrap_or(&0))?;
+        }
+        write!(out, "\nolder:   ")?;
+        for shown in older_coverage::wanted() {
+            write!(out, " {shown} {},", self.older.get(&shown).unwrap_or(&0))?;
         }
         write!(out, "\ncounts:  ")?;
         for shown in tally_coverage::wanted() {

@@ -3,12 +3,12 @@
 use std::io::{self, BufRead, Write};
 
 use crate::batch::{self, Batcher};
-use crate::codec::{self, range, Changer, Reader, Refusal};
+use crate::codec::{self, range, Changer, Heading, Reader, Refusal};
 use crate::explain;
 use crate::fields::{bytes, extended, hex, identifier, natural, number, values};
 use crate::log;
 use crate::log_line;
-use crate::pages;
+use crate::pages::{NEWER, OLDER};
 use crate::posts::{Arrival, Frame, Post, Table};
 use crate::record;
 use crate::recordings::{self, Comparer};
@@ -105,7 +105,9 @@ fn step(desk: &mut Desk, line: &[u8]) -> Option<String> {
         b"replay" => replay(desk, &fields[1..]),
         b"batch" => batch(desk, &fields[1..]),
         b"compare" => compare(desk.comparer, &fields[1..]),
-        b"read" | b"change" | b"write" | b"explain" => message_step(desk, &fields),
+        b"read" | b"change" | b"write" => message_step(desk, NEWER, fields[0], &fields[1..]),
+        b"read1" | b"change1" | b"write1" => message_step(desk, OLDER, &fields[0][..fields[0].len() - 1], &fields[1..]),
+        b"explain" => explain_step(&fields[1..]),
         b"probe" | b"duty" => service_step(desk, &fields),
         b"record" => record(desk, &fields[1..]),
         b"refused" => refused(desk, &fields[1..]),
@@ -173,35 +175,41 @@ fn service_step(desk: &Desk, fields: &[&[u8]]) -> Option<String> {
     }
 }
 
-/// The fields of a set-up; the sensor may be missing and is then a measuring one.
+/// The fields of a set-up. The interface may be missing and is then the newer one; before it the sensor may, and is then a
+/// measuring one.
 pub fn set_up(fields: &[&[u8]]) -> Option<(u32, u32, Limits)> {
     let mut numbers = fields.iter().map(|field| natural(field)).collect::<Option<Vec<u32>>>()?;
     if numbers.len() == 6 {
         numbers.push(MEASURING);
     }
-    let [post, channel, volt, charge, discharge, silence, sensor] = numbers[..] else {
+    if numbers.len() == 7 {
+        numbers.push(NEWER);
+    }
+    let [post, channel, volt, charge, discharge, silence, sensor, interface] = numbers[..] else {
         return None;
     };
-    Some((post, channel, Limits { volt, charge, discharge, silence, sensor }))
+    Some((post, channel, Limits { volt, charge, discharge, silence, sensor, interface }))
 }
 
-/// Steps that need no post.
-fn message_step(desk: &Desk, fields: &[&[u8]]) -> Option<String> {
-    match *fields {
-        [b"read", id, form, payload] => {
-            let message = (desk.reader)(identifier(id)?, extended(form)?, &bytes(payload)?);
+/// Steps that need no post, by the pages of that interface.
+fn message_step(desk: &Desk, interface: u32, word: &[u8], fields: &[&[u8]]) -> Option<String> {
+    let (id, form, rest) = match fields {
+        [id, form, rest @ ..] => (identifier(id)?, extended(form)?, rest),
+        _ => return None,
+    };
+    let heading = Heading { interface, id, extended: form };
+    match (word, rest) {
+        (b"read", [payload]) => {
+            let message = (desk.reader)(heading, &bytes(payload)?);
             Some(said(message, |message| format!("A {}", record::message(&message))))
         }
-        [b"change", id, form, payload, start, raw] => {
-            let (id, extended, start, raw) = (identifier(id)?, extended(form)?, natural(start)?, number(raw)?);
+        (b"change", [payload, start, raw]) => {
+            let (start, raw) = (natural(start)?, number(raw)?);
             let mut payload = bytes(payload)?;
-            let changed = (desk.changer)(id, extended, &mut payload, start, raw);
+            let changed = (desk.changer)(heading, &mut payload, start, raw);
             Some(format!("{} {}", said(changed, |()| "A".to_string()), hex(&payload)))
         }
-        [b"write", id, form, fields, buffer] => {
-            write(identifier(id)?, extended(form)?, &values(fields)?, bytes(buffer)?)
-        }
-        [b"explain", number] => explain_number(number),
+        (b"write", [fields, buffer]) => write(heading, &values(fields)?, bytes(buffer)?),
         _ => None,
     }
 }
@@ -213,15 +221,15 @@ fn said<T>(outcome: Result<T, Refusal>, accepted: impl FnOnce(T) -> String) -> S
     }
 }
 
-fn write(id: u32, extended: bool, values: &[i64], mut buffer: Vec<u8>) -> Option<String> {
-    let Some(page) = pages::find(id, extended) else {
+fn write(heading: Heading, values: &[i64], mut buffer: Vec<u8>) -> Option<String> {
+    let Some(page) = heading.page() else {
         return Some("X".to_string());
     };
     if values.len() != page.signals.len() {
         return None;
     }
     let written = codec::write(page, values, &mut buffer);
-    let outcome = said(written, |()| format!("A {id:x} {}", page.len));
+    let outcome = said(written, |()| format!("A {:x} {}", page.id, page.len));
     Some(format!("{outcome} {}", hex(&buffer)))
 }
 
@@ -286,7 +294,10 @@ fn room(field: &[u8]) -> Option<usize> {
     natural(field).filter(|places| *places <= MOST_PLACES).map(|places| places as usize)
 }
 
-fn explain_number(field: &[u8]) -> Option<String> {
+fn explain_step(fields: &[&[u8]]) -> Option<String> {
+    let [field] = fields else {
+        return None;
+    };
     let words = match field.strip_prefix(b"R") {
         Some(refusal) => match refusal.strip_prefix(b"5:") {
             Some(start) => explain::no_label(natural(start)?),

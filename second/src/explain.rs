@@ -17,7 +17,7 @@ const FINDINGS: [&str; 11] = [
 /// An answer as one word has eight bits for a start.
 const LAST_START: u32 = 255;
 
-const REFUSALS: [&str; 28] = [
+const REFUSALS: [&str; 29] = [
     "channel above 31, or held by no post",
     "time earlier than the post's latest accepted frame or tick",
     "identifier not in the table, standard and extended ones told apart",
@@ -46,6 +46,7 @@ const REFUSALS: [&str; 28] = [
     "a malformed or cut log in a comparison",
     "more than 512 records in a log of a comparison",
     "fewer than 512 places for the record numbers of a comparison",
+    "identifier that only the other interface has",
 ];
 
 /// The words of each finding in the number; none where it has a bit that is no finding.

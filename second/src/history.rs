@@ -2,6 +2,7 @@
 //!
 //! Nothing here is carried along from event to event: each question scans the list.
 
+use crate::asked::{FINISHED, OPENING};
 use crate::codec::Message;
 use crate::pages::Kind;
 
@@ -13,24 +14,24 @@ pub struct Event {
 }
 
 impl Event {
-    pub fn is(&self, kind: Kind) -> bool {
-        self.of(kind).is_some()
+    pub fn is(&self, kinds: &[Kind]) -> bool {
+        self.of(kinds).is_some()
     }
 
-    /// The event's message, if it is of that kind.
-    pub fn of(&self, kind: Kind) -> Option<&Message> {
-        self.message.as_ref().filter(|message| message.kind == kind)
+    /// The event's message, if it is of one of these kinds.
+    pub fn of(&self, kinds: &[Kind]) -> Option<&Message> {
+        self.message.as_ref().filter(|message| kinds.contains(&message.kind))
     }
 }
 
-/// The latest event of a kind.
-pub fn latest(past: &[Event], kind: Kind) -> Option<&Event> {
-    past.iter().rev().find(|event| event.is(kind))
+/// The latest event of these kinds.
+pub fn latest<'a>(past: &'a [Event], kinds: &[Kind]) -> Option<&'a Event> {
+    past.iter().rev().find(|event| event.is(kinds))
 }
 
-/// The latest message of a kind.
-pub fn latest_message(past: &[Event], kind: Kind) -> Option<&Message> {
-    latest(past, kind)?.of(kind)
+/// The latest message of these kinds.
+pub fn latest_message<'a>(past: &'a [Event], kinds: &[Kind]) -> Option<&'a Message> {
+    latest(past, kinds)?.of(kinds)
 }
 
 /// The events from the opening of the open session on, the opening first; none where no session is open.
@@ -38,9 +39,9 @@ pub fn latest_message(past: &[Event], kind: Kind) -> Option<&Message> {
 /// Open means: behind the last Charge_Session_Finished there is a New_Charge_Session. The first such one opened the
 /// session; the others are repeats.
 pub fn session(past: &[Event]) -> Option<&[Event]> {
-    let finished = past.iter().rposition(|event| event.is(Kind::ChargeSessionFinished));
+    let finished = past.iter().rposition(|event| event.is(FINISHED));
     let since = &past[finished.map_or(0, |place| place + 1)..];
-    let opening = since.iter().position(|event| event.is(Kind::NewChargeSession))?;
+    let opening = since.iter().position(|event| event.is(OPENING))?;
     Some(&since[opening..])
 }
 

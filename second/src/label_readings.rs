@@ -1,7 +1,7 @@
 //! Req 02 from both sides of each edge, and the decided reading of it (R2).
 
 use crate::fields::form;
-use crate::pages::PAGES;
+use crate::pages::{self, NEWER, OLDER};
 use crate::readings::holds;
 
 /// 02: "E2 and E16 keep 4".
@@ -18,20 +18,21 @@ fn e2_e3_e16() {
 
 #[test]
 fn one_byte_too_few_and_one_too_many_for_every_message() {
-    for page in &PAGES {
+    let older = pages::of(OLDER).map(|page| (page, " 0 1", "1"));
+    for (page, interface, one) in pages::of(NEWER).map(|page| (page, "", "")).chain(older) {
         let payload = |length: usize| "01".repeat(length);
         let short = if page.len == 1 { "-".to_string() } else { payload(page.len - 1) };
         let long = payload(page.len + 1);
         holds(&format!(
-            "setup 0 4 5000 1000 500 500 => A
-             read {id:x} {form} {short} => R4
-             read {id:x} {form} {long} => R15
-             read {id:x} {form} {far} => R15
+            "setup 0 4 5000 1000 500 500{interface} => A
+             read{one} {id:x} {form} {short} => R4
+             read{one} {id:x} {form} {long} => R15
+             read{one} {id:x} {form} {far} => R15
              frame 4 0 {id:x} {form} - => R4
              frame 4 0 {id:x} {form} {short} => R4
              frame 4 0 {id:x} {form} {long} => R15
-             change {id:x} {form} {short} 0 1 => R4 {short}
-             change {id:x} {form} {long} 0 1 => R15 {long}",
+             change{one} {id:x} {form} {short} 0 1 => R4 {short}
+             change{one} {id:x} {form} {long} 0 1 => R15 {long}",
             id = page.id,
             form = form(page.extended),
             far = payload(300),

@@ -1,8 +1,7 @@
 //! Wrong readings of Req 02.
 
-use crate::codec::{self, Message, Reader, Refusal};
+use crate::codec::{self, Heading, Message, Reader, Refusal};
 use crate::desk::Desk;
-use crate::pages;
 
 /// In place of the right reader wherever a frame is read.
 const WRONG_READERS: [(&str, Reader); 3] = [
@@ -21,7 +20,7 @@ pub fn names() -> impl Iterator<Item = &'static str> {
 /// `None` where there is no slip of that name.
 pub fn put_into(desk: &mut Desk, name: &str) -> Option<()> {
     match name {
-        FRAME_WITHOUT_START => desk.table.reader = |id, extended, bytes| dropped(codec::read(id, extended, bytes)),
+        FRAME_WITHOUT_START => desk.table.reader = |heading, bytes| dropped(codec::read(heading, bytes)),
         CHANGE_WITHOUT_START => desk.changer = own_start_dropped,
         _ => {
             desk.reader = WRONG_READERS.iter().find(|(known, _)| *known == name)?.1;
@@ -31,9 +30,9 @@ pub fn put_into(desk: &mut Desk, name: &str) -> Option<()> {
     Some(())
 }
 
-fn last_offender(id: u32, extended: bool, bytes: &[u8]) -> Result<Message, Refusal> {
-    let read = codec::read(id, extended, bytes);
-    match (read, pages::find(id, extended)) {
+fn last_offender(heading: Heading, bytes: &[u8]) -> Result<Message, Refusal> {
+    let read = codec::read(heading, bytes);
+    match (read, heading.page()) {
         (Err(Refusal::NoLabel { .. }), Some(page)) => {
             Err(Refusal::NoLabel { start: codec::offenders(page, bytes).into_iter().max().expect("one that offends") })
         }
@@ -42,17 +41,17 @@ fn last_offender(id: u32, extended: bool, bytes: &[u8]) -> Result<Message, Refus
 }
 
 /// The labels of a frame that is too long judged by the bytes that the message would have.
-fn too_long_after_labels(id: u32, extended: bool, bytes: &[u8]) -> Result<Message, Refusal> {
-    match (codec::read(id, extended, bytes), pages::find(id, extended)) {
+fn too_long_after_labels(heading: Heading, bytes: &[u8]) -> Result<Message, Refusal> {
+    match (codec::read(heading, bytes), heading.page()) {
         (Err(Refusal::Number(15)), Some(page)) => {
-            codec::read(id, extended, &bytes[..page.len]).and(Err(Refusal::Number(15)))
+            codec::read(heading, &bytes[..page.len]).and(Err(Refusal::Number(15)))
         }
         (read, _) => read,
     }
 }
 
-fn one_number_for_both_lengths(id: u32, extended: bool, bytes: &[u8]) -> Result<Message, Refusal> {
-    match codec::read(id, extended, bytes) {
+fn one_number_for_both_lengths(heading: Heading, bytes: &[u8]) -> Result<Message, Refusal> {
+    match codec::read(heading, bytes) {
         Err(Refusal::Number(15)) => Err(Refusal::Number(4)),
         read => read,
     }
@@ -66,7 +65,7 @@ pub fn dropped<T>(outcome: Result<T, Refusal>) -> Result<T, Refusal> {
 }
 
 /// The frame's own 5 is handed on with its start, and only that of the new label has none.
-fn own_start_dropped(id: u32, extended: bool, bytes: &mut [u8], start: u32, raw: i64) -> Result<(), Refusal> {
-    codec::read(id, extended, bytes)?;
-    dropped(codec::change(id, extended, bytes, start, raw))
+fn own_start_dropped(heading: Heading, bytes: &mut [u8], start: u32, raw: i64) -> Result<(), Refusal> {
+    codec::read(heading, bytes)?;
+    dropped(codec::change(heading, bytes, start, raw))
 }

@@ -1,6 +1,7 @@
 //! A second program for 01: answers desk scripts, makes them, and compares other programs by them.
 
 mod arguments;
+mod asked;
 mod batch;
 mod batch_coverage;
 #[cfg(test)]
@@ -16,6 +17,8 @@ mod codec;
 mod compare;
 mod coverage;
 mod desk;
+#[cfg(test)]
+mod documents;
 mod explain;
 mod fields;
 mod history;
@@ -27,6 +30,11 @@ mod log_line;
 #[cfg(test)]
 mod log_readings;
 mod log_slips;
+mod older_coverage;
+mod older_pages;
+#[cfg(test)]
+mod older_readings;
+mod older_slips;
 mod pages;
 mod posts;
 mod program;

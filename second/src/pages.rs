@@ -1,10 +1,15 @@
-//! The messages: the nine of 01, typed from the maker's charger-side pages (000), and behind them 004's.
+//! The messages: the nine of 01, typed from the maker's charger-side pages (000), and which pages a post has beside 004's.
 //!
 //! Start bits, widths, signs and label numbers are those of 000's sections, in the order of those sections.
 
-use crate::safety_pages::{CHARGE_CONTROL_1, CHARGE_STATE_1, PT1000_STATE};
+use crate::older_pages::OLDER_PAGES;
+use crate::safety_pages::SAFETY_PAGES;
 
-/// The kinds, in the order of the table.
+/// The interfaces of a post, as a set-up names them: 000's pages, and those of 001, the older controllers.
+pub const NEWER: u32 = 0;
+pub const OLDER: u32 = 1;
+
+/// The kinds, in the order of all pages: of 000, of 004, and of 001, whose names say so where 000 has the same.
 #[derive(Clone, Copy, Debug, PartialEq, Eq)]
 pub enum Kind {
     PowerModulesStatus,
@@ -19,11 +24,29 @@ pub enum Kind {
     ChargeControl1,
     ChargeState1,
     Pt1000State,
+    OlderPowerModulesStatus,
+    PowerModulesLimits,
+    SequenceControl,
+    AdmCsSeccOutputs,
+    OlderNewChargeSession,
+    InsulationTest,
+    Precharge,
+    OlderChargeStatusChange,
+    ChargingLoop,
+    OlderEmergencyStop,
+    OlderChargeSessionFinished,
+    OlderAdvanticsControllerStatus,
+    AdmCoCui1Inputs,
+    AdmCsSeccInputs,
+    OlderEvIdCcsPart2Din,
+    AdmCsSpccInputs,
+    CcsExtraInformation,
+    McsExtraInformation,
 }
 
 impl Kind {
     pub fn page(self) -> &'static Page {
-        &PAGES[self as usize]
+        all().nth(self as usize).expect("a page for each kind, in their order")
     }
 }
 
@@ -34,7 +57,8 @@ pub enum Unit {
     Amps,
     Celsius,
     KiloOhms,
-    /// Whole tenths of a percent or of a degree, as 004 has them.
+    KiloWattHours,
+    /// Whole tenths of a percent or of a degree.
     Tenths,
 }
 
@@ -82,7 +106,12 @@ pub const fn label(name: &'static str, start: u32, width: u32, labels: &'static 
     Signal { name, start, width, signed: false, unit: Unit::None, labels: Some(labels) }
 }
 
-pub const PAGES: [Page; 12] = [
+/// A single bit, 0 or 1.
+pub const fn flag(name: &'static str, start: u32) -> Signal {
+    unsigned(name, start, 1, Unit::None)
+}
+
+const NEWER_PAGES: [Page; 9] = [
     Page {
         name: "Power_Modules_Status",
         kind: Kind::PowerModulesStatus,
@@ -239,14 +268,35 @@ pub const PAGES: [Page; 12] = [
             unsigned("Byte5", 40, 8, Unit::None),
         ],
     },
-    CHARGE_CONTROL_1,
-    CHARGE_STATE_1,
-    PT1000_STATE,
 ];
 
-/// The page of an identifier in that form.
-pub fn find(id: u32, extended: bool) -> Option<&'static Page> {
-    PAGES.iter().find(|page| page.id == id && page.extended == extended)
+/// Every page there is.
+pub fn all() -> impl Iterator<Item = &'static Page> {
+    NEWER_PAGES.iter().chain(&SAFETY_PAGES).chain(&OLDER_PAGES)
+}
+
+/// The pages of a post with that interface: 004's go with either.
+pub fn of(interface: u32) -> impl Iterator<Item = &'static Page> {
+    let own: &'static [Page] = if interface == OLDER { &OLDER_PAGES } else { &NEWER_PAGES };
+    own.iter().chain(&SAFETY_PAGES)
+}
+
+/// The page of an identifier in that form, on the pages of that interface.
+pub fn find(interface: u32, id: u32, extended: bool) -> Option<&'static Page> {
+    of(interface).find(|page| page.id == id && page.extended == extended)
+}
+
+pub fn other(interface: u32) -> u32 {
+    if interface == OLDER {
+        NEWER
+    } else {
+        OLDER
+    }
+}
+
+/// 02: an "identifier only the other interface has", in that very form.
+pub fn only_other_has(interface: u32, id: u32, extended: bool) -> bool {
+    find(interface, id, extended).is_none() && find(other(interface), id, extended).is_some()
 }
 
 #[cfg(test)]
@@ -255,9 +305,18 @@ mod tests {
     use crate::codec::places;
 
     #[test]
-    fn each_kind_finds_its_own_page() {
-        for page in &PAGES {
-            assert_eq!(page.kind.page().id, page.id);
+    fn each_kind_has_a_page_of_its_own() {
+        assert_eq!(all().count(), 30);
+        for page in all() {
+            assert_eq!(page.kind.page().id, page.id, "{}", page.name);
+        }
+    }
+
+    /// "000 and 001 share no identifier", so that each frame is of one interface or of both by 004.
+    #[test]
+    fn no_two_pages_share_an_identifier() {
+        for page in all() {
+            assert_eq!(all().filter(|other| other.id == page.id).count(), 1, "{:x}", page.id);
         }
     }
 
@@ -270,21 +329,40 @@ mod tests {
         covered
     }
 
+    /// The bits that no signal covers; no bit has two.
+    fn left(page: &Page) -> Vec<usize> {
+        let covered = covered(page);
+        assert!(covered.iter().all(|&times| times <= 1), "{}", page.name);
+        (0..covered.len()).filter(|&bit| covered[bit] == 0).collect()
+    }
+
     /// Reading M1: every bit of every base message is covered, by one signal only.
     #[test]
     fn signals_of_000_cover_each_bit_once() {
-        for page in PAGES.iter().filter(|page| page.order == Order::Little) {
-            assert!(covered(page).iter().all(|&times| times == 1), "{}", page.name);
+        for page in &NEWER_PAGES {
+            assert_eq!(left(page), [], "{}", page.name);
         }
     }
 
     /// 004 leaves bits uncovered: 64 less the widths of its signals.
     #[test]
     fn signals_of_004_cover_no_bit_twice() {
-        for (page, left) in [(&CHARGE_CONTROL_1, 51), (&CHARGE_STATE_1, 64 - 28), (&PT1000_STATE, 0)] {
-            let covered = covered(page);
-            assert!(covered.iter().all(|&times| times <= 1), "{}", page.name);
-            assert_eq!(covered.iter().filter(|&&times| times == 0).count(), left, "{}", page.name);
+        for (page, bits) in SAFETY_PAGES.iter().zip([51, 64 - 28, 0]) {
+            assert_eq!(left(page).len(), bits, "{}", page.name);
+        }
+    }
+
+    /// R10: "Sequence_Control 2-7, 11-15, 17-23; ADM_CS_SPCC_Inputs 40-47".
+    #[test]
+    fn signals_of_001_cover_all_but_these() {
+        assert_eq!(OLDER_PAGES.iter().map(|page| page.signals.len()).sum::<usize>(), 78);
+        for page in &OLDER_PAGES {
+            let bits: Vec<usize> = match page.kind {
+                Kind::SequenceControl => (2..8).chain(11..16).chain(17..24).collect(),
+                Kind::AdmCsSpccInputs => (40..48).collect(),
+                _ => Vec::new(),
+            };
+            assert_eq!(left(page), bits, "{}", page.name);
         }
     }
 }

@@ -1,8 +1,9 @@
 //! The table of posts: set-up, release, and which post a frame or tick goes to.
 
 use crate::clock::unrolled;
-use crate::codec::{self, Reader, Refusal};
+use crate::codec::{self, Heading, Message, Reader, Refusal};
 use crate::history::{latest_time, Event};
+use crate::pages::{only_other_has, NEWER, OLDER};
 use crate::rules::{findings, Limits, Rule, MEASURING, RULES, YES_NO};
 use crate::tallies::{FULL, LARGEST};
 
@@ -52,6 +53,15 @@ pub enum Request {
 /// The unrolled time of an arrival for the post at that place, received at that time; none where it is earlier than the latest.
 pub type Clock = fn(&[Option<Post>], usize, u32) -> Option<u64>;
 
+/// What a post with that interface makes of a frame, with that reader for its own pages.
+pub type Hearing = fn(Reader, u32, &Frame) -> Result<Message, Refusal>;
+
+/// The event that an arrival is to the post at that place, if nothing refuses it.
+pub type Listener = fn(&Table, usize, &Arrival) -> Result<Event, Refusal>;
+
+/// 29: "A frame whose identifier only the other interface has".
+pub const OTHER_INTERFACE: Refusal = Refusal::Number(29);
+
 /// The limits that a set-up puts in force on the post that stands there, if one does; none where one is outside its
 /// range.
 pub type Admission = fn(Option<&Post>, Limits) -> Option<Limits>;
@@ -65,6 +75,8 @@ pub struct Table {
     pub rules: [Rule; RULES.len()],
     pub clock: Clock,
     pub reader: Reader,
+    pub hearing: Hearing,
+    pub listener: Listener,
     pub admission: Admission,
 }
 
@@ -77,6 +89,8 @@ impl Table {
             rules: RULES,
             clock: own_clock,
             reader: codec::read,
+            hearing: by_own_pages,
+            listener: timed_and_read,
             admission: in_range,
         }
     }
@@ -111,8 +125,8 @@ impl Table {
         self.posts[place(post)?].as_ref().ok_or(Refusal::Number(14))
     }
 
-    /// Gives 1 to 6, the lowest that applies, with 15 in 4's place, and after all of them 25; a refused arrival is part of
-    /// no history.
+    /// Gives 1 to 6, the lowest that applies, with 29 in 3's place and 15 in 4's, and after all of them 25; a refused arrival
+    /// is part of no history.
     pub fn feed(&mut self, arrival: &Arrival) -> Result<u32, Refusal> {
         let outcome = self.hear(arrival);
         let place = self.holder(arrival.channel);
@@ -122,19 +136,20 @@ impl Table {
 
     fn hear(&mut self, arrival: &Arrival) -> Result<u32, Refusal> {
         let place = self.holder(arrival.channel).ok_or(Refusal::Number(1))?;
-        let time = (self.clock)(&self.posts, place, arrival.time).ok_or(Refusal::Number(2))?;
-        let post = self.posts[place].as_mut().ok_or(Refusal::Number(1))?;
-        let message = match &arrival.frame {
-            Some(frame) => Some((self.reader)(frame.id, frame.extended, frame.bytes)?),
-            None => None,
-        };
+        let event = (self.listener)(self, place, arrival)?;
+        let post = self.posts[place].as_mut().expect("the channel's holder");
         if post.history.len() >= self.largest as usize {
             return Err(FULL);
         }
-        let event = Event { time, message };
         let found = findings(&self.rules, &post.limits, &post.history, &event);
         post.history.push(event);
         Ok(found)
+    }
+
+    /// What a frame says to the post at that place.
+    pub fn read(&self, place: usize, frame: &Frame) -> Result<Message, Refusal> {
+        let post = self.posts[place].as_ref().expect("the channel's holder");
+        (self.hearing)(self.reader, post.limits.interface, frame)
     }
 
     /// The post that holds a channel.
@@ -157,13 +172,30 @@ fn place(post: u32) -> Result<usize, Refusal> {
     }
 }
 
+/// 2 before all that is wrong with a frame.
+pub fn timed_and_read(table: &Table, place: usize, arrival: &Arrival) -> Result<Event, Refusal> {
+    let time = (table.clock)(&table.posts, place, arrival.time).ok_or(Refusal::Number(2))?;
+    let message = arrival.frame.as_ref().map(|frame| table.read(place, frame)).transpose()?;
+    Ok(Event { time, message })
+}
+
+/// 02: "gets, on that post, a refusal number of its own in 3's place, never a message".
+pub fn by_own_pages(reader: Reader, interface: u32, frame: &Frame) -> Result<Message, Refusal> {
+    let read = reader(Heading { interface, id: frame.id, extended: frame.extended }, frame.bytes);
+    match read {
+        Err(Refusal::Number(3)) if only_other_has(interface, frame.id, frame.extended) => Err(OTHER_INTERFACE),
+        read => read,
+    }
+}
+
 /// What stood before does not count.
 pub fn in_range(_: Option<&Post>, limits: Limits) -> Option<Limits> {
     let good = (1..=65_535).contains(&limits.volt)
         && (1..=32_767).contains(&limits.charge)
         && limits.discharge <= 32_767
         && (100..=60_000).contains(&limits.silence)
-        && matches!(limits.sensor, MEASURING | YES_NO);
+        && matches!(limits.sensor, MEASURING | YES_NO)
+        && matches!(limits.interface, NEWER | OLDER);
     good.then_some(limits)
 }
 

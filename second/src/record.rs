@@ -1,10 +1,11 @@
 //! A post's record as one line: 01's "A post's record is", each part looked up in the list of its events.
 
+use crate::asked::{protocol_and_plug, CONTROL, STATUS};
 use crate::clock::{age, as_received};
 use crate::codec::Message;
 use crate::fields::form;
 use crate::history::{latest, latest_time, session, Event};
-use crate::pages::{Kind, Page, PAGES};
+use crate::pages::{self, Kind, Page};
 use crate::posts::Post;
 use crate::tallies::Counts;
 
@@ -12,6 +13,10 @@ use crate::tallies::Counts;
 pub struct Form {
     /// The order of the latest messages.
     pub order: fn(&Page) -> (bool, u32),
+    /// What stands for DC_Power_Control in the session's part.
+    pub control: &'static [Kind],
+    /// What is told of the session's opening.
+    pub first: fn(&Message) -> Vec<i64>,
     /// `T`, for the latest accepted time and the kept one, both unrolled.
     pub kept: fn(u64, u64) -> String,
 }
@@ -20,6 +25,8 @@ pub struct Form {
 /// them".
 pub const FORM: Form = Form {
     order: |page| (page.extended, page.id),
+    control: CONTROL,
+    first: |opening| protocol_and_plug(opening).to_vec(),
     kept: |latest, kept| format!("{}+{}", as_received(kept), age(latest, kept)),
 };
 
@@ -32,7 +39,8 @@ pub fn line_in(form: &Form, post: &Post, counts: &Counts) -> String {
     let session = session(past);
     let kept = |event: &Event| (form.kept)(latest_time(past).unwrap_or(event.time), event.time);
     let stamped = |event: &Event| event.message.map(|known| format!("{}@{}", message(&known), kept(event)));
-    let in_session = |kind| session.and_then(|session| latest(session, kind)).and_then(stamped);
+    let in_session = |kinds| session.and_then(|session| latest(session, kinds)).and_then(stamped);
+    let first = session.and_then(|session| session[0].message);
     let limits = &post.limits;
     let parts = [
         format!("K ch={}", post.channel),
@@ -41,12 +49,13 @@ pub fn line_in(form: &Form, post: &Post, counts: &Counts) -> String {
         format!("dis={}", limits.discharge),
         format!("w={}", limits.silence),
         format!("sensor={}", limits.sensor),
+        format!("iface={}", limits.interface),
         format!("last={}", or_none(latest_time(past).map(|time| as_received(time).to_string()))),
         format!("open={}", u8::from(session.is_some())),
         format!("since={}", or_none(session.map(|session| kept(&session[0])))),
-        format!("first={}", or_none(session.and_then(|session| session[0].message).map(|first| values(&first)))),
-        format!("spms={}", or_none(in_session(Kind::PowerModulesStatus))),
-        format!("sdpc={}", or_none(in_session(Kind::DcPowerControl))),
+        format!("first={}", or_none(first.map(|first| joined(&(form.first)(&first))))),
+        format!("spms={}", or_none(in_session(STATUS))),
+        format!("sdpc={}", or_none(in_session(form.control))),
         format!("n={}", counts.accepted),
         format!("tally={}", counts.tallies.map(|tally| tally.to_string()).join(",")),
         format!("latest={}", or_none(each_latest(past, form.order, stamped))),
@@ -57,11 +66,11 @@ pub fn line_in(form: &Form, post: &Post, counts: &Counts) -> String {
 /// `MSG`: `ID` `x`|`s` `:` `VALUES`.
 pub fn message(message: &Message) -> String {
     let page = message.kind.page();
-    format!("{:x}{}:{}", page.id, form(page.extended), values(message))
+    format!("{:x}{}:{}", page.id, form(page.extended), joined(&message.values()))
 }
 
-fn values(message: &Message) -> String {
-    let values: Vec<String> = message.values().iter().map(i64::to_string).collect();
+fn joined(values: &[i64]) -> String {
+    let values: Vec<String> = values.iter().map(i64::to_string).collect();
     values.join(",")
 }
 
@@ -70,9 +79,9 @@ fn each_latest(
     order: fn(&Page) -> (bool, u32),
     stamped: impl Fn(&Event) -> Option<String>,
 ) -> Option<String> {
-    let mut pages = PAGES.each_ref();
+    let mut pages: Vec<&Page> = pages::all().collect();
     pages.sort_by_key(|page| order(page));
-    let all: Vec<String> = pages.iter().filter_map(|page| latest(past, page.kind)).filter_map(stamped).collect();
+    let all: Vec<String> = pages.iter().filter_map(|page| latest(past, &[page.kind])).filter_map(stamped).collect();
     (!all.is_empty()).then(|| all.join(";"))
 }
 

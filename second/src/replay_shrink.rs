@@ -116,7 +116,7 @@ pub fn earlier(bytes: &[u8]) -> Vec<Vec<u8>> {
     simpler
 }
 
-/// Each number of each set-up smaller, and its sensor unsaid.
+/// Each number of each set-up smaller, and its last field, a sensor or an interface, unsaid.
 fn smaller(set_ups: &[Vec<u32>]) -> Vec<Vec<Vec<u32>>> {
     let mut simpler = Vec::new();
     for (place, numbers) in set_ups.iter().enumerate() {

@@ -1,10 +1,14 @@
 //! The findings F1 to F11 of 01, each as a question to the history before the event and to the event.
 
+use crate::asked::{
+    function, protocol_and_plug, told, Limit, CONTROL, CONTROLLER_STATUS, DC_POWER_CONTROL, FINISHED, OPENING, STATUS,
+    TOLD,
+};
 use crate::codec::Message;
 use crate::history::{latest, latest_message, session, Event};
-use crate::pages::{Kind, Unit};
+use crate::pages::Unit;
 
-/// A post's defaults: tenths of a volt, tenths of an ampere, milliseconds; and its insulation sensor's kind.
+/// A post's defaults: tenths of a volt, tenths of an ampere, milliseconds; its insulation sensor's kind; and its interface.
 #[derive(Clone, Copy, Debug)]
 pub struct Limits {
     pub volt: u32,
@@ -12,6 +16,7 @@ pub struct Limits {
     pub discharge: u32,
     pub silence: u32,
     pub sensor: u32,
+    pub interface: u32,
 }
 
 /// The kinds of a sensor: one that measures, and one that only knows yes and no.
@@ -33,18 +38,18 @@ pub const CONTROLLER_LIMIT: u64 = 200;
 
 fn f1(limits: &Limits, past: &[Event], event: &Event) -> bool {
     session(past).is_some_and(|session| {
-        let status = latest(session, Kind::PowerModulesStatus).map(|status| status.time);
+        let status = latest(session, STATUS).map(|status| status.time);
         let later = status.unwrap_or(0).max(session[0].time);
         event.time - later > u64::from(limits.silence)
     })
 }
 
 fn f2(_: &Limits, past: &[Event], event: &Event) -> bool {
-    latest(past, Kind::AdvanticsControllerStatus).is_some_and(|status| event.time - status.time > CONTROLLER_LIMIT)
+    latest(past, CONTROLLER_STATUS).is_some_and(|status| event.time - status.time > CONTROLLER_LIMIT)
 }
 
 fn f3(_: &Limits, past: &[Event], event: &Event) -> bool {
-    event.of(Kind::DcPowerControl).is_some_and(|control| control.label("Output_Contactors") == "Close")
+    event.of(DC_POWER_CONTROL).is_some_and(|control| control.label("Output_Contactors") == "Close")
         && session(past).is_none()
 }
 
@@ -57,7 +62,7 @@ fn f5(_: &Limits, past: &[Event], event: &Event) -> bool {
 }
 
 fn f6(_: &Limits, _: &[Event], event: &Event) -> bool {
-    event.of(Kind::DcPowerControl).is_some_and(|control| {
+    event.of(DC_POWER_CONTROL).is_some_and(|control| {
         let setpoint =
             control.signals().any(|(signal, raw)| matches!(signal.unit, Unit::Volts | Unit::Amps) && raw != 0);
         control.label("Lower_Output_Voltage") == "Lowering"
@@ -66,18 +71,18 @@ fn f6(_: &Limits, _: &[Event], event: &Event) -> bool {
 }
 
 fn f7(limits: &Limits, past: &[Event], event: &Event) -> bool {
-    event.of(Kind::DcPowerControl).is_some_and(|control| {
+    event.of(DC_POWER_CONTROL).is_some_and(|control| {
         control.label("Power_Function") != "Off"
-            && control.raw("Target_Voltage") > limit(limits.volt, past, "Maximum_Voltage")
+            && control.raw("Target_Voltage") > limit(limits.volt, past, Limit::Voltage)
     })
 }
 
 fn f8(limits: &Limits, past: &[Event], event: &Event) -> bool {
-    event.of(Kind::PowerModulesStatus).is_some_and(|status| {
+    event.of(STATUS).is_some_and(|status| {
         let current = status.raw("Present_Current");
         session(past).is_some()
-            && (current > limit(limits.charge, past, "Maximum_Charge_Current")
-                || current < -limit(limits.discharge, past, "Maximum_Discharge_Current"))
+            && (current > limit(limits.charge, past, Limit::Charge)
+                || current < -limit(limits.discharge, past, Limit::Discharge))
     })
 }
 
@@ -86,32 +91,31 @@ fn f9(limits: &Limits, past: &[Event], event: &Event) -> bool {
 }
 
 fn f10(_: &Limits, past: &[Event], event: &Event) -> bool {
-    event.of(Kind::NewChargeSession).is_some_and(|repeat| {
-        let first = session(past).and_then(|session| session[0].of(Kind::NewChargeSession));
-        first.is_some_and(|first| repeat != first)
+    event.of(OPENING).is_some_and(|repeat| {
+        let first = session(past).and_then(|session| session[0].of(OPENING));
+        first.is_some_and(|first| protocol_and_plug(repeat) != protocol_and_plug(first))
     })
 }
 
 fn f11(_: &Limits, past: &[Event], event: &Event) -> bool {
-    event.is(Kind::ChargeSessionFinished) && session(past).is_none()
+    event.is(FINISHED) && session(past).is_none()
 }
 
 /// F4 and F5's "insulation test, precharge or power transfer".
 pub fn powers(event: &Event) -> bool {
-    event.of(Kind::DcPowerControl).is_some_and(|control| {
-        matches!(control.label("Power_Function"), "Insulation_Test" | "Precharge" | "Power_Transfer")
-    })
+    let powers = |control| matches!(function(control), "Insulation_Test" | "Precharge" | "Power_Transfer");
+    event.of(CONTROL).is_some_and(powers)
 }
 
 /// The status that F9 looks at: in a session "whose latest DC_Power_Control is precharge or power transfer".
 pub fn under_power<'a>(past: &[Event], event: &'a Event) -> Option<&'a Message> {
-    let control = latest_message(session(past)?, Kind::DcPowerControl);
-    event.of(Kind::PowerModulesStatus).filter(|_| control.is_some_and(live))
+    let control = latest_message(session(past)?, CONTROL);
+    event.of(STATUS).filter(|_| control.is_some_and(live))
 }
 
 /// F9's "precharge or power transfer".
 pub fn live(control: &Message) -> bool {
-    matches!(control.label("Power_Function"), "Precharge" | "Power_Transfer")
+    matches!(function(control), "Precharge" | "Power_Transfer")
 }
 
 /// 02: "For a yes/no sensor F9's insulation test is raw 0 and nothing else; for a measuring one F9 stays".
@@ -133,15 +137,15 @@ pub fn poor_measure(status: &Message) -> bool {
 }
 
 pub fn allowed(events: &[Event]) -> bool {
-    latest_message(events, Kind::PowerModulesStatus).is_some_and(|status| status.label("System_Enable") == "Allowed")
+    latest_message(events, STATUS).is_some_and(|status| status.label("System_Enable") == "Allowed")
 }
 
 /// 01: "the smaller of the default and the latest DC_Power_Parameters number since set-up; 0 or none received means
-/// the default".
-pub fn limit(default: u32, past: &[Event], signal: &str) -> i64 {
+/// the default"; 02: "a current of 0 or less meaning the default".
+pub fn limit(default: u32, past: &[Event], which: Limit) -> i64 {
     let default = i64::from(default);
-    match latest_message(past, Kind::DcPowerParameters).map(|parameters| parameters.raw(signal)) {
-        None | Some(0) => default,
-        Some(received) => received.min(default),
+    match latest_message(past, TOLD).and_then(|limits| told(limits, which)) {
+        Some(received) if received > 0 => received.min(default),
+        _ => default,
     }
 }

@@ -1,6 +1,6 @@
 //! What a step shows of the safety controller's frames and of the service screen (Req 04).
 
-/// The words that bring a frame, and where its identifier stands.
+/// The words that bring a frame, by the pages of either interface, and where its identifier stands.
 const WORDS: [(&str, usize); 4] = [("frame", 3), ("read", 1), ("change", 1), ("write", 1)];
 
 const OTHERS: [&str; 18] = [
@@ -56,7 +56,8 @@ pub fn those(shown: &[(bool, &str)]) -> Vec<String> {
 }
 
 fn by_frame(fields: &[&str], answer: &str) -> Vec<String> {
-    let Some((word, place)) = WORDS.iter().find(|(word, _)| *word == fields[0]) else {
+    let by_older_pages = fields[0].strip_suffix('1').unwrap_or(fields[0]);
+    let Some((word, place)) = WORDS.iter().find(|(word, _)| *word == by_older_pages) else {
         return Vec::new();
     };
     let outcome = answer.split(' ').next().unwrap_or_default();
@@ -106,6 +107,8 @@ mod tests {
             ("read 6 s 03e8000000000000", "A 6s:1000,0,0,0", &["read 6s A"]),
             ("read 6b000 x 07", "A 6b000x:7", &[]),
             ("write 8 x 0 00", "X", &["write x X"]),
+            ("write1 8 x 0 00", "X", &["write x X"]),
+            ("read1 6 s 03e8000000000000", "A 6s:1000,0,0,0", &["read 6s A"]),
             ("probe 8191", "N", &["probe N"]),
             ("probe -1", "D bdcccccd", &["probe -1 D"]),
             ("duty 1000", "A 1000", &["duty A"]),

@@ -2,11 +2,9 @@
 //!
 //! 02: "identifiers 6, 7 and 8 (standard frames is our choice), eight bytes, big-endian signals".
 
-use crate::pages::{label, signed, unsigned, Kind, Order, Page, Signal, Unit};
+use crate::pages::{flag, label, signed, unsigned, Kind, Order, Page, Unit};
 
-const fn flag(name: &'static str, start: u32) -> Signal {
-    unsigned(name, start, 1, Unit::None)
-}
+pub const SAFETY_PAGES: [Page; 3] = [CHARGE_CONTROL_1, CHARGE_STATE_1, PT1000_STATE];
 
 pub const CHARGE_CONTROL_1: Page = Page {
     name: "ChargeControl1",

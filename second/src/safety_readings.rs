@@ -172,7 +172,7 @@ fn changing() {
 /// 02: "accepted and recorded as three more kinds, and raise only F1 and F2".
 #[test]
 fn on_a_post() {
-    let post = "K ch=4 volt=5000 chg=1000 dis=500 w=500 sensor=0";
+    let post = "K ch=4 volt=5000 chg=1000 dis=500 w=500 sensor=0 iface=0";
     holds(&format!(
         "setup 0 4 5000 1000 500 500 => A
          frame 4 5 8 s fe70000000000000 => A0

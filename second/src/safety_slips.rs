@@ -1,17 +1,17 @@
 //! Wrong readings of Req 04.
 
-use crate::codec::{self, Message, Places, Reader, Refusal};
+use crate::codec::{self, Heading, Message, Places, Reader, Refusal};
 use crate::desk::Desk;
 use crate::history::{session, Event};
-use crate::pages::{self, Kind, Order, Page, Signal};
+use crate::pages::{Kind, Order, Page, Signal};
 use crate::record::{self, Form, FORM};
 use crate::rules::{Limits, RULES};
 use crate::service::{self, Probe};
 
 /// In place of the right reader wherever a frame is read.
 const WRONG_READERS: [(&str, Reader); 6] = [
-    ("safety-lowest", |id, extended, bytes| taken_by(start_is_lowest, id, extended, bytes)),
-    ("safety-walk", |id, extended, bytes| taken_by(on_at_bit_0, id, extended, bytes)),
+    ("safety-lowest", |heading, bytes| taken_by(start_is_lowest, heading, bytes)),
+    ("safety-walk", |heading, bytes| taken_by(on_at_bit_0, heading, bytes)),
     ("safety-unsigned", unsigned_temperatures),
     ("safety-duty", duty_limited),
     ("safety-extended", extended_as_well),
@@ -47,8 +47,8 @@ pub fn put_into(desk: &mut Desk, name: &str) -> Option<()> {
     Some(())
 }
 
-fn taken_by(places: Places, id: u32, extended: bool, bytes: &[u8]) -> Result<Message, Refusal> {
-    let page = codec::read(id, extended, bytes)?.kind.page();
+fn taken_by(places: Places, heading: Heading, bytes: &[u8]) -> Result<Message, Refusal> {
+    let page = codec::read(heading, bytes)?.kind.page();
     Ok(codec::taken(places, page, bytes))
 }
 
@@ -73,22 +73,23 @@ fn changed(message: Message, change: impl Fn(&Signal, i64) -> i64) -> Message {
     Message::new(message.kind, &raws)
 }
 
-fn unsigned_temperatures(id: u32, extended: bool, bytes: &[u8]) -> Result<Message, Refusal> {
-    let message = codec::read(id, extended, bytes)?;
+fn unsigned_temperatures(heading: Heading, bytes: &[u8]) -> Result<Message, Refusal> {
+    let message = codec::read(heading, bytes)?;
     Ok(changed(message, |signal, raw| if signal.width == 14 { raw.rem_euclid(1 << 14) } else { raw }))
 }
 
-fn duty_limited(id: u32, extended: bool, bytes: &[u8]) -> Result<Message, Refusal> {
-    let message = codec::read(id, extended, bytes)?;
+fn duty_limited(heading: Heading, bytes: &[u8]) -> Result<Message, Refusal> {
+    let message = codec::read(heading, bytes)?;
     Ok(changed(message, |signal, raw| if signal.width == 10 { service::limited_duty(raw) } else { raw }))
 }
 
-fn extended_as_well(id: u32, extended: bool, bytes: &[u8]) -> Result<Message, Refusal> {
-    codec::read(id, extended && pages::find(id, false).is_none(), bytes)
+fn extended_as_well(heading: Heading, bytes: &[u8]) -> Result<Message, Refusal> {
+    let standard = Heading { extended: false, ..heading };
+    codec::read(if standard.page().is_some() { standard } else { heading }, bytes)
 }
 
-fn uncovered_bits_dropped(id: u32, extended: bool, bytes: &[u8]) -> Result<Message, Refusal> {
-    match (codec::read(id, extended, bytes), pages::find(id, extended)) {
+fn uncovered_bits_dropped(heading: Heading, bytes: &[u8]) -> Result<Message, Refusal> {
+    match (codec::read(heading, bytes), heading.page()) {
         (Err(Refusal::Number(6)), Some(page)) => Ok(codec::taken(codec::places, page, bytes)),
         (read, _) => read,
     }
@@ -97,5 +98,5 @@ fn uncovered_bits_dropped(id: u32, extended: bool, bytes: &[u8]) -> Result<Messa
 /// The contactors that the host asks the safety controller for taken for the charger's.
 fn f3_by_the_safety_controller(limits: &Limits, past: &[Event], event: &Event) -> bool {
     let closes = |control: &Message| control.raw("CC_Contactor1State") + control.raw("CC_Contactor2State") > 0;
-    RULES[2](limits, past, event) || event.of(Kind::ChargeControl1).is_some_and(closes) && session(past).is_none()
+    RULES[2](limits, past, event) || event.of(&[Kind::ChargeControl1]).is_some_and(closes) && session(past).is_none()
 }

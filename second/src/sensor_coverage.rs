@@ -1,7 +1,7 @@
 //! What a step shows of the two kinds of sensors (Req 03).
 
 use crate::clock::unrolled;
-use crate::codec;
+use crate::codec::{self, Heading};
 use crate::desk;
 use crate::fields::{bytes, extended, identifier, natural};
 use crate::history::{latest_time, Event};
@@ -22,8 +22,9 @@ pub fn shown(table: &Table, step: &[u8], answer: &[u8]) -> Option<&'static str> 
     match fields[..] {
         [b"setup", ref numbers @ ..] => by_set_up(table, desk::set_up(numbers)?, answer),
         [b"frame", channel, time, id, form, payload] => {
-            let message = codec::read(identifier(id)?, extended(form)?, &bytes(payload)?).ok();
             let post = table.on(natural(channel)?)?;
+            let heading = Heading { interface: post.limits.interface, id: identifier(id)?, extended: extended(form)? };
+            let message = codec::read(heading, &bytes(payload)?).ok();
             let time = unrolled(latest_time(&post.history), natural(time)?)?;
             by_event(post, &Event { time, message }, answer)
         }

@@ -1,9 +1,10 @@
 //! Lines and answers for the eye: bytes outside ASCII escaped, very long ones cut; what a step brings, in words.
 
-use crate::codec::{self, label_name};
+use crate::codec::{self, label_name, Heading};
 use crate::fields::{bytes, extended, identifier};
 use crate::log;
 use crate::log_line;
+use crate::pages::{NEWER, OLDER};
 
 const WIDEST: usize = 240;
 
@@ -28,9 +29,10 @@ pub fn brought(step: &[u8]) -> Option<String> {
     }
 }
 
-/// A message by the names of its page.
+/// A message by the names of its page, which is of one interface alone or of both.
 fn message(id: u32, extended: bool, payload: &[u8]) -> Option<String> {
-    let message = codec::read(id, extended, payload).ok()?;
+    let read = |interface| codec::read(Heading { interface, id, extended }, payload).ok();
+    let message = read(NEWER).or_else(|| read(OLDER))?;
     let values = message.values();
     let named = message.signals().zip(values).map(|((signal, raw), value)| match label_name(signal, raw) {
         Some(label) => format!(" {}={label}", signal.name),

@@ -1,5 +1,8 @@
 //! Wrong readings of 01 and 02, kept to show that a comparison finds them.
 
+use crate::asked::{
+    protocol_and_plug, told, Limit, CONTROL, CONTROLLER_STATUS, DC_POWER_CONTROL, OPENING, STATUS, TOLD,
+};
 use crate::batch_slips;
 use crate::clock::unrolled;
 use crate::clock_slips;
@@ -8,7 +11,7 @@ use crate::desk::Desk;
 use crate::history::{latest, latest_message, latest_time, session, Event};
 use crate::label_slips;
 use crate::log_slips;
-use crate::pages::Kind;
+use crate::older_slips;
 use crate::posts::Post;
 use crate::recordings_slips;
 use crate::replay_slips;
@@ -45,7 +48,7 @@ pub fn names() -> Vec<&'static str> {
     let early = log_slips::names().chain(label_slips::names()).chain(sensor_slips::names());
     let early = early.chain(tally_slips::names()).chain(clock_slips::names());
     let later = safety_slips::names().chain(replay_slips::names()).chain(batch_slips::names());
-    let later = later.chain(recordings_slips::names());
+    let later = later.chain(recordings_slips::names()).chain(older_slips::names());
     rules.chain([SHARED_CLOCK]).chain(early).chain(later).collect()
 }
 
@@ -67,6 +70,7 @@ pub fn desk(name: &str) -> Option<Desk> {
             replay_slips::put_into,
             batch_slips::put_into,
             recordings_slips::put_into,
+            older_slips::put_into,
         ];
         put.iter().find_map(|put_into| put_into(&mut desk, name))?;
     }
@@ -75,24 +79,24 @@ pub fn desk(name: &str) -> Option<Desk> {
 
 fn f1_restarted_by_repeats(limits: &Limits, past: &[Event], event: &Event) -> bool {
     session(past).is_some_and(|session| {
-        let either = |seen: &&Event| seen.is(Kind::PowerModulesStatus) || seen.is(Kind::NewChargeSession);
+        let either = |seen: &&Event| seen.is(STATUS) || seen.is(OPENING);
         session.iter().rev().find(either).is_some_and(|seen| event.time - seen.time > u64::from(limits.silence))
     })
 }
 
 fn f1_at_w_itself(limits: &Limits, past: &[Event], event: &Event) -> bool {
     session(past).is_some_and(|session| {
-        let seen = latest(session, Kind::PowerModulesStatus).unwrap_or(&session[0]);
+        let seen = latest(session, STATUS).unwrap_or(&session[0]);
         event.time - seen.time >= u64::from(limits.silence)
     })
 }
 
 fn f2_at_200_itself(_: &Limits, past: &[Event], event: &Event) -> bool {
-    latest(past, Kind::AdvanticsControllerStatus).is_some_and(|status| event.time - status.time >= 200)
+    latest(past, CONTROLLER_STATUS).is_some_and(|status| event.time - status.time >= 200)
 }
 
 fn f2_within_the_session(_: &Limits, past: &[Event], event: &Event) -> bool {
-    let status = latest(session(past).unwrap_or(past), Kind::AdvanticsControllerStatus);
+    let status = latest(session(past).unwrap_or(past), CONTROLLER_STATUS);
     status.is_some_and(|status| event.time - status.time > 200)
 }
 
@@ -101,7 +105,7 @@ fn f3_with_a_power_function(limits: &Limits, past: &[Event], event: &Event) -> b
 }
 
 fn f4_without_insulation_test(_: &Limits, past: &[Event], event: &Event) -> bool {
-    event.of(Kind::DcPowerControl).is_some_and(live) && session(past).is_none()
+    event.of(CONTROL).is_some_and(live) && session(past).is_none()
 }
 
 fn f5_allowed_by_the_session_before(_: &Limits, past: &[Event], event: &Event) -> bool {
@@ -109,25 +113,25 @@ fn f5_allowed_by_the_session_before(_: &Limits, past: &[Event], event: &Event) -
 }
 
 fn f6_voltage_only(_: &Limits, _: &[Event], event: &Event) -> bool {
-    event.of(Kind::DcPowerControl).is_some_and(|control| {
+    event.of(DC_POWER_CONTROL).is_some_and(|control| {
         control.label("Lower_Output_Voltage") == "Lowering"
             && (control.label("Power_Function") != "Standby" || control.raw("Target_Voltage") != 0)
     })
 }
 
 fn f7_received_zero_is_zero(limits: &Limits, past: &[Event], event: &Event) -> bool {
-    let received = latest_message(past, Kind::DcPowerParameters).map(|parameters| parameters.raw("Maximum_Voltage"));
+    let received = latest_message(past, TOLD).and_then(|limits| told(limits, Limit::Voltage));
     target_above(event, received.unwrap_or(i64::MAX).min(i64::from(limits.volt)))
 }
 
 fn f7_default_is_no_cap(limits: &Limits, past: &[Event], event: &Event) -> bool {
-    let received = latest_message(past, Kind::DcPowerParameters).map(|parameters| parameters.raw("Maximum_Voltage"));
+    let received = latest_message(past, TOLD).and_then(|limits| told(limits, Limit::Voltage));
     target_above(event, received.filter(|&received| received != 0).unwrap_or(i64::from(limits.volt)))
 }
 
 fn target_above(event: &Event, limit: i64) -> bool {
     event
-        .of(Kind::DcPowerControl)
+        .of(DC_POWER_CONTROL)
         .is_some_and(|control| control.label("Power_Function") != "Off" && control.raw("Target_Voltage") > limit)
 }
 
@@ -136,18 +140,18 @@ fn f7_not_in_standby(limits: &Limits, past: &[Event], event: &Event) -> bool {
 }
 
 fn f8_unsigned_current(limits: &Limits, past: &[Event], event: &Event) -> bool {
-    event.of(Kind::PowerModulesStatus).is_some_and(|status| {
+    event.of(STATUS).is_some_and(|status| {
         let current = status.raw("Present_Current").rem_euclid(65_536);
-        session(past).is_some() && current > limit(limits.charge, past, "Maximum_Charge_Current")
+        session(past).is_some() && current > limit(limits.charge, past, Limit::Charge)
     })
 }
 
 fn f8_at_the_limit_itself(limits: &Limits, past: &[Event], event: &Event) -> bool {
-    event.of(Kind::PowerModulesStatus).is_some_and(|status| {
+    event.of(STATUS).is_some_and(|status| {
         let current = status.raw("Present_Current");
         session(past).is_some()
-            && (current > limit(limits.charge, past, "Maximum_Charge_Current")
-                || current <= -limit(limits.discharge, past, "Maximum_Discharge_Current"))
+            && (current > limit(limits.charge, past, Limit::Charge)
+                || current <= -limit(limits.discharge, past, Limit::Discharge))
     })
 }
 
@@ -157,16 +161,16 @@ fn f9_at_the_limit_itself(limits: &Limits, past: &[Event], event: &Event) -> boo
 }
 
 fn f9_control_before_the_opening(limits: &Limits, past: &[Event], event: &Event) -> bool {
-    event.of(Kind::PowerModulesStatus).is_some_and(|status| {
-        let control = latest_message(past, Kind::DcPowerControl);
+    event.of(STATUS).is_some_and(|status| {
+        let control = latest_message(past, CONTROL);
         session(past).is_some() && control.is_some_and(live) && poor_insulation(limits, status)
     })
 }
 
 fn f10_against_the_latest(_: &Limits, past: &[Event], event: &Event) -> bool {
-    event.of(Kind::NewChargeSession).is_some_and(|repeat| {
-        let before = session(past).and_then(|session| latest_message(session, Kind::NewChargeSession));
-        before.is_some_and(|before| repeat != before)
+    event.of(OPENING).is_some_and(|repeat| {
+        let before = session(past).and_then(|session| latest_message(session, OPENING));
+        before.is_some_and(|before| protocol_and_plug(repeat) != protocol_and_plug(before))
     })
 }
 

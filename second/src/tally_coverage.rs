@@ -10,7 +10,7 @@ use crate::safety_coverage::those;
 use crate::tallies::LARGEST;
 
 /// What goes before `refused`, or does not, and must not raise it.
-const BEHIND: [&str; 16] = [
+const BEHIND: [&str; 17] = [
     "R1",
     "R2",
     "R3",
@@ -18,6 +18,7 @@ const BEHIND: [&str; 16] = [
     "R5",
     "R6",
     "R15",
+    "R29",
     "a refused set-up",
     "a set-up",
     "a refused release",
@@ -171,6 +172,7 @@ mod tests {
             ("frame 4 0 6b000 x ff\nrefused", &["refused behind R5"]),
             ("frame 4 0 6 s 8215000000000001\nrefused", &["refused behind R6"]),
             ("frame 4 0 6b000 x 0000\nrefused", &["refused behind R15"]),
+            ("frame 4 0 68009 x 00\nrefused", &["refused behind R29"]),
             ("setup 1 4 1 1 1 100\nrefused", &["refused behind a refused set-up", "refused N 0"]),
             ("setup 0 4 1 1 1 100\nrefused", &["refused behind a set-up", "refused N 0"]),
             ("release 1\nrefused", &["refused behind a refused release", "refused N 0"]),

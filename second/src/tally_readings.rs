@@ -14,7 +14,7 @@ fn holds_on_a_post(story: &str) {
 /// A record with nothing but its counts.
 fn record(n: u32, tally: &str, last: &str) -> String {
     format!(
-        "K ch=4 volt=5000 chg=1000 dis=500 w=500 sensor=0 last={last} open=0 since=- first=- spms=- sdpc=- n={n} \
+        "K ch=4 volt=5000 chg=1000 dis=500 w=500 sensor=0 iface=0 last={last} open=0 since=- first=- spms=- sdpc=- n={n} \
          tally={tally} latest=-"
     )
 }
@@ -29,7 +29,7 @@ fn each_finding_has_a_tally_of_its_own() {
          frame 4 0 6b000 x 01 => A0
          tick 4 201 => A2
          frame 4 202 6b004 x 00 => A1026
-         record 0 => K ch=4 volt=5000 chg=1000 dis=500 w=500 sensor=0 last=202 open=0 since=- first=- spms=- sdpc=- n=5 \
+         record 0 => K ch=4 volt=5000 chg=1000 dis=500 w=500 sensor=0 iface=0 last=202 open=0 since=- first=- spms=- sdpc=- n=5 \
          tally=0,2,1,1,0,0,0,0,0,0,2 latest=6b000x:1@0+202;6b003x:4000,0,0,8,0,0,1,0@0+202;6b004x:0@202+0",
     );
 }

@@ -12,8 +12,8 @@ use crate::script::{script, Extras};
 
 pub type Rules = [Rule; RULES.len()];
 
-/// What a script leaves of its posts, now and then: sessions, late frames, rounds of the clock.
-pub fn histories(seed: u64) -> Vec<(Limits, Vec<Event>)> {
+/// What a script leaves of its posts of that interface, now and then: sessions, late frames, rounds of the clock.
+pub fn histories(seed: u64, interface: u32) -> Vec<(Limits, Vec<Event>)> {
     let mut desk = Desk::new();
     let mut left = Vec::new();
     for (place, line) in script(seed, 2500, Extras::default()).iter().enumerate() {
@@ -22,7 +22,8 @@ pub fn histories(seed: u64) -> Vec<(Limits, Vec<Event>)> {
         }
         if place % 100 == 99 {
             let posts = (0..POSTS as u32).filter_map(|post| desk.table.post(post).ok());
-            left.extend(posts.map(|post| (post.limits, post.history.clone())));
+            let of_it = posts.filter(|post| post.limits.interface == interface);
+            left.extend(of_it.map(|post| (post.limits, post.history.clone())));
         }
     }
     left

@@ -3,6 +3,7 @@
 
 use crate::clock::{as_received, EARLIER, ROUND};
 use crate::history::Event;
+use crate::pages::{NEWER, OLDER};
 use crate::posts::{Post, Table};
 use crate::record::{line_in, Form, FORM};
 use crate::rng::Rng;
@@ -113,12 +114,12 @@ fn told(rules: Rules, form: &Form, limits: Limits, one: &[Marked], other: &[Mark
     Told::Holds
 }
 
-/// What is told of each pair of lists over a few seeds.
-fn over_histories(rules: Rules, form: &Form) -> Vec<Told> {
+/// What is told of each pair of lists of posts of that interface, over a few seeds.
+fn over_histories(rules: Rules, form: &Form, interface: u32) -> Vec<Told> {
     let mut all = Vec::new();
     for seed in 1..4 {
         let mut rng = Rng::new(seed);
-        for (limits, history) in histories(seed) {
+        for (limits, history) in histories(seed, interface) {
             let one = some_ticks_out(&mut rng, &history);
             let later = ROUND + rng.pick(&[0, 0, 1, 500, ROUND / 2]);
             let other = other_ticks_in(&mut rng, &one, later);
@@ -130,31 +131,36 @@ fn over_histories(rules: Rules, form: &Form) -> Vec<Told> {
 
 #[test]
 fn ticks_hide_and_invent_nothing() {
-    let all = over_histories(RULES, &AGELESS);
-    let holds = all.iter().filter(|told| **told == Told::Holds).count();
-    assert!(all.iter().all(|told| matches!(told, Told::Holds | Told::NotAsked)), "{all:?}");
-    assert!(holds > 200 && holds * 10 > all.len() * 9, "{holds} of {}", all.len());
+    for interface in [NEWER, OLDER] {
+        let all = over_histories(RULES, &AGELESS, interface);
+        let holds = all.iter().filter(|told| **told == Told::Holds).count();
+        assert!(all.iter().all(|told| matches!(told, Told::Holds | Told::NotAsked)), "{all:?}");
+        assert!(holds > 100 && holds * 10 > all.len() * 9, "{holds} of {} of interface {interface}", all.len());
+    }
 }
 
 /// The law asks for the same gaps for a reason.
 #[test]
 fn a_gap_1_ms_longer_changes_findings() {
-    let mut rng = Rng::new(1);
-    let changed = histories(1).into_iter().filter(|(limits, history)| {
-        let from = rng.below(history.len() as u64 + 1) as usize;
-        let later = |(place, event): (usize, &Event)| Event { time: event.time + u64::from(place >= from), ..*event };
-        let mine = heard(RULES, *limits, history.iter().copied()).map(|heard| heard.answers);
-        let its = heard(RULES, *limits, history.iter().enumerate().map(later)).map(|heard| heard.answers);
-        mine.zip(its).is_some_and(|(mine, its)| mine != its)
-    });
-    assert!(changed.count() > 0);
+    for interface in [NEWER, OLDER] {
+        let mut rng = Rng::new(1);
+        let changed = histories(1, interface).into_iter().filter(|(limits, history)| {
+            let from = rng.below(history.len() as u64 + 1) as usize;
+            let later =
+                |(place, event): (usize, &Event)| Event { time: event.time + u64::from(place >= from), ..*event };
+            let mine = heard(RULES, *limits, history.iter().copied()).map(|heard| heard.answers);
+            let its = heard(RULES, *limits, history.iter().enumerate().map(later)).map(|heard| heard.answers);
+            mine.zip(its).is_some_and(|(mine, its)| mine != its)
+        });
+        assert!(changed.count() > 0, "interface {interface}");
+    }
 }
 
 #[test]
 fn each_rule_that_asks_of_ticks_is_found() {
-    for wrong in &WRONG_KEPT {
-        let all = over_histories(with_wrong(wrong), &AGELESS);
-        assert!(all.contains(&Told::Findings), "F{}", wrong.0);
+    for (wrong, interface) in WRONG_KEPT.iter().flat_map(|wrong| [(wrong, NEWER), (wrong, OLDER)]) {
+        let all = over_histories(with_wrong(wrong), &AGELESS, interface);
+        assert!(all.contains(&Told::Findings), "F{} of interface {interface}", wrong.0);
     }
 }
 
@@ -163,6 +169,8 @@ fn each_rule_that_asks_of_ticks_is_found() {
 fn a_record_that_ticks_move_is_found() {
     let latest = Form { kept: |latest, _| as_received(latest).to_string(), ..FORM };
     for wrong in [latest, FORM] {
-        assert!(over_histories(RULES, &wrong).contains(&Told::Record));
+        for interface in [NEWER, OLDER] {
+            assert!(over_histories(RULES, &wrong, interface).contains(&Told::Record));
+        }
     }
 }

@@ -1,9 +1,10 @@
 //! Req 12: "while a session stays open and ticks come at most 100 ms apart .. any silence of the power modules, counted
 //! as F1 counts it, longer than W + 100 has F1 on some event no more than 100 ms after the silence passed W".
 
+use crate::asked::{OPENING, STATUS};
 use crate::clock::ROUND;
 use crate::history::{latest, session, Event};
-use crate::pages::Kind;
+use crate::pages::{NEWER, OLDER};
 use crate::rng::Rng;
 use crate::rules::{Limits, RULES};
 use crate::tick_histories::{heard, histories, with_wrong, Rules};
@@ -22,7 +23,7 @@ fn ticked(rng: &mut Rng, history: &[Event], first: u64, most: u64) -> Vec<Event>
         now += (event.time - before) % 3000;
         tick_until(rng, &mut events, &mut next, now, most);
         events.push(Event { time: now, ..*event });
-        let opens = event.is(Kind::NewChargeSession) && session(&history[..place]).is_none();
+        let opens = event.is(OPENING) && session(&history[..place]).is_none();
         if opens {
             next = Some(now + rng.pick(&[1, most - 1, most]));
         }
@@ -55,7 +56,7 @@ fn silences(rules: Rules, limits: Limits, events: Vec<Event>) -> Silences {
         let Some(session) = session(&history[..place]) else {
             continue;
         };
-        let status = latest(session, Kind::PowerModulesStatus).map_or(0, |status| status.time);
+        let status = latest(session, STATUS).map_or(0, |status| status.time);
         let passed = status.max(session[0].time) + u64::from(limits.silence);
         if event.time > passed {
             let tells =
@@ -67,11 +68,12 @@ fn silences(rules: Rules, limits: Limits, events: Vec<Event>) -> Silences {
     silences
 }
 
-fn over_histories(rules: Rules, most: u64) -> Silences {
+/// Of posts of that interface.
+fn over_histories(rules: Rules, most: u64, interface: u32) -> Silences {
     let mut all = Silences::default();
     for seed in 1..3 {
         let mut rng = Rng::new(seed);
-        for (limits, history) in histories(seed) {
+        for (limits, history) in histories(seed, interface) {
             let limits = Limits { silence: rng.pick(&[100, 250, 500]), ..limits };
             let first = rng.pick(&[0, ROUND - 1000]);
             let Silences { long, untold } = silences(rules, limits, ticked(&mut rng, &history, first, most));
@@ -84,19 +86,25 @@ fn over_histories(rules: Rules, most: u64) -> Silences {
 
 #[test]
 fn each_silence_is_told_within_100_ms() {
-    let all = over_histories(RULES, APART);
-    assert_eq!(all.untold, 0);
-    assert!(all.long > 1000, "{}", all.long);
+    for interface in [NEWER, OLDER] {
+        let all = over_histories(RULES, APART, interface);
+        assert_eq!(all.untold, 0);
+        assert!(all.long > 1000, "{} of interface {interface}", all.long);
+    }
 }
 
 #[test]
 fn ticks_101_ms_apart_are_too_few() {
-    assert!(over_histories(RULES, APART + 1).untold > 0);
+    for interface in [NEWER, OLDER] {
+        assert!(over_histories(RULES, APART + 1, interface).untold > 0);
+    }
 }
 
 #[test]
 fn each_late_or_missing_f1_is_found() {
     for (place, wrong) in WRONG_SILENCE.iter().enumerate() {
-        assert!(over_histories(with_wrong(wrong), APART).untold > 0, "{place}");
+        for interface in [NEWER, OLDER] {
+            assert!(over_histories(with_wrong(wrong), APART, interface).untold > 0, "{place} of interface {interface}");
+        }
     }
 }

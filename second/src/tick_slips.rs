@@ -1,7 +1,7 @@
 //! Wrong rules that break a law of Req 12.
 
+use crate::asked::CONTROLLER_STATUS;
 use crate::history::{latest, session, Event};
-use crate::pages::Kind;
 use crate::rules::{Limits, Rule, CONTROLLER_LIMIT, RULES};
 
 /// Number, and the rule that stands in for the right one of that number: other ticks give a kept event other findings.
@@ -21,7 +21,7 @@ fn f1_since_the_latest_event(limits: &Limits, past: &[Event], event: &Event) -> 
 /// As from a buffer that ticks fill as well.
 fn f2_of_the_last_eight_events(_: &Limits, past: &[Event], event: &Event) -> bool {
     let last = &past[past.len().saturating_sub(8)..];
-    latest(last, Kind::AdvanticsControllerStatus).is_some_and(|status| event.time - status.time > CONTROLLER_LIMIT)
+    latest(last, CONTROLLER_STATUS).is_some_and(|status| event.time - status.time > CONTROLLER_LIMIT)
 }
 
 /// What was received before the latest tick does not count.

@@ -129,13 +129,23 @@ def setups():
     held('', log, 'END', ['1 - R1', '2 - R1'], 'no set-up')
     held('#' * 65_535, log, 'END', ['1 - R1', '2 - R1'], 'the longest file of posts')
     same(replay('#' * 65_536, log), ('', 'replay: a.posts: longer than 65,535 bytes\n'), 'a longer one')
-    for line, number in (('8 4 5000 2000 500 500', 9), ('1 32 5000 2000 500 500', 10), ('1 2 5000 2000 500 500', 11), ('1 4 0 2000 500 500', 12)):
+    for line, number in (('8 4 5000 2000 500 500', 9), ('1 32 5000 2000 500 500', 10), ('1 2 5000 2000 500 500', 11), ('1 4 0 2000 500 500', 12),
+                         ('1 4 5000 2000 500 500 2', 12), ('1 4 5000 2000 500 500 0 2', 12)):
         told = f'replay: a.posts: line 5: the set-up is refused\nSETUP R{number}\n'
         same(replay(f'{POSTS}setup {line}\nno line\n', log), ('', told), f'setup {line}')
         same(second(f'{POSTS}setup {line}\n', log), ([], f'SETUP R{number}'), f'setup {line}: the second program')
-    for line in ('setup', 'setup 1', 'setup 1 4 5000 2000 500', 'setup 1 4 5000 2000 500 500 0 0', 'setup 01 4 5000 2000 500 500', ' setup 1 4 5000 2000 500 500', 'tick 2 300', 'setup 1 4 5000 2000 500 500\r'):
+    for line in ('setup', 'setup 1', 'setup 1 4 5000 2000 500', 'setup 1 4 5000 2000 500 500 0 0 0', 'setup 01 4 5000 2000 500 500', ' setup 1 4 5000 2000 500 500', 'tick 2 300', 'setup 1 4 5000 2000 500 500\r'):
         told = 'replay: a.posts: line 5: no setup POST CHANNEL VOLT CHG DIS W [SENSOR]\n'
         same(replay(f'{POSTS}{line}\n', log), ('', told), f'the line {line!r}')
+
+
+def interfaces():
+    """02, Req 11: an older post beside a newer one, each by its own pages."""
+    posts = 'setup 0 2 5000 2000 500 500 0 1\nsetup 1 31 5000 2000 500 500 0 0\n'
+    log = b''.join(record(f'frame {channel} 300 {identifier} x 01') for channel in (2, 31) for identifier in ('68009', '6b000'))
+    lines = ['1 0 A0', '2 0 R29', '3 1 R29', '4 1 A0']
+    same(second(posts, log), (lines, 'END'), 'both interfaces: the second program')
+    held(posts, log, 'END', lines, 'both interfaces')
 
 
 def files():
@@ -211,6 +221,6 @@ def memory():
 
 with tempfile.TemporaryDirectory() as room:
     os.chdir(room)
-    for part in (nights, rounds, cuts, pieces, setups, files, changes, progress, memory):
+    for part in (nights, rounds, cuts, pieces, setups, interfaces, files, changes, progress, memory):
         part()
 print('tests/replay: ok')

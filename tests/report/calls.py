@@ -108,6 +108,23 @@ class Calls(unittest.TestCase):
         self.assertNotIn('yes/no insulation sensor', page)
         self.assertEqual(page.count('class="curve least"'), 1)
 
+    def test_the_older_interface(self):
+        """02, Req 11: told of its post; its sessions, curves and functions are those of 001's messages, and a frame of the other one is refused with 29."""
+        heard = ['frame 4 100 68001 x 0201000000000000', 'frame 4 110 68003 x 0a0f1400', 'frame 4 120 60010 x a10f00004a430114', 'frame 4 130 6b000 x 01',
+                 'frame 4 900 68007 x 00']
+        told = dict(posts=POSTS.replace('500\n', '500 0 1\n', 1), log=b''.join(map(record, heard)), lines='1 0 A0\n2 0 A16\n3 0 A256\n4 0 R29\n5 0 A0\n')
+        text = self.page(**told)
+        page = Path('out.html').read_text()
+        self.assertIn('500.0 V, 200.0 A out, 50.0 A back, the older interface (001)', text)
+        self.assertEqual(page.count('the older interface (001)'), 1)
+        self.assertIn('R29 identifier that only the other interface has: 1', text)
+        self.assertIn('Precharge: Precharge, 385.0 V, 2.0 A', text)
+        self.assertIn('Curves of post 0: voltage from 400.1 to 400.1 V', page)
+        self.assertIn('CCS_ISO_15118_2013_v2CCS_DC_ExtendedClean_Stop400.10.040', text)
+        self.assertIn('02: Insulation_Test, Precharge and Charging_Loop count as the three functions', text)
+        self.page(**{**told, 'posts': POSTS})
+        self.assertNotIn('02: Insulation_Test', Path('out.html').read_text())
+
     def test_a_full_count(self):
         """02, Req 08: refused with 25, and in no tally."""
         text = self.page(lines=LINES.replace('R5 0', 'R25'))
@@ -139,10 +156,10 @@ class Calls(unittest.TestCase):
 
     def test_posts_that_are_none(self):
         for posts, said in [
-            ('setup 0 4 5000 2000 500\n', 'line 1: not setup POST CHANNEL VOLT CHG DIS W [SENSOR]'),
-            ('setup 0 4 5000 2000 500 500 0 0\n', 'line 1: not setup POST CHANNEL VOLT CHG DIS W [SENSOR]'),
-            ('setup 0 4 4294967296 2000 500 500\n', 'line 1: not setup POST CHANNEL VOLT CHG DIS W [SENSOR]'),
-            ('# x\nsetup 0 04 5000 2000 500 500\n', 'line 2: not setup POST CHANNEL VOLT CHG DIS W [SENSOR]'),
+            ('setup 0 4 5000 2000 500\n', 'line 1: not setup POST CHANNEL VOLT CHG DIS W [SENSOR [IFACE]]'),
+            ('setup 0 4 5000 2000 500 500 0 0 0\n', 'line 1: not setup POST CHANNEL VOLT CHG DIS W [SENSOR [IFACE]]'),
+            ('setup 0 4 4294967296 2000 500 500\n', 'line 1: not setup POST CHANNEL VOLT CHG DIS W [SENSOR [IFACE]]'),
+            ('# x\nsetup 0 04 5000 2000 500 500\n', 'line 2: not setup POST CHANNEL VOLT CHG DIS W [SENSOR [IFACE]]'),
         ]:
             self.files(posts=posts)
             self.refused(f'posts: {said}')
@@ -155,6 +172,7 @@ class Calls(unittest.TestCase):
             ('setup 8 4 5000 2000 500 500\n', 1, 'R9: post number above 7'),
             ('# x\nsetup 0 32 5000 2000 500 500\n', 2, 'R10: channel above 31 at set-up'),
             ('setup 0 4 5000 2000 500 500 2\n', 1, 'R12: a post limit outside its range'),
+            ('setup 0 4 5000 2000 500 500 0 2\n', 1, 'R12: a post limit outside its range'),
         ]:
             text = self.page(posts=posts, lines='')
             self.assertIn(f'Nothing was replayed: the set-up in line {line} of posts is refused, {why}. The log has 4 records.', text)
@@ -170,7 +188,8 @@ class Calls(unittest.TestCase):
         r = random.Random(61)
         for _ in range(40):
             lines = [f'setup {r.choice([0, 1, 7, 8])} {r.choice([0, 4, 31, 32])} {r.choice([0, 1, 65535, 65536])} {r.choice([1, 32767, 32767, 32768, 0])} '
-                     f'{r.choice([0, 0, 32767, 32768])} {r.choice([100, 60000, 60000, 99, 60001])}{r.choice(["", " 0", " 1", " 2"])}' for _ in range(3)]
+                     f'{r.choice([0, 0, 32767, 32768])} {r.choice([100, 60000, 60000, 99, 60001])}{r.choice(["", " 0", " 1", " 2", " 0 0", " 0 1", " 1 1", " 1 2"])}'
+                     for _ in range(3)]
             answers_ = answers(lines)
             refused = next(((line, int(answer[1:])) for line, answer in enumerate(answers_, 1) if answer != 'A'), None)
             self.assertEqual(posts.read('\n'.join(lines))[1], refused, lines)

@@ -32,7 +32,7 @@ def listed_once(told, rows):
 def rules(page, told):
     rows = [tabled.cells(row) for row in tabled.table(page, 'The rules')]
     numbers = [finding.number for finding in told.findings]
-    want = [[f'F{k}', NAMES[k], f'01: {said.SENTENCES[k]}', f'{numbers.count(k):,}'] for k in sorted(set(numbers))]
+    want = [[f'F{k}', NAMES[k], f'01: {said.SENTENCES[k]}{said.mended(k, told.older)}', f'{numbers.count(k):,}'] for k in sorted(set(numbers))]
     return [] if rows == want else [f'rules: {rows}']
 
 
@@ -43,7 +43,7 @@ def summary(page, told):
              f' {refused:,} refused' if refused else ' none refused', f' {found:,} findings (' if found else ' No finding.']
     faults = [f'the summary lacks {part!r}' for part in parts if part not in first]
     rows = [tabled.cells(row) for row in tabled.table(page, 'The posts of the night')]
-    want = [(str(post), str(channel), f'{told.accepted[post]:,}', f'{sum(refusal.post == post for refusal in told.refusals):,}')
+    want = [(str(post), str(channel), post in told.older, f'{told.accepted[post]:,}', f'{sum(refusal.post == post for refusal in told.refusals):,}')
             for post, channel in sorted(told.channels.items())]
-    got = [(row[0], row[1], row[5], row[6]) for row in rows]
+    got = [(row[0], row[1], row[2].endswith(', the older interface (001)'), row[5], row[6]) for row in rows]
     return faults if got == want else [*faults, f'posts: {got}']

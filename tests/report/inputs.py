@@ -8,6 +8,7 @@ import said
 from second import ROOT, records, records_of
 from words import number, record, some_lines
 from report import messages, nightlog, words
+from says import SAYS_02
 
 # 02, Req 01: what is refused with each number
 DAMAGED = {16: b'\x80\x00', 17: b'\x01\x20', 18: b'\x01\x01\x80\x20', 19: b'\x01\x01\x81\x80\x80\x80\x04', 20: b'\x01\x01\x00\x0a', 21: b'\x01\x01\x02\x09'}
@@ -87,13 +88,31 @@ class Words(unittest.TestCase):
         self.assertEqual(words.MALFORMED, said.refusals(range(16, 22)))
 
     def test_messages(self):
-        rows, safety = ([line.split(' ') for line in Path(ROOT / f'tests/pages/{page}.txt').read_text().splitlines()] for page in ('000', '004'))
-        for known, held in ((messages.EXTENDED, rows), (messages.STANDARD, safety)):
+        rows, older, safety = ([line.split(' ') for line in Path(ROOT / f'tests/pages/{page}.txt').read_text().splitlines()] for page in ('000', '001', '004'))
+        for known, held in ((messages.EXTENDED, rows), (messages.OLDER, older), (messages.STANDARD, safety)):
             self.assertEqual(known, {int(row[1], 16): row[0] for row in held})
-        labels = {(row[0], row[3]): dict(numbered(label) for label in row[9].split(';')) for row in rows if row[9] != '-'}
+        labels, of_older = ({(row[0], row[3]): dict(numbered(label) for label in row[9].split(';')) for row in held if row[9] != '-'} for held in (rows, older))
         for message, signal, held in (
             ('New_Charge_Session', 'Communication_Protocol', messages.PROTOCOLS), ('New_Charge_Session', 'Plug_and_pins', messages.PLUGS),
             ('Charge_Session_Finished', 'State', messages.STATES), ('Power_Modules_Status', 'System_Enable', messages.ENABLES),
             ('DC_Power_Control', 'Power_Function', messages.FUNCTIONS), ('DC_Power_Control', 'Output_Contactors', messages.CONTACTORS),
         ):
             self.assertEqual(held if isinstance(held, dict) else dict(enumerate(held)), labels[message, signal], signal)
+            if message != 'DC_Power_Control':
+                self.assertEqual(of_older[message, signal], labels[message, signal], f'{signal} of 001')
+
+    def test_what_02_adds(self):
+        """The nights quote the same sentences, or the beginning of them."""
+        for quoted, sentence in ((SAYS_02['F9 yes/no'], words.YES_NO), (SAYS_02['F4 older'], words.FUNCTIONS), (SAYS_02['F9 older'], words.FUNCTIONS),
+                                 (SAYS_02['F8 older'], words.LIMITS)):
+            self.assertTrue(sentence.startswith(quoted), quoted)
+
+    def test_the_three_functions(self):
+        for line, want in (
+            ('frame 2 1 68002 x 8813', 'Insulation_Test: Insulation_Test, 500.0 V'), ('frame 2 1 68003 x 0a0f1400', 'Precharge: Precharge, 385.0 V, 2.0 A'),
+            ('frame 2 1 68005 x 68109cff50', 'Charging_Loop: Power_Transfer, 420.0 V, -10.0 A'), ('frame 2 1 68006 x 01', 'Emergency_Stop'),
+            ('frame 2 1 60010 x a00f83ff41000164', 'Power_Modules_Status: 400.0 V, -12.5 A, 200 kOhm, Allowed'),
+            ('frame 2 1 68001 x 0201a00fd0073264', 'New_Charge_Session: CCS_ISO_15118_2013_v2, CCS_DC_Extended'),
+        ):
+            raw, = nightlog.Log(io.BytesIO(record(line)))
+            self.assertEqual(messages.accepted_words(nightlog.Raw(*raw).record()), want)

@@ -33,9 +33,9 @@ class Nights(unittest.TestCase):
         changed = [(was, now) for was, now in zip(script('march'), replayed('march'), strict=True) if was != now]
         self.assertEqual(changed, [((f'frame 5 {time} 6b000 x 01', 'R1'), (f'frame 5 {time} 6b000 x 01', 'A0')) for time in (1004, 1104, 1204)])
 
-    def test_damaged_and_safety(self):
+    def test_frames_left_out(self):
         """Without the frames that no log can hold."""
-        for name, count in (('damaged', 9), ('safety', 1)):
+        for name, count in (('damaged', 9), ('safety', 1), ('older', 1)):
             kept = replayed(name)
             lost = [step for step in script(name) if step not in kept]
             self.assertEqual([step for step in script(name) if step in kept], kept)

@@ -49,13 +49,13 @@ class Pages(unittest.TestCase):
         """All findings, all refusals that a replay gives but 25, which no night is long enough for, and nothing of either."""
         findings, refusals = set(), set()
         with tempfile.TemporaryDirectory() as folder:
-            for name in ('faults', 'damaged', 'clean', 'safety', 'round'):
+            for name in ('faults', 'damaged', 'clean', 'safety', 'round', 'older'):
                 page, told = paged(name, folder)
                 self.assertEqual(held.faults(dumped(page), told), [], name)
                 findings |= {finding.number for finding in told.findings}
                 refusals |= {refusal.number for refusal in told.refusals}
         self.assertEqual(findings, set(range(1, 12)))
-        self.assertEqual(refusals, {1, 2, 3, 4, 5, 6, 15})
+        self.assertEqual(refusals, {1, 2, 3, 4, 5, 6, 15, 29})
 
     def hold_stored_picture(self, page, picture):
         """docs/report.png is this page; of a page that lacks a finding's row it is not."""
@@ -80,7 +80,7 @@ class Wrong(unittest.TestCase):
 
     def test_parts_taken_out_or_changed(self):
         with tempfile.TemporaryDirectory() as folder:
-            for name, least in (('march', 40), ('faults', 150), ('damaged', 100), ('round', 20)):
+            for name, least in (('march', 40), ('faults', 150), ('damaged', 100), ('round', 20), ('older', 40)):
                 page, told = paged(name, folder)
                 text = page.read_text()
                 self.assertEqual(held.faults(text, told), [])

@@ -8,7 +8,7 @@ sys.path += [str(ROOT), str(ROOT / 'nights')]
 from report import words
 from says import SAYS
 
-FINDINGS, REFUSALS = range(1, 12), (1, 2, 3, 4, 5, 6, 15, 25)
+FINDINGS, REFUSALS = range(1, 12), (1, 2, 3, 4, 5, 6, 15, 25, 29)
 SENTENCES = {k: rule.sentence for k, rule in words.FINDINGS.items()}
 
 
@@ -32,3 +32,8 @@ def quoted(k):
             return False
         at += len(part)
     return True
+
+
+def mended(k, older):
+    """What 02 says of a finding where a post has the older interface."""
+    return f' 02: {words.OLDER[k]}' if older and k in words.OLDER else ''

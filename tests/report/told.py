@@ -35,6 +35,7 @@ class Told:
 
     def __init__(self, posts, heard, lines):
         self.channels = {int(line.split(' ')[1]): int(line.split(' ')[2]) for line in set_ups(posts)}
+        self.older = {int(line.split(' ')[1]) for line in set_ups(posts) if line.split(' ')[8:] == ['1']}
         self.records, self.accepted = len(lines), {post: 0 for post in self.channels}
         self.findings, self.refusals = [], []
         self.sessions = {post: [] for post in self.channels}
@@ -68,11 +69,12 @@ class Told:
     def frame(self, post, time, identifier, form, payload):
         sessions = self.sessions[post]
         is_open = bool(sessions) and sessions[-1][1] is None
-        if (identifier, form) == ('6b001', 'x') and not is_open:
+        opening, finished, status = ('68001', '68007', '60010') if post in self.older else ('6b001', '6b004', '63000')
+        if (identifier, form) == (opening, 'x') and not is_open:
             sessions.append((time, None))
-        elif (identifier, form) == ('6b004', 'x') and is_open:
+        elif (identifier, form) == (finished, 'x') and is_open:
             sessions[-1] = (sessions[-1][0], time)
-        elif (identifier, form) == ('63000', 'x'):
+        elif (identifier, form) == (status, 'x'):
             volt, amps, _, _, _, insulation = struct.unpack('<HhBBBB', bytes.fromhex(payload))
             self.statuses[post].append((time, volt / 10, amps / 10, 2 * insulation))
 

@@ -1,7 +1,7 @@
 """Replays a night log by target/bin/replay, with an exit status: a line for each record, and then how the log ends and every number that occurred, in words.
 
 usage: replay [--lines] POSTS LOG
-  POSTS    the set-ups of the posts: setup POST CHANNEL VOLT CHG DIS W [SENSOR], blank lines and comments with #
+  POSTS    the set-ups of the posts: setup POST CHANNEL VOLT CHG DIS W [SENSOR [IFACE]], blank lines and comments with #
   LOG      the night log
   --lines  leaves everything as the program writes it: the lines on standard output, the ending and the counts on standard error
 Exit status: 0 all well; 1 the log is cut or bad, or a set-up is refused or is none; 2 something could not be read or written, or the call is wrong.

@@ -1,5 +1,6 @@
 //! Clocks that come round: silences of weeks, and traffic that goes on just before the round.
 
+use super::kinds::signs_of_life;
 use super::messages::{aimed, any};
 use super::traffic::{note, of_page, tick};
 use super::Generator;
@@ -64,7 +65,7 @@ impl Generator {
             self.following.push_back(tick(post.channel, time));
         }
         self.following.push_back(format!("record {}", self.busy));
-        for kind in [Kind::AdvanticsControllerStatus, Kind::PowerModulesStatus] {
+        for kind in signs_of_life(post.limits.interface) {
             if self.rng.chance(70) {
                 let message = aimed(&mut self.rng, kind, post);
                 note(post, post.now, Some(&message));

@@ -4,7 +4,7 @@ use super::Generator;
 use crate::desk::LONGEST;
 use crate::rng::Rng;
 
-const ODD_LINES: [&[u8]; 75] = [
+const ODD_LINES: [&[u8]; 84] = [
     b" ",
     b"  ",
     b"\t",
@@ -26,9 +26,18 @@ const ODD_LINES: [&[u8]; 75] = [
     b"setup 0 0 1 1 0 100 ",
     b"setup 0 0 1 1 0 100 -1",
     b"setup 0 0 1 1 0 100 4294967296",
-    b"setup 0 0 1 1 0 100 1 0",
+    b"setup 0 0 1 1 0 100 1 ",
+    b"setup 0 0 1 1 0 100 1 -1",
+    b"setup 0 0 1 1 0 100 1 4294967296",
+    b"setup 0 0 1 1 0 100 1 0 0",
     b"read 63000 x",
     b"read 63000 x ",
+    b"read1 60010 x",
+    b"read0 63000 x -",
+    b"read2 60010 x -",
+    b"readd 60010 x -",
+    b"change1 68009 x 00 0",
+    b"write1 68009 x - 00",
     b"write 6b000 x - 00",
     b"write 6b000 x  00",
     b"probe",
@@ -77,7 +86,7 @@ const ODD_LINES: [&[u8]; 75] = [
     b"replay - 0,0,1,1,0,100;",
     b"replay - 0,0,1,1,0,100;;1,1,1,1,0,100",
     b"replay - 0,0,1,1,0",
-    b"replay - 0,0,1,1,0,100,0,0",
+    b"replay - 0,0,1,1,0,100,0,0,0",
     b"replay - 8,0,1,1,0,100;0,0,1,1,0,00100",
     b"replay - 0 0 1 1 0 100",
 ];
@@ -98,7 +107,7 @@ impl Generator {
             6 => self.rng.pick(&NO_COUNTS).to_vec(),
             _ => {
                 let line = match self.rng.below(11) {
-                    0 => self.rng.pick(&["setup 9 40 5000 1000 500 500", "setup 9 40 5000 1000 500 500 1"]).to_string(),
+                    0 => format!("setup 9 40 5000 1000 500 500{}", self.rng.pick(&["", " 1", " 1 1"])),
                     1 => self.record(),
                     2 => self.read(),
                     3 => self.change(),
@@ -126,6 +135,7 @@ impl Generator {
             3 if even => (b"logw f 0 0 0 s ", b"7", b" 00"),
             4 if even => (b"logw f 0 0 0 s 00 ", b"7", b""),
             5 if even => (b"replay ", TICK, b" 0,0,1,1,0,6000"),
+            6 if even => (b"read1 60010 x ", b"7", b""),
             8 if even => (b"compare - ", b"7", b" 512 512"),
             _ if even => (b"frame 4 100 6b000 x ", b"7", b""),
             0 => (b"read 63000 x ", b"7", b""),

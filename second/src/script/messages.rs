@@ -2,7 +2,7 @@
 
 use super::sketch::Sketch;
 use crate::codec::{self, label_name, range, Message};
-use crate::pages::{Kind, Order, Page, Signal, Unit, PAGES};
+use crate::pages::{self, Kind, Order, Page, Signal, Unit};
 use crate::rng::Rng;
 
 const FUNCTIONS: [i64; 5] = [0, 1, 2, 4, 8];
@@ -13,18 +13,20 @@ const TELLING: [i64; 4] = [1000, 1001, 0x1fff, -1];
 /// A message of that kind, aimed at what the post may object to.
 pub fn aimed(rng: &mut Rng, kind: Kind, post: &Sketch) -> Message {
     match kind {
-        Kind::PowerModulesStatus => power_modules_status(rng, post),
+        Kind::PowerModulesStatus | Kind::OlderPowerModulesStatus => power_modules_status(rng, kind, post),
         Kind::DcPowerParameters => dc_power_parameters(rng, post),
+        Kind::PowerModulesLimits => power_modules_limits(rng, post),
         Kind::DcPowerControl => dc_power_control(rng, post),
-        Kind::NewChargeSession => new_charge_session(rng, post),
+        Kind::InsulationTest | Kind::Precharge | Kind::ChargingLoop => one_function(rng, kind, post),
+        Kind::NewChargeSession | Kind::OlderNewChargeSession => new_charge_session(rng, kind, post),
         _ => any(rng, kind.page()),
     }
 }
 
-/// Half of them with starts at the highest bit: these have the most signals.
-pub fn some_page(rng: &mut Rng) -> &'static Page {
-    let order = rng.pick(&[Order::Little, Order::Big]);
-    let pages: Vec<&Page> = PAGES.iter().filter(|page| page.order == order).collect();
+/// A page of that interface. A quarter of them with starts at the highest bit: these have the most signals.
+pub fn some_page(rng: &mut Rng, interface: u32) -> &'static Page {
+    let order = rng.pick(&[Order::Little, Order::Little, Order::Little, Order::Big]);
+    let pages: Vec<&Page> = pages::of(interface).filter(|page| page.order == order).collect();
     rng.pick(&pages)
 }
 
@@ -45,8 +47,8 @@ fn any_raw(rng: &mut Rng, signal: &Signal) -> i64 {
 }
 
 /// A signal that can hold a number without a label, and its page.
-pub fn able_to_offend(rng: &mut Rng) -> (&'static Page, &'static Signal) {
-    let all = PAGES.iter().flat_map(|page| page.signals.iter().map(move |signal| (page, signal)));
+pub fn able_to_offend(rng: &mut Rng, interface: u32) -> (&'static Page, &'static Signal) {
+    let all = pages::of(interface).flat_map(|page| page.signals.iter().map(move |signal| (page, signal)));
     let able: Vec<_> = all.filter(|(_, signal)| can_offend(signal)).collect();
     rng.pick(&able)
 }
@@ -57,8 +59,8 @@ fn can_offend(signal: &Signal) -> bool {
 }
 
 /// A payload of the right length with a number in it that is no label, or with as many as there is room for.
-pub fn unlabelled(rng: &mut Rng) -> (&'static Page, Vec<u8>) {
-    let (page, first) = able_to_offend(rng);
+pub fn unlabelled(rng: &mut Rng, interface: u32) -> (&'static Page, Vec<u8>) {
+    let (page, first) = able_to_offend(rng, interface);
     let mut raws = any(rng, page).raws().to_vec();
     let all = rng.chance(50);
     for (raw, signal) in raws.iter_mut().zip(page.signals) {
@@ -70,11 +72,11 @@ pub fn unlabelled(rng: &mut Rng) -> (&'static Page, Vec<u8>) {
 }
 
 /// A payload too short or too long, by one byte or by several, of a message with or without such a number.
-pub fn wrong_length(rng: &mut Rng) -> (&'static Page, Vec<u8>) {
+pub fn wrong_length(rng: &mut Rng, interface: u32) -> (&'static Page, Vec<u8>) {
     let (page, mut bytes) = if rng.chance(30) {
-        unlabelled(rng)
+        unlabelled(rng, interface)
     } else {
-        let page = rng.pick(&PAGES.each_ref());
+        let page = rng.pick(&pages::of(interface).collect::<Vec<_>>());
         (page, any(rng, page).bytes())
     };
     let length = match rng.below(4) {
@@ -89,9 +91,9 @@ pub fn wrong_length(rng: &mut Rng) -> (&'static Page, Vec<u8>) {
 }
 
 /// A payload with a bit set that no signal covers, or with several.
-pub fn uncovered(rng: &mut Rng) -> (&'static Page, Vec<u8>) {
+pub fn uncovered(rng: &mut Rng, interface: u32) -> (&'static Page, Vec<u8>) {
     let free = |page: &Page| codec::uncovered(page, &vec![0xff; page.len]);
-    let able: Vec<&Page> = PAGES.iter().filter(|page| !free(page).is_empty()).collect();
+    let able: Vec<&Page> = pages::of(interface).filter(|page| !free(page).is_empty()).collect();
     let page = rng.pick(&able);
     let mut bytes = any(rng, page).bytes();
     for _ in 0..rng.pick(&[1, 1, 1, 2, 20]) {
@@ -121,18 +123,18 @@ fn near(rng: &mut Rng, mark: i64) -> i64 {
     mark + rng.pick(&[-1, 0, 0, 1, 1])
 }
 
-fn power_modules_status(rng: &mut Rng, post: &Sketch) -> Message {
+fn power_modules_status(rng: &mut Rng, kind: Kind, post: &Sketch) -> Message {
     let insulation = rng.pick(&[0, 0, 0, 1, 24, 25, 100, 254, 255]);
     let voltage = match rng.below(4) {
         0 => rng.between(0, 65_535),
         1 => 0,
         _ => near(rng, insulation * 200).clamp(0, 65_535),
     };
-    let current = match rng.below(8) {
+    let current = match rng.below(10) {
         0 => rng.pick(&[32_767, -32_768, -1, 1, -125]),
         1 => rng.between(-32_768, 32_767),
         2 | 3 => 0,
-        4 | 5 => {
+        4..=6 => {
             let mark = rng.pick(&post.marks(1));
             near(rng, mark)
         }
@@ -143,10 +145,7 @@ fn power_modules_status(rng: &mut Rng, post: &Sketch) -> Message {
     };
     let enable = i64::from(rng.chance(75));
     let current = current.clamp(-32_768, 32_767);
-    Message::new(
-        Kind::PowerModulesStatus,
-        &[voltage, current, rng.between(0, 255), rng.between(0, 255), enable, insulation],
-    )
+    Message::new(kind, &[voltage, current, rng.between(0, 255), rng.between(0, 255), enable, insulation])
 }
 
 fn dc_power_parameters(rng: &mut Rng, post: &Sketch) -> Message {
@@ -160,18 +159,46 @@ fn dc_power_parameters(rng: &mut Rng, post: &Sketch) -> Message {
     Message::new(Kind::DcPowerParameters, &numbers)
 }
 
+/// A current of 0 or less among them.
+fn power_modules_limits(rng: &mut Rng, post: &Sketch) -> Message {
+    let [voltage, charge] = [post.limits.volt, post.limits.charge].map(i64::from);
+    let voltage = rng.pick(&[0, 1, voltage / 2, voltage - 1, voltage, voltage + 1, 65_535]);
+    let around = [charge / 2, charge - 1, charge, charge + 1];
+    let current = if rng.chance(50) { rng.pick(&[0, -1, -1, 1, -32_768, 32_767]) } else { rng.pick(&around) };
+    let reserved = rng.pick(&[0, 1, u32::MAX.into()]);
+    Message::new(Kind::PowerModulesLimits, &[voltage.clamp(0, 65_535), current.min(32_767), reserved])
+}
+
+/// A setpoint of volts, at 0 or close to where the voltage limit could stand.
+fn target(rng: &mut Rng, post: &Sketch) -> i64 {
+    let mark = rng.pick(&post.marks(0));
+    match rng.below(5) {
+        0 => 0,
+        1 => rng.between(0, 65_535),
+        _ => near(rng, mark).clamp(0, 65_535),
+    }
+}
+
+/// One of the three messages that are a function each; at times with nothing asked for, or with no current.
+fn one_function(rng: &mut Rng, kind: Kind, post: &Sketch) -> Message {
+    let mut raws = any(rng, kind.page()).raws().to_vec();
+    raws[0] = target(rng, post);
+    let asked = match rng.below(5) {
+        0 | 1 => 0,
+        2 => 1,
+        _ => raws.len(),
+    };
+    raws[asked..].fill(0);
+    Message::new(kind, &raws)
+}
+
 fn dc_power_control(rng: &mut Rng, post: &Sketch) -> Message {
     let function = rng.pick(&FUNCTIONS);
     let switches = [rng.chance(20), rng.chance(50), rng.chance(50)].map(i64::from);
     if rng.chance(25) {
         return lowering(rng, switches);
     }
-    let mark = rng.pick(&post.marks(0));
-    let target = match rng.below(5) {
-        0 => 0,
-        1 => rng.between(0, 65_535),
-        _ => near(rng, mark).clamp(0, 65_535),
-    };
+    let target = target(rng, post);
     let currents = if rng.chance(50) { [0, 0] } else { [rng.between(-32_768, 32_767), rng.between(-32_768, 32_767)] };
     let [reserved, mode, contactors] = switches;
     Message::new(Kind::DcPowerControl, &[target, currents[0], currents[1], function, reserved, mode, contactors, 0])
@@ -190,14 +217,16 @@ fn lowering(rng: &mut Rng, [reserved, mode, contactors]: [i64; 3]) -> Message {
     Message::new(Kind::DcPowerControl, &[target, max, min, function, reserved, mode, contactors, 1])
 }
 
-/// A repeat mostly says what the first one said.
-fn new_charge_session(rng: &mut Rng, post: &Sketch) -> Message {
+/// A repeat mostly says what the first one said; what else it says does not count.
+fn new_charge_session(rng: &mut Rng, kind: Kind, post: &Sketch) -> Message {
     let [protocol, plug] = post.first;
-    let raws = match rng.below(10) {
+    let first = match rng.below(10) {
         _ if !post.open => [rng.between(0, 7), rng.between(0, 4)],
         0 => [rng.between(0, 7), plug],
         1 => [protocol, rng.between(0, 4)],
         _ => [protocol, plug],
     };
-    Message::new(Kind::NewChargeSession, &raws)
+    let mut raws = any(rng, kind.page()).raws().to_vec();
+    raws[..2].copy_from_slice(&first);
+    Message::new(kind, &raws)
 }

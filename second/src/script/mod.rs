@@ -1,7 +1,9 @@
-//! Seeded desk scripts that go to the edges of 01, of the log, of its replay and of two of them compared.
+//! Seeded desk scripts that go to the edges of 01 on posts of both interfaces, of the log, of its replay and of two of them
+//! compared.
 
 mod batches;
 mod clocks;
+mod kinds;
 mod logs;
 mod malformed;
 mod messages;
@@ -65,6 +67,7 @@ enum Sort {
     LongSilence,
     Round,
     Refused,
+    OtherInterface,
     Record,
     RefusedCount,
     SetUp,
@@ -97,10 +100,17 @@ impl Generator {
             return line.into_bytes();
         }
         match self.sort() {
-            Sort::Traffic => self.traffic().into_bytes(),
+            Sort::Traffic => {
+                let line = self.traffic();
+                if self.rng.chance(15) {
+                    self.status_at_once();
+                }
+                line.into_bytes()
+            }
             Sort::LongSilence => self.long_silence().into_bytes(),
             Sort::Round => self.round().into_bytes(),
             Sort::Refused => self.refused().into_bytes(),
+            Sort::OtherInterface => self.of_the_other_interface().into_bytes(),
             Sort::Record => self.record().into_bytes(),
             Sort::RefusedCount => b"refused".to_vec(),
             Sort::SetUp => {
@@ -139,22 +149,23 @@ impl Generator {
             (10, Sort::LongSilence),
             (25, Sort::Round),
             (60, Sort::Refused),
+            (60, Sort::OtherInterface),
             (60, Sort::Record),
-            (40, Sort::RefusedCount),
+            (50, Sort::RefusedCount),
             (restless, Sort::SetUp),
             (35, Sort::RefusedSetUp),
             (restless / 4 + 2, Sort::Release),
             (10, Sort::RefusedRelease),
-            (70, Sort::Read),
-            (65, Sort::Change),
-            (75, Sort::Write),
+            (150, Sort::Read),
+            (120, Sort::Change),
+            (150, Sort::Write),
             (50, Sort::Service),
             (60, Sort::LogRead),
             (35, Sort::LogWrite),
-            (60, Sort::Replay),
-            (45, Sort::Batch),
-            (90, Sort::Compare),
-            (35, Sort::Malformed),
+            (75, Sort::Replay),
+            (80, Sort::Batch),
+            (105, Sort::Compare),
+            (45, Sort::Malformed),
             (12, Sort::Remark),
             (explain, Sort::Explain),
         ])
@@ -176,7 +187,7 @@ impl Generator {
             0 => self.rng.below(2048),
             1 => 1 << self.rng.below(13),
             2 => self.rng.pick(&[0, 2047, 2048, 4_294_967_295, 4_294_967_296]),
-            _ if self.rng.chance(60) => return format!("explain R{}", self.rng.below(31)),
+            _ if self.rng.chance(60) => return format!("explain R{}", self.rng.below(32)),
             _ => return self.explain_start(),
         };
         format!("explain {number}")
@@ -199,7 +210,7 @@ mod tests {
     use super::*;
     use crate::codec;
     use crate::fields::{bytes, extended, identifier};
-    use crate::pages::{self, PAGES};
+    use crate::pages;
 
     #[test]
     fn same_seed_same_script() {
@@ -216,11 +227,13 @@ mod tests {
             let fields: Vec<&[u8]> = line.split(|&byte| byte == b' ').collect();
             let (word, id, form, payload) = match fields[..] {
                 [b"frame", _, _, id, form, payload] => ("frame", id, form, payload),
-                [b"read", id, form, payload] => ("read", id, form, payload),
-                [b"change", id, form, payload, _, _] => ("change", id, form, payload),
+                [b"read" | b"read1", id, form, payload] => ("read", id, form, payload),
+                [b"change" | b"change1", id, form, payload, _, _] => ("change", id, form, payload),
                 _ => return None,
             };
-            Some((word, pages::find(identifier(id)?, extended(form)?)?, bytes(payload)?))
+            let (id, extended) = (identifier(id)?, extended(form)?);
+            let page = pages::all().find(|page| page.id == id && page.extended == extended)?;
+            Some((word, page, bytes(payload)?))
         };
         script.iter().filter_map(frame).collect()
     }
@@ -228,13 +241,13 @@ mod tests {
     #[test]
     fn every_message_too_short_and_too_long_by_one_byte_and_by_several() {
         let mut met = BTreeSet::new();
-        for seed in 1..8 {
+        for seed in 1..24 {
             for (word, page, payload) in frames(&script(seed, 8000, Extras::default())) {
                 let by = payload.len().abs_diff(page.len).min(2);
                 met.insert((word, page.name, payload.len().cmp(&page.len), by));
             }
         }
-        for (page, word) in PAGES.iter().flat_map(|page| [(page, "frame"), (page, "read")]) {
+        for (page, word) in pages::all().flat_map(|page| [(page, "frame"), (page, "read")]) {
             for by in [1, 2] {
                 let (long, short) = ((word, page.name, Ordering::Greater, by), (word, page.name, Ordering::Less, by));
                 assert!(met.contains(&long), "{long:?}");

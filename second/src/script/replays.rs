@@ -52,9 +52,10 @@ impl Generator {
 
     /// `None` where the log cannot hold what comes.
     pub fn night_record(&mut self) -> Option<Vec<u8>> {
-        let line = match self.rng.below(10) {
-            0 | 1 => self.refused(),
-            2 => self.astray(),
+        let line = match self.rng.below(12) {
+            0..=2 => self.refused(),
+            3 => self.astray(),
+            4 => self.of_the_other_interface(),
             _ => self.traffic(),
         };
         let (mut payload, mut room) = (Vec::new(), [0; 20]);

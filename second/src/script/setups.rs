@@ -16,6 +16,10 @@ const DISCHARGE: ([u64; 6], [u64; 5]) =
     ([0, 0, 1, 500, 32_766, 32_767], [32_768, 32_768, 32_768, 65_535, 4_294_967_295]);
 const SILENCE: ([u64; 8], [u64; 5]) = ([100, 100, 101, 150, 250, 500, 1000, 60_000], [99, 99, 60_001, 60_001, 0]);
 const SENSOR: ([u64; 2], [u64; 5]) = ([0, 1], [2, 2, 3, 256, 4_294_967_295]);
+const INTERFACE: ([u64; 2], [u64; 5]) = ([0, 1], [2, 2, 3, 256, 4_294_967_295]);
+
+/// The places of the sensor and of the interface among the limits; what stands from there on may go without saying.
+const NEED_NO_SAYING: [usize; 2] = [5, 4];
 
 impl Generator {
     /// A set-up to be accepted: a free post or one to start anew, on its own channel or a free one.
@@ -54,8 +58,8 @@ impl Generator {
             channel = if taken.is_empty() { channel } else { self.rng.pick(&taken) };
         }
         if flaws & 8 != 0 || flaws == 4 && self.posts.iter().flatten().count() < 2 {
-            let which = self.rng.below(5) as usize;
-            limits[which] = self.rng.pick(&[VOLT.1, CHARGE.1, DISCHARGE.1, SILENCE.1, SENSOR.1][which]);
+            let which = self.rng.pick(&[0, 1, 2, 3, 4, 4, 5, 5]);
+            limits[which] = self.rng.pick(&[VOLT.1, CHARGE.1, DISCHARGE.1, SILENCE.1, SENSOR.1, INTERFACE.1][which]);
         }
         self.set_up_line(post, channel, limits)
     }
@@ -102,9 +106,10 @@ impl Generator {
         }
     }
 
-    fn limits(&mut self) -> [u64; 5] {
+    fn limits(&mut self) -> [u64; 6] {
         let rng = &mut self.rng;
-        [rng.pick(&VOLT.0), rng.pick(&CHARGE.0), rng.pick(&DISCHARGE.0), rng.pick(&SILENCE.0), rng.pick(&SENSOR.0)]
+        let (volt, charge, discharge) = (rng.pick(&VOLT.0), rng.pick(&CHARGE.0), rng.pick(&DISCHARGE.0));
+        [volt, charge, discharge, rng.pick(&SILENCE.0), rng.pick(&SENSOR.0), rng.pick(&INTERFACE.0)]
     }
 
     pub fn free_channel(&mut self) -> u64 {
@@ -116,7 +121,7 @@ impl Generator {
     }
 
     /// Starts small, at 0, close to the largest time, or close to half of it.
-    fn sketch(&mut self, post: usize, channel: u32, limits: [u64; 5]) {
+    fn sketch(&mut self, post: usize, channel: u32, limits: [u64; 6]) {
         let now = match self.rng.below(10) {
             0 | 1 => 0,
             2 | 3 => u32::MAX - self.rng.below(1000) as u32,
@@ -124,15 +129,19 @@ impl Generator {
             5 => EARLIER as u32 - 1 + self.rng.below(3) as u32,
             _ => self.rng.below(100_000) as u32,
         };
-        let [volt, charge, discharge, silence, sensor] = limits.map(|limit| limit as u32);
-        let limits = Limits { volt, charge, discharge, silence, sensor };
+        let [volt, charge, discharge, silence, sensor, interface] = limits.map(|limit| limit as u32);
+        let limits = Limits { volt, charge, discharge, silence, sensor, interface };
         self.posts[post] = Some(Sketch::new(channel, limits, now));
         self.busy = post;
     }
 
-    /// Sensor 0 may go without saying.
-    fn set_up_line(&mut self, post: u64, channel: u64, limits: [u64; 5]) -> String {
-        let said = if limits[4] == 0 && self.rng.chance(50) { &limits[..4] } else { &limits };
+    fn set_up_line(&mut self, post: u64, channel: u64, limits: [u64; 6]) -> String {
+        let mut said = &limits[..];
+        for place in NEED_NO_SAYING {
+            if said.len() == place + 1 && said[place] == 0 && self.rng.chance(60) {
+                said = &said[..place];
+            }
+        }
         let said: Vec<String> = said.iter().map(u64::to_string).collect();
         format!("setup {post} {channel} {}", said.join(" "))
     }

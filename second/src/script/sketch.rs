@@ -14,7 +14,7 @@ pub struct Sketch {
     pub heard_at: u64,
     pub open: bool,
     pub first: [i64; 2],
-    /// Maximum_Voltage, Maximum_Charge_Current and Maximum_Discharge_Current as last sent.
+    /// The voltage, charge and discharge limits as last told; 0 where there is none.
     pub received: [i64; 3],
 }
 
@@ -26,10 +26,10 @@ impl Sketch {
     }
 
     /// Numbers at which a limit could stand, rightly or by a slip.
-    pub fn marks(&self, which: usize) -> [i64; 4] {
+    pub fn marks(&self, which: usize) -> [i64; 5] {
         let default = [self.limits.volt, self.limits.charge, self.limits.discharge][which];
         let (default, received) = (i64::from(default), self.received[which]);
-        let applied = if received == 0 { default } else { default.min(received) };
-        [applied, applied, default, received]
+        let applied = if received <= 0 { default } else { default.min(received) };
+        [applied, applied, default, received, self.received[1]]
     }
 }

@@ -1,51 +1,40 @@
 //! Frames and ticks: sessions that run, with times at the edges, and frames that are refused.
 
+use super::kinds::{arriving, status};
 use super::messages::{aimed, any, some_page, uncovered, unlabelled, wrong_length};
 use super::sketch::Sketch;
 use super::Generator;
+use crate::asked::{protocol_and_plug, told, Limit, CONTROLLER_STATUS, FINISHED, OPENING, STATUS, TOLD};
 use crate::clock::as_received;
 use crate::codec::Message;
 use crate::fields::{form, hex};
-use crate::pages::{Kind, Page};
+use crate::pages::{other, Kind, Page, NEWER, OLDER};
 use crate::rng::Rng;
 use crate::rules::CONTROLLER_LIMIT;
 
-/// Weights of what arrives while a session is open, and while none is; `None` is a tick.
-const OPEN: [(u64, Option<Kind>); 13] = [
-    (12, Some(Kind::NewChargeSession)),
-    (18, Some(Kind::AdvanticsControllerStatus)),
-    (24, Some(Kind::PowerModulesStatus)),
-    (22, Some(Kind::DcPowerControl)),
-    (7, Some(Kind::DcPowerParameters)),
-    (9, None),
-    (4, Some(Kind::ChargeSessionFinished)),
-    (2, Some(Kind::ChargeStatusChange)),
-    (2, Some(Kind::EmergencyStop)),
-    (1, Some(Kind::EvIdCcsPart2Din)),
-    (4, Some(Kind::ChargeControl1)),
-    (4, Some(Kind::ChargeState1)),
-    (4, Some(Kind::Pt1000State)),
-];
-
-const CLOSED: [(u64, Option<Kind>); 13] = [
-    (30, Some(Kind::NewChargeSession)),
-    (15, Some(Kind::AdvanticsControllerStatus)),
-    (12, Some(Kind::PowerModulesStatus)),
-    (18, Some(Kind::DcPowerControl)),
-    (6, Some(Kind::DcPowerParameters)),
-    (9, None),
-    (5, Some(Kind::ChargeSessionFinished)),
-    (2, Some(Kind::ChargeStatusChange)),
-    (2, Some(Kind::EmergencyStop)),
-    (1, Some(Kind::EvIdCcsPart2Din)),
-    (4, Some(Kind::ChargeControl1)),
-    (4, Some(Kind::ChargeState1)),
-    (4, Some(Kind::Pt1000State)),
-];
-
 /// Identifiers of 000's other messages, and such that only look close; in neither form in the table.
-const STRANGERS: [u32; 14] =
-    [0, 5, 9, 0x106, 2047, 0x63002, 0x63003, 0x63201, 0x6b006, 0x6b100, 0x6b104, 0x8000_0006, 0x8006_3000, u32::MAX];
+const STRANGERS: [u32; 20] = [
+    0,
+    5,
+    9,
+    0x106,
+    2047,
+    0x60000,
+    0x60014,
+    0x63002,
+    0x63003,
+    0x63201,
+    0x68000,
+    0x68008,
+    0x68010,
+    0x6b006,
+    0x6b100,
+    0x6b104,
+    0x8000_0006,
+    0x8006_0010,
+    0x8006_3000,
+    u32::MAX,
+];
 
 /// Half the range of a time: so much earlier is also so much later, and is refused.
 const HALF: u32 = 1 << 31;
@@ -62,12 +51,22 @@ impl Generator {
         let rng = &mut self.rng;
         let post = self.posts[self.busy].as_mut().expect("one of those alive");
         let time = moment(rng, post);
-        let kind = rng.weighted(if post.open { &OPEN } else { &CLOSED });
+        let kind = rng.weighted(&arriving(post.limits.interface, post.open));
         let message = kind.map(|kind| aimed(rng, kind, post));
         note(post, time, message.as_ref());
         match message {
             Some(message) => of_page(post.channel, as_received(time), message.kind.page(), &message.bytes()),
             None => tick(post.channel, time),
+        }
+    }
+
+    /// A status behind what came to an open session, so that limits and functions are judged while they stand.
+    pub fn status_at_once(&mut self) {
+        if let Some(post) = self.posts[self.busy].as_mut().filter(|post| post.open) {
+            let message = aimed(&mut self.rng, status(post.limits.interface), post);
+            note(post, post.now, Some(&message));
+            let line = of_page(post.channel, as_received(post.now), message.kind.page(), &message.bytes());
+            self.following.push_back(line);
         }
     }
 
@@ -77,9 +76,10 @@ impl Generator {
             return self.astray();
         };
         let (channel, now, begun) = (post.channel, as_received(post.now), post.begun);
+        let interface = post.limits.interface;
         let rng = &mut self.rng;
         let time = if rng.chance(10) { now.wrapping_sub(1) } else { now };
-        let page = some_page(rng);
+        let page = some_page(rng, interface);
         let bytes = any(rng, page).bytes();
         match rng.below(11) {
             0 => self.astray(),
@@ -90,13 +90,34 @@ impl Generator {
             5 => of_page(channel, time, page, &[]),
             refused => {
                 let (page, bytes) = match refused {
-                    1 | 6 | 7 => wrong_length(rng),
-                    8 => uncovered(rng),
-                    _ => unlabelled(rng),
+                    1 | 6 | 7 => wrong_length(rng, interface),
+                    8 => uncovered(rng, interface),
+                    _ => unlabelled(rng, interface),
                 };
                 of_page(channel, time, page, &bytes)
             }
         }
+    }
+
+    /// A frame by the pages that the post has not, with nothing else wrong, with something, or in the other form.
+    pub fn of_the_other_interface(&mut self) -> String {
+        let Some(post) = &self.posts[self.busy] else {
+            return self.astray();
+        };
+        let (channel, now, interface) = (post.channel, as_received(post.now), other(post.limits.interface));
+        let rng = &mut self.rng;
+        let time = if rng.chance(10) { now.wrapping_sub(1) } else { now };
+        let (page, bytes) = match rng.below(8) {
+            0..=2 => wrong_length(rng, interface),
+            3 => unlabelled(rng, interface),
+            4 | 5 => uncovered(rng, interface),
+            _ => {
+                let page = some_page(rng, interface);
+                (page, any(rng, page).bytes())
+            }
+        };
+        let form = page.extended != rng.chance(15);
+        frame(channel, time, (page.id, form), &bytes)
     }
 
     /// A time before the post's clock, alone or with an identifier that would be refused as well.
@@ -104,7 +125,8 @@ impl Generator {
         let rng = &mut self.rng;
         let by = rng.pick(&[1, 1, 2, 1000, 1 << 30, HALF - 1, HALF, HALF]);
         let time = now.wrapping_sub(by);
-        let page = some_page(rng);
+        let interface = rng.pick(&[NEWER, OLDER]);
+        let page = some_page(rng, interface);
         let bytes = any(rng, page).bytes();
         match rng.below(4) {
             0 | 1 => format!("tick {channel} {time}"),
@@ -121,7 +143,8 @@ impl Generator {
         if self.rng.chance(50) {
             return format!("tick {channel} {time}");
         }
-        let page = some_page(&mut self.rng);
+        let interface = self.rng.pick(&[NEWER, OLDER]);
+        let page = some_page(&mut self.rng, interface);
         of_page(channel as u32, time as u32, page, &any(&mut self.rng, page).bytes())
     }
 }
@@ -145,17 +168,20 @@ pub fn note(post: &mut Sketch, time: u64, message: Option<&Message>) {
     let Some(message) = message else {
         return;
     };
-    match message.kind {
-        Kind::AdvanticsControllerStatus => post.status_at = Some(time),
-        Kind::PowerModulesStatus if post.open => post.heard_at = time,
-        Kind::DcPowerParameters => post.received.copy_from_slice(&message.raws()[..3]),
-        Kind::NewChargeSession if !post.open => {
-            post.open = true;
-            post.heard_at = time;
-            post.first.copy_from_slice(message.raws());
-        }
-        Kind::ChargeSessionFinished => post.open = false,
-        _ => {}
+    let is = |asked: &[Kind]| asked.contains(&message.kind);
+    if is(CONTROLLER_STATUS) {
+        post.status_at = Some(time);
+    } else if is(STATUS) && post.open {
+        post.heard_at = time;
+    } else if is(TOLD) {
+        post.received =
+            [Limit::Voltage, Limit::Charge, Limit::Discharge].map(|limit| told(message, limit).unwrap_or(0));
+    } else if is(OPENING) && !post.open {
+        post.open = true;
+        post.heard_at = time;
+        post.first = protocol_and_plug(message);
+    } else if is(FINISHED) {
+        post.open = false;
     }
 }
 
