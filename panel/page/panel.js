@@ -89,7 +89,7 @@ const findingTold = (node, finding) => {
 };
 
 const talliesTold = (node, post) => {
-  put(part(node, 'tally-head'), `Findings in ${post.accepted} accepted`);
+  put(part(node, 'tally-head'), `Findings among ${post.accepted} accepted`);
   listed(part(node, 'tallies'), post.tallies, () => made('li', '', made('span', 'name'), made('span', 'count')), (item, tally) => {
     item.classList.toggle('some', tally.count > 0);
     item.title = tally.words;

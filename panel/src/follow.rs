@@ -147,8 +147,7 @@ impl Follower {
             }
         };
         self.log.fed(fed);
-        let news = found
-            || self.stand != stand && !matches!((&self.stand, &stand), (Stand::Within, Stand::Whole { piece: 0 }));
+        let news = found || self.stand != stand;
         self.stand = stand;
         Step { more: self.stand == Stand::Within, news }
     }
@@ -274,8 +273,10 @@ mod tests {
     fn a_piece_is_waited_for() {
         let room = Room::new("piece");
         let mut follower = room.follower();
+        assert_eq!(follower.step(), Step { more: false, news: true });
         assert_eq!(follower.step(), Step { more: false, news: false });
         room.append(&TICK);
+        assert_eq!(follower.step(), Step { more: false, news: false });
         room.append(&CLOSED[..5]);
         assert!(follower.step().news);
         assert_eq!((follower.records, follower.log.at(), follower.stand.clone()), (1, 4, Stand::Whole { piece: 5 }));

@@ -21,7 +21,7 @@ const VERSION: &str = include_str!("../../VERSION");
 
 /// The page is told anew so often, where nothing was found meanwhile.
 const EVERY: Duration = Duration::from_secs(1);
-/// The log is looked at so often, and a finding told no more often.
+/// The log is looked at so often where there is nothing more to read, and findings are told no more often while there is.
 const POLL: Duration = Duration::from_millis(50);
 
 /// How the program ends where it cannot begin; 1 is a POSTS that sets nothing up.
@@ -107,7 +107,7 @@ fn follow(mut follower: Follower, news: &News) {
         let step = follower.step();
         found |= step.news;
         let since = last.map_or(EVERY, |at| at.elapsed());
-        if since >= EVERY || found && since >= POLL {
+        if since >= EVERY || found && (since >= POLL || !step.more) {
             news.tell(state::state(&follower, SystemTime::now()));
             last = Some(Instant::now());
             found = false;

@@ -41,7 +41,7 @@ class Broken(unittest.TestCase):
         self.append(CLOSED + record('tick 4 900'))
         tab.run('new Promise((done) => setTimeout(done, 1500))')
         card = seen.cards(tab)[0]
-        self.assertEqual((card['tally_head'], card['finding']), (f'Findings in {records} accepted', None))
+        self.assertEqual((card['tally_head'], card['finding']), (f'Findings among {records} accepted', None))
         self.told(tab, said)
         self.assertEqual(panel.end(), (-2, f'panel: {self.log}: {said}; nothing more of it is read\n'))
 

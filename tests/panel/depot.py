@@ -18,8 +18,8 @@ PROGRAMS = ROOT / os.environ.get('PANEL_PROGRAMS', 'target/bin')
 class Panel:
     """Started, with the address that it prints."""
 
-    def __init__(self, posts, log, *words):
-        self.process = subprocess.Popen([*PANEL, str(posts), str(log), '--port', '0', *words], stdout=subprocess.PIPE, stderr=subprocess.PIPE, text=True)
+    def __init__(self, posts, log, port=0):
+        self.process = subprocess.Popen([*PANEL, str(posts), str(log), '--port', str(port)], stdout=subprocess.PIPE, stderr=subprocess.PIPE, text=True)
         self.ended = None
         self.address = self.process.stdout.readline().strip()
         self.port = int(self.address.rsplit(':', 1)[-1].strip('/') or 0) if self.address else 0

@@ -140,7 +140,7 @@ def held(test, card, line):
     test.assertEqual(card['channel'], f'Channel {record.fields["ch"]}', post)
     test.assertEqual(card['limits'], record.limits(), post)
     test.assertEqual((card['session'], card['within']), record.session(), post)
-    test.assertEqual((card['tally_head'], card['tallies']), (f'Findings in {record.fields["n"]} accepted', record.tallies()), post)
+    test.assertEqual((card['tally_head'], card['tallies']), (f'Findings among {record.fields["n"]} accepted', record.tallies()), post)
     test.assertEqual([each.split(':')[0] for each in card['each']], [f'{name} {FINDINGS[k]}' for k, (name, count) in enumerate(record.tallies()) if count], post)
     test.assertEqual({head: values for head, values in card['messages']}, {each.head(): each.values for each in record.messages.values()}, post)
     test.assertEqual(card['readings'], record.readings(), post)
