@@ -245,3 +245,70 @@ fn probe(probes: &Look, name: &'static str, degrees: &str, stopped: &str, failed
     let note = joined(&wrong);
     Reading { marked: !note.is_empty(), note, ..probes.reading(name, probes.words(degrees).unwrap_or_default()) }
 }
+
+#[cfg(test)]
+mod tests {
+    use super::*;
+
+    fn kept(older: bool, name: &str, age: u32, bytes: &[u8]) -> Look {
+        let kind = pages::named(older, name).unwrap();
+        Look::new(Kept { kind, time: 1000 - age, age, bytes: bytes.to_vec() }).unwrap()
+    }
+
+    fn said(rows: Vec<Option<Reading>>) -> Vec<(&'static str, String, String, bool)> {
+        rows.into_iter().flatten().map(|row| (row.name, row.value, row.note, row.marked)).collect()
+    }
+
+    fn row(name: &'static str, value: &str, note: &str, marked: bool) -> (&'static str, String, String, bool) {
+        (name, value.to_string(), note.to_string(), marked)
+    }
+
+    /// E8: at 500.0 V raw 25 is no F9, raw 24 is one.
+    #[test]
+    fn insulation_with_its_limit() {
+        for (raw, value, marked) in [(25, "50 kOhm", false), (24, "48 kOhm", true)] {
+            let looks = [kept(false, "Power_Modules_Status", 0, &[0x88, 0x13, 0, 0, 65, 65, 1, raw])];
+            assert_eq!(said(status(&looks, 0))[2], row("Insulation", value, "limit 50.00 kOhm at 500.0 V", marked));
+        }
+    }
+
+    /// 001: each function is a message of its own.
+    #[test]
+    fn an_older_controller() {
+        let looks = [
+            kept(true, "Precharge", 300, &[0xa0, 0x0f, 20, 0]),
+            kept(true, "Charging_Loop", 100, &[0xa0, 0x0f, 0x83, 0xff, 80]),
+            kept(true, "Power_Modules_Status", 0, &[0xa0, 0x0f, 0x83, 0xff, 0x41, 0, 1, 0x64]),
+        ];
+        let wanted = [
+            row("Function", "Charging_Loop", "", false),
+            row("Target voltage", "400.0 V", "", false),
+            row("Target current", "-12.5 A", "", false),
+            row("State of charge", "80 %", "", false),
+        ];
+        assert_eq!(said(older_control(&looks, None)), wanted);
+        let wanted = [
+            row("Function", "Precharge", "", false),
+            row("Target voltage", "400.0 V", "", false),
+            row("Maximum current", "2.0 A", "", false),
+        ];
+        assert_eq!(said(older_control(&looks, Some(&looks[0]))), wanted);
+        assert_eq!(said(status(&looks, 0))[1], row("Current", "-12.5 A", "", false));
+    }
+
+    /// 004: a duty above 100.0 % is taken as that, and only raw 8,191 is a probe that is not used.
+    #[test]
+    fn a_safety_controller() {
+        let looks = [
+            kept(false, "ChargeControl1", 0, &[0x83, 0xff, 1, 0, 0, 0, 0, 0]),
+            kept(false, "PT1000State", 0, &[0x7f, 0xfc, 0xff, 0xfe, 0, 1, 3, 0xe8]),
+        ];
+        let rows = said(safety(&looks).into_iter().map(Some).collect());
+        assert_eq!(rows[0], row("Asked of it", "100.0 %", "PWM active, contactor 1 closed", false));
+        assert_eq!(rows[1], row("Probe 1", "not used", "", false));
+        assert_eq!(rows[2], row("Probe 2", "-0.1 °C", "self-test failed", true));
+        assert_eq!(rows[3], row("Probe 3", "0.0 °C", "charging stopped", true));
+        assert_eq!(rows[4], row("Probe 4", "25.0 °C", "", false));
+        assert!(rows.iter().all(|(_, value, _, _)| !value.contains("819")));
+    }
+}

@@ -218,3 +218,49 @@ fn messages(looks: &[Look], sensor: u32) -> Json {
     };
     Json::List(looks.iter().map(message).collect())
 }
+
+#[cfg(test)]
+mod tests {
+    use super::*;
+    use crate::posts;
+
+    /// Of a post with W 500 whose controller spoke at 100, and was ticked at another time.
+    fn said(tick: u8, recorder: Option<u32>, ago: u64) -> String {
+        let mut depot = Depot::default();
+        posts::set_up_all(&mut depot, b"setup 0 4 5000 1000 500 500").unwrap();
+        let mut words = [0; 2];
+        depot.batch(&[100, 4, 0x81, 0xc0, 0x35, 1, 1], &mut words).unwrap();
+        depot.batch(&[0x80 | tick % 128, tick / 128, 4, 0, 9], &mut words).unwrap();
+        let fresh = Fresh { recorder, written: None, ago: Duration::from_millis(ago) };
+        heard(&depot.look_up(0).unwrap(), &fresh, &readings::looks(&depot, 0)).written()
+    }
+
+    /// The mark stands from W on, whichever clock has gone on since the latest frame.
+    #[test]
+    fn silent_from_w_on() {
+        for (tick, recorder, ago, words, silent) in [
+            (200, Some(200), 399, "499 ms", false),
+            (200, Some(200), 400, "500 ms", true),
+            (200, Some(599), 0, "499 ms", false),
+            (200, Some(600), 0, "500 ms", true),
+            (150, Some(400), 199, "499 ms", false),
+            (150, Some(400), 200, "500 ms", true),
+            // the log's latest time is another clock's
+            (200, Some(4_000_000_000), 0, "100 ms", false),
+        ] {
+            let told = said(tick, recorder, ago);
+            assert!(told.contains(&format!(r#""ago":"{words}","silent":{silent}"#)), "{told}");
+        }
+    }
+
+    #[test]
+    fn never_heard() {
+        let mut depot = Depot::default();
+        posts::set_up_all(&mut depot, b"setup 0 4 5000 1000 500 500").unwrap();
+        let fresh = Fresh { recorder: None, written: None, ago: Duration::ZERO };
+        let told = |depot: &Depot| heard(&depot.look_up(0).unwrap(), &fresh, &readings::looks(depot, 0)).written();
+        assert_eq!(told(&depot), r#"{"ticks":false}"#);
+        depot.batch(&[10, 4, 0, 9], &mut [0]).unwrap();
+        assert_eq!(told(&depot), r#"{"ticks":true}"#);
+    }
+}

@@ -29,6 +29,12 @@ def in_words(findings):
     return [f'F{k} {words}' for k, words in enumerate(FINDINGS, 1) if findings >> (k - 1) & 1]
 
 
+def findings(cards):
+    """Of each post that has one the latest finding's words and time."""
+    found = {number: card['finding'] for number, card in enumerate(cards) if card['finding']}
+    return {number: (words, head.split(',')[0].removeprefix('Latest finding ')) for number, (head, words) in found.items()}
+
+
 class Grows(unittest.TestCase):
     maxDiff = None
 
@@ -38,13 +44,14 @@ class Grows(unittest.TestCase):
         self.log = Path(room.name) / 'night.log'
         self.log.touch()
 
-    def compared(self, tab, set_ups, lines):
-        """Every card with the desk's record of the same lines, and what stands below."""
+    def compared(self, tab, set_ups, lines, latest):
+        """Every card with the desk's record of the same lines, and what stands below; no finding has gone meanwhile."""
         *_, refused = told = desk([*set_ups, *lines, *(f'record {post}' for post in range(POSTS)), 'refused'])[len(set_ups) + len(lines):]
         cards = seen.cards(tab)
         self.assertEqual([card['number'] for card in cards], [f'Post {post}' for post in range(POSTS)])
         for card, record in zip(cards, told):
             recorded.held(self, card, record)
+        self.assertEqual(findings(cards), latest)
         self.assertEqual(seen.line(tab, 'refused'), f'Refused frames and ticks: {refused.removeprefix("N ")}')
         size = self.log.stat().st_size
         self.assertIn(f'read to byte {size} of {size}, {len(lines)} records', seen.line(tab, 'log'))
@@ -54,10 +61,7 @@ class Grows(unittest.TestCase):
         latest[post] = (in_words(findings), told(time))
         took = seen.read_to(tab, count, SOON)
         self.assertLess(took, SOON)
-        for number, card in enumerate(seen.cards(tab)):
-            wanted = latest.get(number)
-            have = card['finding'] and (card['finding'][1], card['finding'][0].split(',')[0].removeprefix('Latest finding '))
-            self.assertEqual(have, wanted, f'record {count}, post {number}')
+        self.assertEqual(findings(seen.cards(tab)), latest, f'record {count}')
         return took
 
     def appended(self, night, every):
@@ -66,7 +70,7 @@ class Grows(unittest.TestCase):
         latest, slowest, count = {}, 0, 0
         with Nightlog(self.log) as nightlog, Panel(posts, self.log) as panel, Browser() as browser:
             tab = seen.opened(browser, panel)
-            self.compared(tab, set_ups, [])
+            self.compared(tab, set_ups, [], latest)
             for k, (line, answer) in enumerate(zip(lines, found, strict=True), 1):
                 nightlog.append(line)
                 if answer and answer[1]:
@@ -81,9 +85,9 @@ class Grows(unittest.TestCase):
                     nightlog.process = nightlog.started()
                     tab.until("!document.getElementById('log').textContent.includes('of a record')")
                     seen.read_to(tab, k)
-                    self.compared(tab, set_ups, lines[:k])
+                    self.compared(tab, set_ups, lines[:k], latest)
             seen.read_to(tab, len(lines))
-            self.compared(tab, set_ups, lines)
+            self.compared(tab, set_ups, lines, latest)
             self.assertEqual(panel.end(), (-2, ''))
         self.assertEqual(self.log.read_bytes(), log.read_bytes())
         self.assertEqual(count, sum(1 for answer in found if answer and answer[1]))

@@ -28,7 +28,6 @@ class Paced(unittest.TestCase):
                     # the night begins at 1,000 and has it at 6,624 ms
                     self.assertEqual(state['posts'][1]['finding']['time'], '0:00:06.624')
                     self.assertGreater(time.monotonic() - begun, 5.5)
-                    self.assertFalse(state['posts'][0]['heard']['silent'])
                 os.killpg(night.pid, signal.SIGINT)
                 night.wait(timeout=10)
             self.assertEqual(list(Path(room).iterdir()), [])

@@ -59,7 +59,17 @@ class Safe(unittest.TestCase):
                 client.next()
                 begun = time.monotonic()
                 self.assertEqual(panel.end(by), (-by, ''))
-                self.assertLess(time.monotonic() - begun, 0.5)
+                self.assertLess(time.monotonic() - begun, 1)
+
+    def test_once_a_second(self):
+        """Whatever the log does, and each state is whole."""
+        with Panel(POSTS, LOG) as panel, events.Events(panel.port) as client:
+            client.next()
+            begun = time.monotonic()
+            states = [client.next() for _ in range(4)]
+            took = time.monotonic() - begun
+            self.assertTrue(3 < took < 6, took)
+            self.assertTrue(all(len(state['posts']) == 8 for state in states))
 
     def test_headers(self):
         with Panel(POSTS, LOG) as panel:
