@@ -8,6 +8,7 @@ import recorded
 import seen
 from browser import Browser
 from depot import Nightlog, Panel, desk
+from found import found
 
 POSTS = [f'setup {post} {10 + post} 5000 2000 500 500' for post in (0, 3, 5)]
 
@@ -28,6 +29,11 @@ def night(ticked):
         if time >= 1500:
             lines += [f'frame 15 {time + 10} 6b001 x 0201', status(15, time + 20, 4000, 1000)]
     return sorted(lines, key=lambda line: int(line.split(' ')[2]))
+
+
+def judged(lines):
+    """Each line's post and the desk's answer, which accepts them all."""
+    return [(int(line.split(' ')[1]) - 10, answer) for line, answer in zip(lines, desk([*POSTS, *lines])[len(POSTS):])]
 
 
 class Dead(unittest.TestCase):
@@ -65,8 +71,9 @@ class Dead(unittest.TestCase):
             self.assertEqual(dead['finding'] and dead['finding'][1], ['F2 controller status older than 200 ms'] if ticked else None)
             self.assertIsNone(live['finding'])
             self.assertEqual((cards[0]['state'], cards[0]['heard'], cards[1]['heard']), ('never', 'Never heard', 'Not set up'))
+            told = [(post, int(answer[1:])) for post, answer in judged(lines)]
             for post, record in zip((0, 3, 5), desk([*POSTS, *lines, 'record 0', 'record 3', 'record 5'])[-3:]):
-                recorded.held(self, cards[post], record)
+                recorded.held(self, cards[post], record, found(told, lines)[post])
             # post 5 was heard within W when its latest frame came
             nightlog.append('frame 15 4000 6b000 x 07')
             seen.read_to(tab, len(lines) + 1)

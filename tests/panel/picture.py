@@ -8,7 +8,7 @@ from pathlib import Path
 import seen
 from browser import Browser
 from depot import ROOT, Nightlog, Panel, shown
-from grows import answers
+from found import answers
 
 POSTS, LOG = ROOT / 'nights/march.posts', ROOT / 'nights/march.log'
 

@@ -1,7 +1,7 @@
 """What a card has to say, made of the desk's `record` of that post and of the maker's documents."""
 import re
 
-from documents import FINDINGS, PAGES, tenths, words
+from documents import PAGES, tenths, words
 from report.clock import lasting, told
 
 
@@ -35,6 +35,9 @@ class Record:
 
     def number(self, name):
         return int(self.fields[name])
+
+    def last(self):
+        return None if self.fields['last'] == '-' else self.number('last')
 
     def when(self, name):
         time, age = self.fields[name].split('+')
@@ -130,8 +133,8 @@ class Record:
         return rows
 
 
-def held(test, card, line):
-    """A card against the desk's `record` of its post: every number of it."""
+def held(test, card, line, found):
+    """A card against the desk's `record` of its post and what was found on it: every number, but how long ago it was last heard."""
     post = f'{card["number"]}: '
     if line == 'R14':
         test.assertEqual((card['channel'], card['heard'], card['state']), ('No channel', 'Not set up', 'none'), post)
@@ -141,14 +144,14 @@ def held(test, card, line):
     test.assertEqual(card['limits'], record.limits(), post)
     test.assertEqual((card['session'], card['within']), record.session(), post)
     test.assertEqual((card['tally_head'], card['tallies']), (f'Findings among {record.fields["n"]} accepted', record.tallies()), post)
-    test.assertEqual([each.split(':')[0] for each in card['each']], [f'{name} {FINDINGS[k]}' for k, (name, count) in enumerate(record.tallies()) if count], post)
+    test.assertEqual((card['each'], card['finding']), (found.lines(record.tallies()), found.box(record.last())), post)
     test.assertEqual({head: values for head, values in card['messages']}, {each.head(): each.values for each in record.messages.values()}, post)
     test.assertEqual(card['readings'], record.readings(), post)
     test.assertEqual(card['safety'], record.safety(), post)
     test.assertNotIn('819.1', str(card), post)
     latest = min(record.messages.values(), key=lambda message: message.age, default=None)
-    if record.fields['last'] == '-':
+    if record.last() is None:
         test.assertEqual((card['heard'], card['when']), ('Never heard', ''), post)
     else:
         frame = f'latest frame {told(latest.time)}' if latest else 'no frame'
-        test.assertEqual(card['when'], f'As of {told(record.number("last"))}; {frame}', post)
+        test.assertEqual(card['when'], f'As of {told(record.last())}; {frame}', post)
