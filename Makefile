@@ -8,7 +8,8 @@
 # make install    programs with their wrappers, the library, manual pages: PREFIX (/usr/local), DESTDIR, PROCESSOR and PROGRAM_PREFIX as packaging/install says
 # make uninstall  what make install installed, by the same words
 # make deb        target/deb/rokemaipu_VERSION_ARCH.deb for amd64 and arm64, of the same install
-# make bench  the library and the replay beside plain C in one run; BEFORE=REVISION, the library beside that revision of itself too
+# make bench  the library and the replay beside plain C in one run, and the panel beside the replay; BEFORE=REVISION, the library beside that revision of itself too
+# make panel  the panel over a scratch log, to which the March night is appended at its own pace: NIGHT and POSTS as above, PORT (8600); Ctrl-C ends it
 # make report a night as a page, target/report/NAME.html: NIGHT and POSTS as above; PICTURE=FILE.png takes a picture of it too
 
 NIGHT ?= march
@@ -16,7 +17,7 @@ night = $(basename $(notdir $(NIGHT)))
 LOG ?= $(or $(filter %.log,$(NIGHT)),nights/$(night).log)
 POSTS ?= $(basename $(LOG)).posts
 
-.PHONY: run test check lib programs install uninstall deb bench report replay
+.PHONY: run test check lib programs install uninstall deb bench panel report replay
 
 run: replay
 	@tools/replay $(POSTS) $(LOG)
@@ -64,7 +65,15 @@ bench: lib replay
 	$$run target/lib/bench; \
 	$$run target/larger/larger; \
 	$$run target/lib/copied; \
-	$$run target/lib/bench_replay target/bench $(CURDIR)/target/bin/replay $(CURDIR)/target/lib/peer_replay $$run
+	$$run target/lib/bench_replay target/bench $(CURDIR)/target/bin/replay $(CURDIR)/target/lib/peer_replay $$run; \
+	[ -n "$$run" ] || { cargo build --release --offline --quiet --manifest-path panel/Cargo.toml; bench/panel; }
+
+PORT ?= 8600
+
+panel: lib
+	@rt check nightlog > nightlog.out 2>&1 || { cat nightlog.out; rm -f nightlog.out; exit 1; }
+	@rm -f nightlog.out
+	@panel/night $(POSTS) $(LOG) --port $(PORT)
 
 report: replay
 	@mkdir -p target/report

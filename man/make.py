@@ -20,6 +20,7 @@ PROGRAMS = {
     'compare': ('compares two night logs', 'compare gateway.log recorder.log 0 60000', 'nightlog'),
     'candump2log': ('turns a recording of candump into a night log', 'candump2log recording.candump night.log', 'log2candump nightlog'),
     'log2candump': ('turns a night log into a recording of candump', 'log2candump --start 1742000000 night.log -', 'candump2log nightlog'),
+    'panel': ('shows what each post of a depot is doing now', 'panel depot.posts night.log --port 8600', 'nightlog replay report'),
     'report': ('writes a night as a page', 'replay --lines depot.posts night.log | report depot.posts night.log - night.html', 'replay nightlog'),
 }
 LIBRARY = 'reads, writes and changes the messages of charge controllers and watches the session of each charging post'

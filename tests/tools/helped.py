@@ -18,7 +18,7 @@ def called(tool, *words):
 
 class Helped(unittest.TestCase):
     def test_help(self):
-        self.assertEqual([tool.name for tool in TOOLS], ['build', 'candump2log', 'compare', 'desk', 'lib', 'log2candump', 'night', 'nightlog', 'replay', 'report'])
+        self.assertEqual([tool.name for tool in TOOLS], ['build', 'candump2log', 'compare', 'desk', 'lib', 'log2candump', 'night', 'nightlog', 'panel', 'replay', 'report'])
         for tool in TOOLS:
             status, usage, said = called(tool, '--help')
             self.assertEqual((status, said), (0, ''), tool)
@@ -32,9 +32,9 @@ class Helped(unittest.TestCase):
             self.assertEqual(called(tool, '--version'), (0, f'{tool.name} (Rokemaipu) {version}', ''))
 
     def test_wrong_calls(self):
-        """Those that ask the program itself are held in statuses.py."""
+        """Those that ask the program itself are held in statuses.py, and in tests/panel."""
         for tool in TOOLS:
-            if tool.name not in ('compare', 'desk', 'nightlog', 'replay'):
+            if tool.name not in ('compare', 'desk', 'nightlog', 'panel', 'replay'):
                 status, out, said = called(tool, *WRONG)
                 self.assertEqual((status, out), (2, ''), tool)
                 self.assertIn(f'usage: {tool.name}', said)
