@@ -1,5 +1,5 @@
--- Where a post keeps the latest frame of a kind: a post has the kinds of one interface, so that a kind of 001 has a place that a kind of 000 has on another post,
--- and those of 004 have places of their own.
+-- Where a post keeps the latest frame of a kind: a post has the kinds of one interface, so that a kind of 001 has a place that a kind of 000 has on another
+-- post, and those of 004 have places of their own.
 use Prim.Native.Nat.{ℕ, _-_}
 use mathlib.Core.Bool.{cond}
 use lib.Dec.{ltb}

@@ -8,4 +8,5 @@ pub mod CountsLook
 pub mod Unrolled
 pub mod Look
 pub mod Right
+pub mod OlderQuiet
 pub mod Excludes

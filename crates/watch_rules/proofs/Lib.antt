@@ -10,6 +10,7 @@ pub mod Demand
 pub mod Own
 pub mod Promises
 pub mod Pages
+pub mod SideBySide
 pub mod Handed
 pub mod Full
 pub mod Night

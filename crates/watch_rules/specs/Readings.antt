@@ -1,5 +1,5 @@
--- 01, "Readings from both sides of each edge": E1* to E13*, and 02, Req 02 to 04, 08, 09 and 11: one table under one statement, closed by computing the definitions.
--- What the watch answers is read by looking back.
+-- 01, "Readings from both sides of each edge": E1* to E13*, and 02, Req 02 to 04, 08, 09 and 11: one table under one statement, closed by computing the
+-- definitions. What the watch answers is read by looking back.
 use Prim.Native.Nat.{ℕ}
 use mathlib.Core.Path.{_≡_, refl}
 use mathlib.Core.Bool.{true, false}
@@ -56,7 +56,8 @@ use Rattle.watch_rules.specs.Steps.{standing, findFrom, holder, otherHol
 use Rattle.watch_rules.specs.Run.{Request, setUp, release, frame, tick, Reply, set, fed, accepted, refusedEver, acceptedFrom, replies01From}
 
 -- a reading of frames and messages (E1 to E7); requests to the empty table in order of arrival, with their replies;
--- such requests, and a post's record after them, or the sensor kind or the interface in it, or its latest message in a place, or that one's time and age, or its session's part, or its counts;
+-- such requests, and a post's record after them, or the sensor kind or the interface in it, or its latest message in a place, or that one's time and age,
+-- or its session's part, or its counts;
 -- and how many of them were refused
 pub data Case : Type 0 where
   codec : messages.Case → Case
@@ -311,16 +312,17 @@ e8to13 =
     -- with no session open F4 of each of the three functions, and neither F3 nor F7, whatever their numbers; F11; no finding of an Emergency_Stop
     ∷ answers (reading 1 ∷ frame 4 0 0x68002 true (0xFF ∷ 0xFF ∷ []) ∷ frame 4 1 0x68003 true (0xFF ∷ 0xFF ∷ 0xFF ∷ 0xFF ∷ []) ∷ charging 2 ∷ frame 4 3 0x68007 true (0 ∷ []) ∷ frame 4 4 0x68006 true (1 ∷ []) ∷ [])
     (done ∷ found 8 ∷ found 8 ∷ found 8 ∷ found 1024 ∷ found 0 ∷ [])
-    -- New_Charge_Session has 8 bytes; F10 compares protocol and plug only; F5 until a status; F9 under Charging_Loop and precharge, not under an insulation test
+    -- New_Charge_Session has 8 bytes; F10 compares protocol and plug only; F5 until a status; F9 under Charging_Loop and precharge, and not under an
+    -- insulation test
     ∷ answers (reading 1 ∷ frame 4 0 0x68001 true (2 ∷ 1 ∷ []) ∷ olderSession 0 2 1 0 ∷ olderSession 1 2 1 7 ∷ olderSession 2 2 2 0 ∷ charging 3 ∷ olderStatus 4 0x88 0x13 0 0 25 ∷ charging 5 ∷ olderStatus 6 0x88 0x13 0 0 25
-      ∷ olderStatus 7 0x88 0x13 0 0 24 ∷ frame 4 8 0x68002 true (0 ∷ 0 ∷ []) ∷ olderStatus 9 0x88 0x13 0 0 24 ∷ frame 4 10 0x68003 true (0 ∷ 0 ∷ 0 ∷ 0 ∷ []) ∷ olderStatus 11 0x88 0x13 0 0 24 ∷ [])
+    ∷ olderStatus 7 0x88 0x13 0 0 24 ∷ frame 4 8 0x68002 true (0 ∷ 0 ∷ []) ∷ olderStatus 9 0x88 0x13 0 0 24 ∷ frame 4 10 0x68003 true (0 ∷ 0 ∷ 0 ∷ 0 ∷ []) ∷ olderStatus 11 0x88 0x13 0 0 24 ∷ [])
     (done ∷ fed (Refused TooShort) ∷ found 0 ∷ found 0 ∷ found 512 ∷ found 16 ∷ found 0 ∷ found 0 ∷ found 0
-      ∷ found 256 ∷ found 0 ∷ found 0 ∷ found 0 ∷ found 256 ∷ [])
+    ∷ found 256 ∷ found 0 ∷ found 0 ∷ found 0 ∷ found 256 ∷ [])
     -- Power_Modules_Limits: 40.0 A is a charge limit, -0.1 A and 0 A are none, and 100.1 A is not above the default; the discharge limit is the default
     ∷ answers (reading 1 ∷ olderSession 0 2 1 0 ∷ olderLimits 1 0x90 1 ∷ olderStatus 2 0 0 0x90 1 255 ∷ olderStatus 3 0 0 0x91 1 255 ∷ olderLimits 4 0xFF 0xFF ∷ olderStatus 5 0 0 0xE8 3 255 ∷ olderStatus 6 0 0 0xE9 3 255
-      ∷ olderLimits 7 0 0 ∷ olderStatus 8 0 0 0xE8 3 255 ∷ olderLimits 9 0xE9 3 ∷ olderStatus 10 0 0 0xE9 3 255 ∷ olderLimits 11 1 0 ∷ olderStatus 12 0 0 0x0C 0xFE 255 ∷ olderStatus 13 0 0 0x0B 0xFE 255 ∷ [])
+    ∷ olderLimits 7 0 0 ∷ olderStatus 8 0 0 0xE8 3 255 ∷ olderLimits 9 0xE9 3 ∷ olderStatus 10 0 0 0xE9 3 255 ∷ olderLimits 11 1 0 ∷ olderStatus 12 0 0 0x0C 0xFE 255 ∷ olderStatus 13 0 0 0x0B 0xFE 255 ∷ [])
     (done ∷ found 0 ∷ found 0 ∷ found 0 ∷ found 128 ∷ found 0 ∷ found 0 ∷ found 128
-      ∷ found 0 ∷ found 0 ∷ found 0 ∷ found 128 ∷ found 0 ∷ found 0 ∷ found 128 ∷ [])
+    ∷ found 0 ∷ found 0 ∷ found 0 ∷ found 128 ∷ found 0 ∷ found 0 ∷ found 128 ∷ [])
     -- F1 at 500 and 501 ms, F2 at 200 and 201 ms after 001's messages; a session closes at 001's Charge_Session_Finished
     ∷ answers (reading 1 ∷ olderSession 0 2 1 0 ∷ tick 4 500 ∷ olderStatus 501 0 0 0 0 255 ∷ tick 4 1001 ∷ tick 4 1002 ∷ frame 4 1002 0x68007 true (0 ∷ []) ∷ tick 4 1003 ∷ [])
     (done ∷ found 0 ∷ found 0 ∷ found 1 ∷ found 0 ∷ found 1 ∷ found 1 ∷ found 0 ∷ [])
