@@ -9,12 +9,15 @@ use lib.ListN.{length, getD, take, replicate, length-replicate}
 use Rattle.refusals.specs.Refusals.{numberOf}
 use Rattle.refusals.specs.declared.Refusal.the-variants.{BatchBytes, BatchRecord, BatchAnswers}
 use Rattle.page_rows.specs.Table.{rows, ofKind, firstAt, covered}
-use Rattle.page_read.specs.Judge.{unlabelled, strayBelow, judgedNumber, judgeOf}
+use Rattle.page_read.specs.Judge.{unlabelled, strayBelow, judgedNumber, judgeOn}
+use Rattle.page_interfaces.specs.Foreign.{isForeign, judgeFor}
 use Rattle.page_write.specs.Raws.{wholesOf, pad, rawsOf}
 use Rattle.signal.specs.Signal.{getBits}
 use Rattle.signal.specs.Twos.{toSigned}
 use Rattle.payload.specs.Payload.{leNumber}
 use Rattle.message_parts.specs.Parts.{statusIn, parametersIn, sessionIn, controlIn}
+use Rattle.rule_pages.specs.Roles.{roleOf}
+use Rattle.rule_pages.specs.Said.{statusBy, limitsBy, openingBy, commandBy}
 use Rattle.rule_limits.specs.declared.PlainLimits.{PlainLimits}
 use Rattle.rule_limits.specs.Limits.{limitsFit}
 use Rattle.rule_asks.specs.Judgements.{lowersBadly, outside, leaking, badInsulation, differs}
@@ -40,7 +43,7 @@ use Rattle.batch_rules.proofs.Flat.{flat-run, flat-words, flat-answer}
 use Rattle.batch_rules.proofs.Counted.{flat-handed, asked-refused, asked-handed}
 
 abbrev limits : PlainLimits
-limits = record { voltage = 5000; charge = 1000; discharge = 500; silence = 500; sensor = 0 }
+limits = record { voltage = 5000; charge = 1000; discharge = 500; silence = 500; sensor = 0; interface = 0 }
 
 -- the records, and their bytes: New_Charge_Session at 0, a tick at 500, a tick at 7 on channel 9
 abbrev three : List Rec
@@ -78,11 +81,11 @@ night-flat = refl
 
 -- what 01's rules give there
 computed : (words01 (setUp 0 4 limits ∷ []) three ≡ 0 ∷ 0 ∷ 65537 ∷ []) × (wordOf (reply01 (accepted alone) (tick 4 501)) ≡ 1)
-unfolding words01 standing findFrom holder otherHolds feed01 setUp01 lookUp01 feedSteps setUpSteps limitsFit accepted sinceFinished opening inSession earlierIn lowersBadly outside leaking badInsulation differs sessionStatus sessionControl limitOf f1 f2 f3 f4 f5 f6 f7 f8 f9 f10 f11 findings01 rows ofKind firstAt covered unlabelled strayBelow judgedNumber judgeOf wholesOf pad rawsOf getBits leNumber toSigned statusIn parametersIn sessionIn controlIn
+unfolding words01 standing findFrom holder otherHolds feed01 setUp01 lookUp01 feedSteps setUpSteps limitsFit accepted sinceFinished opening inSession earlierIn lowersBadly outside leaking badInsulation differs sessionStatus sessionControl limitOf f1 f2 f3 f4 f5 f6 f7 f8 f9 f10 f11 findings01 rows ofKind firstAt covered unlabelled strayBelow judgedNumber judgeOn isForeign judgeFor wholesOf pad rawsOf getBits leNumber toSigned roleOf statusBy limitsBy openingBy commandBy statusIn parametersIn sessionIn controlIn
 computed = (refl, refl)
 
 counted : (min (refusedEver alone) largest ≡ 1) × (acceptedEver alone ≡ 2) × (refusedEver alone ≡ 1)
-unfolding standing findFrom holder otherHolds feed01 setUp01 lookUp01 feedSteps setUpSteps limitsFit accepted sinceFinished opening inSession earlierIn lowersBadly outside leaking badInsulation differs sessionStatus sessionControl limitOf f1 f2 f3 f4 f5 f6 f7 f8 f9 f10 f11 findings01 rows ofKind firstAt covered unlabelled strayBelow judgedNumber judgeOf wholesOf pad rawsOf getBits leNumber toSigned statusIn parametersIn sessionIn controlIn
+unfolding standing findFrom holder otherHolds feed01 setUp01 lookUp01 feedSteps setUpSteps limitsFit accepted sinceFinished opening inSession earlierIn lowersBadly outside leaking badInsulation differs sessionStatus sessionControl limitOf f1 f2 f3 f4 f5 f6 f7 f8 f9 f10 f11 findings01 rows ofKind firstAt covered unlabelled strayBelow judgedNumber judgeOn isForeign judgeFor wholesOf pad rawsOf getBits leNumber toSigned roleOf statusBy limitsBy openingBy commandBy statusIn parametersIn sessionIn controlIn
 counted = (refl, refl, refl)
 
 module _ (t : Table) where

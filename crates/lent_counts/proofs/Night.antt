@@ -11,9 +11,12 @@ use Rattle.payload.specs.Payload.{leNumber}
 use Rattle.signal.specs.Signal.{getBits}
 use Rattle.signal.specs.Twos.{toSigned}
 use Rattle.page_rows.specs.Table.{rows, ofKind, firstAt, covered}
-use Rattle.page_read.specs.Judge.{unlabelled, strayBelow, judgedNumber, judgeOf}
+use Rattle.page_read.specs.Judge.{unlabelled, strayBelow, judgedNumber, judgeOn}
+use Rattle.page_interfaces.specs.Foreign.{isForeign, judgeFor}
 use Rattle.page_write.specs.Raws.{wholesOf, pad, rawsOf}
 use Rattle.message_parts.specs.Parts.{statusIn, parametersIn, sessionIn, controlIn}
+use Rattle.rule_pages.specs.Roles.{roleOf}
+use Rattle.rule_pages.specs.Said.{statusBy, limitsBy, openingBy, commandBy}
 use Rattle.rule_limits.specs.declared.PlainLimits.{PlainLimits}
 use Rattle.rule_limits.specs.Limits.{limitsFit}
 use Rattle.rule_asks.specs.Judgements.{lowersBadly, outside, leaking, badInsulation, differs}
@@ -35,7 +38,7 @@ use Rattle.lent_counts.specs.Counts.{countsWord, countsAfter, refusedIn}
 use Rattle.lent_counts.proofs.CountLaws.{counts-refused, counts-kept, counts-of-run, refused-of-run, accounted}
 
 abbrev limits : PlainLimits
-limits = record { voltage = 5000; charge = 1000; discharge = 500; silence = 500; sensor = 0 }
+limits = record { voltage = 5000; charge = 1000; discharge = 500; silence = 500; sensor = 0; interface = 0 }
 
 -- newest first
 abbrev night : List Request
@@ -50,7 +53,7 @@ counts = 3 ∷ 1 ∷ 0 ∷ 0 ∷ 0 ∷ 0 ∷ 0 ∷ 0 ∷ 0 ∷ 0 ∷ 1 ∷ 0 ∷
 
 computed : (standing 0 (accepted night) ≡ held 4 limits heard) × (countsOf limits heard ≡ counts) × (refusedEver night ≡ 2) × (lookUp01 (accepted night) 0 .answer ≡ setting.Done)
     × (acceptedEver night ≡ 3) × (handedIn night ≡ 5)
-unfolding standing findFrom holder otherHolds feed01 setUp01 lookUp01 feedSteps setUpSteps limitsFit accepted sinceFinished opening inSession earlierIn lowersBadly outside leaking badInsulation differs sessionStatus sessionControl limitOf f1 f2 f3 f4 f5 f6 f7 f8 f9 f10 f11 findings01 talliesOf rows ofKind firstAt covered unlabelled strayBelow judgedNumber judgeOf wholesOf pad rawsOf getBits leNumber toSigned statusIn parametersIn sessionIn controlIn
+unfolding standing findFrom holder otherHolds feed01 setUp01 lookUp01 feedSteps setUpSteps limitsFit accepted sinceFinished opening inSession earlierIn lowersBadly outside leaking badInsulation differs sessionStatus sessionControl limitOf f1 f2 f3 f4 f5 f6 f7 f8 f9 f10 f11 findings01 talliesOf rows ofKind firstAt covered unlabelled strayBelow judgedNumber judgeOn isForeign judgeFor wholesOf pad rawsOf getBits leNumber toSigned roleOf statusBy limitsBy openingBy commandBy statusIn parametersIn sessionIn controlIn
 computed = (refl, refl, refl, refl, refl, refl)
 
 first : 0 < postCount

@@ -1,11 +1,11 @@
-// A frame in place: one head is copied out and stepped by value; it is stored back, and the frame in its kind's slot.
+// A frame in place: one head is copied out and stepped by value; it is stored back, and the frame in its kind's place.
 // Its answer and the table are exactly what `watch::frame` gives.
 // It stands alone, since the compiler builds a step into its entry only where the step has one caller. For C, and through `gateway` for Rattle.
 ghost use mathlib.Core.Path.{_≡_};
 ghost use Rattle.lent_step.specs.Fed.{frameWord};
 use lent_step::frame_on;
 use lent_words::Lent;
-use rules::KINDS;
+use rules::PLACES;
 use watch_places::some_place;
 use watch_rules::Table;
 
@@ -27,7 +27,7 @@ pub extern "C" fn rokemaipu_frame(
     t.refused = r.refused;
     t.posts[i].head = r.head;
     let at = r.at;
-    if at < KINDS {
+    if at < PLACES {
         t.posts[i].latest[at] = r.slot;
     }
     r.answer

@@ -7,7 +7,7 @@
 --         t.refused = r.refused;
 --         t.posts[i].head = r.head;
 --         let at = r.at;
---         if at < KINDS {
+--         if at < PLACES {
 --             t.posts[i].latest[at] = r.slot;
 --         }
 --         r.answer
@@ -48,7 +48,7 @@ use denote.Steps.{opens, closes, owned, peeks, nothing}
 use denote.Struct.Steps.{spelt}
 use denote.Struct.Laws as LL
 use denote.Triple.Call.{calls-from}
-use Rattle.rules.specs.Record.{kindCount, unknown}
+use Rattle.rules.specs.Record.{placeCount, unknown}
 use Rattle.rules.specs.declared.Head.{Head}
 use Rattle.rules.specs.declared.Slot.{Slot}
 use Rattle.rules.proofs.Slot as S
@@ -117,7 +117,7 @@ fn n τs at f = record {
       (seq (assign (place (past-args τs 10) []) (op2 offset (copy (place (past-args τs 9) [])) (copy (place (past-args τs 6) []))))
       (seq (assign (place (past-args τs 10) (deref τP ∷ field 0 ∷ [])) (rvOpd (copy (place (past-args τs 3) (field 0 ∷ [])))))
       (seq (assign (place (past-args τs 4) []) (rvOpd (copy (place (past-args τs 3) (field 2 ∷ [])))))
-      (seq (assign (place (past-args τs 11) []) (op2 (lt unsigned) (copy (place (past-args τs 4) [])) (int w64 kindCount)))
+      (seq (assign (place (past-args τs 11) []) (op2 (lt unsigned) (copy (place (past-args τs 4) [])) (int w64 placeCount)))
       (seq (cond (copy (place (past-args τs 11) []))
       (seq (assign (place (past-args τs 12) []) (op2 (mul unsigned) (copy (place (past-args τs 0) [])) (int w64 (size τP))))
       (seq (assign (place (past-args τs 13) []) (addrOf (place 1 (deref τT ∷ field 0 ∷ []))))
@@ -165,10 +165,10 @@ module _ {M : Type 1} (𝓤 : URA M) (H : Heap 𝓤) (A : Atoms 𝓤) (W : Given
       scaled : (j : ℕ) → j < postCount → j * size τP < 2 ^ 64
       scaled j m = omega arith
 
-  of-kind : (k : ℕ) → k < kindCount → Fits w64 (k * size τL)
-  of-kind k l = record { fits = scaled k l }
+  of-place : (k : ℕ) → k < placeCount → Fits w64 (k * size τL)
+  of-place k l = record { fits = scaled k l }
     where
-      scaled : (j : ℕ) → j < kindCount → j * size τL < 2 ^ 64
+      scaled : (j : ℕ) → j < placeCount → j * size τL < 2 ^ 64
       scaled j m = omega arith
 
   -- where a head and a slot lie
@@ -190,7 +190,7 @@ module _ {M : Type 1} (𝓤 : URA M) (H : Heap 𝓤) (A : Atoms 𝓤) (W : Given
       headed-part : Part K W (cell m (us-of (headed h i x))) fullShare τP b (Index.place (size τP) (o + 0) i) (post-of (head-val x) (ss-of (post-at h i .latest))) (λ u. cell m (set (us-of (headed h i x)) i u))
       headed-part = as-value (headed-at h was i l x) (elem t (us-of (headed h i x)) i (post-val noPost) (headed-within h was i l x) (headed-long h was i l x) (sub t 0 refl (whole-raw t {τ = τT})))
 
-      slot-part : (k : ℕ) → k < kindCount
+      slot-part : (k : ℕ) → k < placeCount
           → Part K W (cell m (us-of (headed h i x))) fullShare τL b (Index.place (size τL) (Index.place (size τP) (o + 0) i + size τH) k) (getD (ss-of (post-at h i .latest)) k (slot-val unknown))
           (λ u. cell m (set (us-of (headed h i x)) i (post-of (head-val x) (set (ss-of (post-at h i .latest)) k u))))
       slot-part k low = elem t (ss-of (post-at h i .latest)) k (slot-val unknown) (ss-within h was i l k low) (ss-long h was i l) (sub t 1 refl headed-part)
@@ -248,11 +248,11 @@ module _ {M : Type 1} (𝓤 : URA M) (H : Heap 𝓤) (A : Atoms 𝓤) (W : Given
       assigns ! (bin ! (val ! τs bs _ 0 6 refl) (lit ! tt) (of-post i (g₁ .1 .1))) (var ! τs bs _ 12) (init ! 30 refl (tt, of-post i (g₁ .1 .1))) $
       assigns ! (addr ! (from ! (hop ! (look ! 44 refl) (fld ! refl (stop !))))) (var ! τs bs _ 13) (init ! 32 refl (tt, tt)) $
       assigns ! (bin ! (val ! τs bs _ 13 32 refl) (val ! τs bs _ 12 30 refl) tt) (var ! τs bs _ 14) (init ! 34 refl (tt, tt)) $
-      assigns ! (bin ! (val ! τs bs _ 4 14 refl) (lit ! tt) (of-kind (r .at) (ltb→lt (r .at) kindCount in-it))) (var ! τs bs _ 15) (init ! 36 refl (tt, of-kind (r .at) (ltb→lt (r .at) kindCount in-it))) $
+      assigns ! (bin ! (val ! τs bs _ 4 14 refl) (lit ! tt) (of-place (r .at) (ltb→lt (r .at) placeCount in-it))) (var ! τs bs _ 15) (init ! 36 refl (tt, of-place (r .at) (ltb→lt (r .at) placeCount in-it))) $
       assigns ! (addr ! (at-place ! (past-is 𝓤 H τs bs _ 14) (hop ! (look ! 34 refl) (fld ! refl (stop !))))) (var ! τs bs _ 16) (init ! 38 refl (tt, tt)) $
       assigns ! (bin ! (val ! τs bs _ 16 38 refl) (val ! τs bs _ 15 36 refl) tt) (var ! τs bs _ 17) (init ! 40 refl (tt, tt)) $
       assigns-last ! (of-opd ! (load ! (at-place ! (past-is 𝓤 H τs bs _ 3) (fld ! refl (stop !))) (look-in ! 12 (sub ! 1 refl (whole !))))) (at-place ! (past-is 𝓤 H τs bs _ 17) (hop ! (look ! 40 refl) (stop !)))
-      (writes-at (slot-place i (r .at)) (store-in ! 2 (slot-part ! was i (g₁ .1 .1) (r .refused) (r .head) (r .at) (ltb→lt (r .at) kindCount in-it)) (of-slot (r .slot) (g .1 .1 .0 .1 .0)))) $
+      (writes-at (slot-place i (r .at)) (store-in ! 2 (slot-part ! was i (g₁ .1 .1) (r .refused) (r .head) (r .at) (ltb→lt (r .at) placeCount in-it)) (of-slot (r .slot) (g .1 .1 .0 .1 .0)))) $
       exec ! C Λ (env τs bs l₀ l₁ l₂ cs) (rest τs) (atRet (env τs bs l₀ l₁ l₂ cs) Post) $ rewrite ! 2 (cell (r .refused)) (slot-stored h was i (g₁ .1 .1) r in-it) refl $
       assigns ! (of-opd ! (load ! (at-place ! (past-is 𝓤 H τs bs _ 3) (fld ! refl (stop !))) (look-in ! 12 (sub ! 4 refl (whole !))))) (from ! (stop !)) (init ! 46 refl (tt, record { fits = g .1 .1 .0 .1 .1 .1 .1 .1 })) $
       move ! (2 ∷ []) $ owned ! T.the-row (Is T.the-row) (LL.makes T.the-type T′.the-plain 𝓤 H A) (after i r) _ (after-is was i (g₁ .1 .1) r (g .1 .1 .0)) $

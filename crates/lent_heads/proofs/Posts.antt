@@ -22,7 +22,7 @@ use denote.Struct.Laws as LL
 use Rattle.rules.specs.declared.Slot.{Slot}
 use Rattle.rules.specs.declared.Head.{Head}
 use Rattle.rules.specs.declared.Post.{Post}
-use Rattle.rules.specs.Record.{kindCount}
+use Rattle.rules.specs.Record.{placeCount}
 use Rattle.rules.specs.After.{keepIn}
 use Rattle.rules.proofs.Slot as S
 use Rattle.rules.proofs.Slot.Laws as S′
@@ -85,7 +85,7 @@ ss-set l k s = map-set s-val (map (S.the-type .to) l) k (S.the-type .to s) ∙ a
 pub us-at : (ps : List Post) (i : ℕ) → getD (us-of ps) i (post-val noPost) ≡ post-val (getD ps i noPost)
 us-at ps i = List·getD-map p-val (map (P.the-type .to) ps) i (P.the-type .to noPost) ∙ ap p-val (List·getD-map (P.the-type .to) ps i noPost)
 
--- what is kept of a slot at a place among the kinds, and past them
+-- what is kept of a slot at one of the places, and past them
 chosen : {X : Type 0} (y : Bool) (a b : X) → Holds y → a ≡ cond y a b
 chosen true a b h = refl
 chosen false a b h = absurd h
@@ -94,11 +94,11 @@ passed : {X : Type 0} (y : Bool) (a b : X) → Holds (not y) → b ≡ cond y a 
 passed true a b h = absurd h
 passed false a b h = refl
 
-kept : (l : List Slot) (k : ℕ) (s : Slot) → Holds (ltb k kindCount) → set l k s ≡ keepIn l k s
-kept l k s = chosen (ltb k kindCount) (set l k s) l
+kept : (l : List Slot) (k : ℕ) (s : Slot) → Holds (ltb k placeCount) → set l k s ≡ keepIn l k s
+kept l k s = chosen (ltb k placeCount) (set l k s) l
 
-left-out : (l : List Slot) (k : ℕ) (s : Slot) → Holds (not (ltb k kindCount)) → l ≡ keepIn l k s
-left-out l k s = passed (ltb k kindCount) (set l k s) l
+left-out : (l : List Slot) (k : ℕ) (s : Slot) → Holds (not (ltb k placeCount)) → l ≡ keepIn l k s
+left-out l k s = passed (ltb k placeCount) (set l k s) l
 
 -- ---- one post of a table
 
@@ -159,28 +159,28 @@ module _ (h : Table) (was : Is T.the-row h (table-val h ∷ [])) where
     abbrev es : List (SF .Denot)
     es = map (S.the-type .to) (post-at h i .latest)
 
-    slots-are : Is (Array SF kindCount) es (arrayVal (map s-val es) ∷ [])
+    slots-are : Is (Array SF placeCount) es (arrayVal (map s-val es) ∷ [])
     slots-are = LL.owed P.the-type P′.the-laws (post-at h i) _ post-is .1 .0
 
-    pub ss-long : length (ss-of (post-at h i .latest)) ≡ kindCount
-    ss-long = length-map es s-val ∙ array-long SF kindCount es _ slots-are
+    pub ss-long : length (ss-of (post-at h i .latest)) ≡ placeCount
+    ss-long = length-map es s-val ∙ array-long SF placeCount es _ slots-are
 
-    pub ss-within : (k : ℕ) → k < kindCount → k < length (ss-of (post-at h i .latest))
+    pub ss-within : (k : ℕ) → k < placeCount → k < length (ss-of (post-at h i .latest))
     ss-within k m = subst (λ (n : ℕ). k < n) (sym ss-long) m
 
     -- the latest with another slot in the place of one is an array of slots, and so it is where none is stored
-    latest-is : (k : ℕ) (s : Slot) → Is S.the-row s (slot-val s ∷ []) → Is (Array SF kindCount) (map (S.the-type .to) (set (post-at h i .latest) k s)) (arrayVal (ss-of (set (post-at h i .latest) k s)) ∷ [])
-    latest-is k s is = subst (λ (xs : List (SF .Denot)). Is (Array SF kindCount) xs (arrayVal (map s-val xs) ∷ [])) (map-set (S.the-type .to) (post-at h i .latest) k s)
-        (array-set SF s-val (LL.tuple-tells S.the-type S′.the-laws) kindCount es _ slots-are k (S.the-type .to s) is)
+    latest-is : (k : ℕ) (s : Slot) → Is S.the-row s (slot-val s ∷ []) → Is (Array SF placeCount) (map (S.the-type .to) (set (post-at h i .latest) k s)) (arrayVal (ss-of (set (post-at h i .latest) k s)) ∷ [])
+    latest-is k s is = subst (λ (xs : List (SF .Denot)). Is (Array SF placeCount) xs (arrayVal (map s-val xs) ∷ [])) (map-set (S.the-type .to) (post-at h i .latest) k s)
+        (array-set SF s-val (LL.tuple-tells S.the-type S′.the-laws) placeCount es _ slots-are k (S.the-type .to s) is)
 
     kept-is : (y : Bool) (k : ℕ) (s : Slot) → Is S.the-row s (slot-val s ∷ [])
-        → Is (Array SF kindCount) (map (S.the-type .to) (cond y (set (post-at h i .latest) k s) (post-at h i .latest))) (arrayVal (ss-of (cond y (set (post-at h i .latest) k s) (post-at h i .latest))) ∷ [])
+        → Is (Array SF placeCount) (map (S.the-type .to) (cond y (set (post-at h i .latest) k s) (post-at h i .latest))) (arrayVal (ss-of (cond y (set (post-at h i .latest) k s) (post-at h i .latest))) ∷ [])
     kept-is true k s is = latest-is k s is
     kept-is false k s is = slots-are
 
     pub stored-is : (r : Worded) → Is D.the-row (r .head) (head-val (r .head) ∷ []) → Is S.the-row (r .slot) (slot-val (r .slot) ∷ [])
         → Is P.the-row (storedBy (post-at h i) r) (post-val (storedBy (post-at h i) r) ∷ [])
-    stored-is r d s = LL.owes P.the-type P′.the-laws (storedBy (post-at h i) r) (d, (kept-is (ltb (r .at) kindCount) (r .at) (r .slot) s, tt))
+    stored-is r d s = LL.owes P.the-type P′.the-laws (storedBy (post-at h i) r) (d, (kept-is (ltb (r .at) placeCount) (r .at) (r .slot) s, tt))
 
     module _ (x : Head) where
       -- the head is stored
@@ -197,14 +197,14 @@ module _ (h : Table) (was : Is T.the-row h (table-val h ∷ [])) where
       headed-at = us-at (headed h i x) i ∙ ap post-val (getD-set-same (h .posts) i (with-head (post-at h i) x) noPost (subst (λ (m : ℕ). i < m) (sym posts-long) l))
 
     -- and then a slot, or none
-    pub slot-stored : (r : Worded) → Holds (ltb (r .at) kindCount)
+    pub slot-stored : (r : Worded) → Holds (ltb (r .at) placeCount)
         → set (us-of (headed h i (r .head))) i (post-of (head-val (r .head)) (set (ss-of (post-at h i .latest)) (r .at) (slot-val (r .slot)))) ≡ us-of (set (h .posts) i (storedBy (post-at h i) r))
     slot-stored r in-it =
         ap (λ (ws : List Val). set (us-of (headed h i (r .head))) i (post-of (head-val (r .head)) ws)) (ss-set (post-at h i .latest) (r .at) (r .slot) ∙ ap ss-of (kept (post-at h i .latest) (r .at) (r .slot) in-it))
         ∙ us-set (headed h i (r .head)) i (storedBy (post-at h i) r)
         ∙ ap us-of (set-set (h .posts) i (with-head (post-at h i) (r .head)) (storedBy (post-at h i) r))
 
-    pub slot-left : (r : Worded) → Holds (not (ltb (r .at) kindCount)) → us-of (headed h i (r .head)) ≡ us-of (set (h .posts) i (storedBy (post-at h i) r))
+    pub slot-left : (r : Worded) → Holds (not (ltb (r .at) placeCount)) → us-of (headed h i (r .head)) ≡ us-of (set (h .posts) i (storedBy (post-at h i) r))
     slot-left r past-it = ap (λ (l : List Slot). us-of (set (h .posts) i (record { head = r .head; latest = l }))) (left-out (post-at h i .latest) (r .at) (r .slot) past-it)
 
 -- ---- what a step gives

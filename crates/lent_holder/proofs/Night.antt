@@ -19,7 +19,7 @@ use Rattle.lent_holder.specs.Holder.{holderWord, holder01}
 use Rattle.lent_holder.proofs.HolderLaws.{some-holder, first-holder, no-holder, goes-to, goes-nowhere, holder-right, holder-stands, stands-on, answers}
 
 abbrev limits : PlainLimits
-limits = record { voltage = 5000; charge = 1000; discharge = 500; silence = 500; sensor = 0 }
+limits = record { voltage = 5000; charge = 1000; discharge = 500; silence = 500; sensor = 0; interface = 0 }
 
 abbrev night : List Request
 night = setUp 0 9 limits ∷ setUp 3 4 limits ∷ []

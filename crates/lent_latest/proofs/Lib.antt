@@ -1,3 +1,5 @@
+pub mod Places
 pub mod ByCase
 pub mod Entries
 pub mod LatestLaws
+pub mod LatestLooks

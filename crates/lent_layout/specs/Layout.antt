@@ -1,11 +1,11 @@
--- The layout of the lent table as one word: its bytes, its posts, its kinds of messages, and the number of the layout.
+-- The layout of the lent table as one word: its bytes, its posts, a post's places for latest frames, and the number of the layout.
 -- That the bytes are those of the type that the entries are proved over is a law (proofs/Sizes.antt).
 use Prim.Native.Nat.{ℕ, _+_, _*_, _^_}
-use Rattle.rules.specs.Record.{kindCount}
+use Rattle.rules.specs.Record.{placeCount}
 use Rattle.rules.specs.After.{keptCount, countCount}
 use Rattle.watch_rules.specs.Table.{postCount}
 
--- a slot is three words; a session is three, and what it keeps
+-- a slot is known or not and a kind, a time, and a payload number; a session is three words, and what it keeps
 abbrev pub slotBytes : ℕ
 slotBytes = 24
 
@@ -15,12 +15,12 @@ sessionBytes = 24 + keptCount * slotBytes
 abbrev pub countBytes : ℕ
 countBytes = 4
 
--- set up or not, and the channel; five limits; heard or not; the time; the latest Advantics_Controller_Status and DC_Power_Parameters; the session; the counts
+-- set up or not, and the channel; six limits; heard or not; the time; the latest controller status and limits told; the session; the counts
 abbrev pub headBytes : ℕ
-headBytes = 8 + 20 + 4 + 8 + 2 * slotBytes + sessionBytes + countCount * countBytes
+headBytes = 8 + 24 + 8 + 8 + 2 * slotBytes + sessionBytes + countCount * countBytes
 
 abbrev pub postBytes : ℕ
-postBytes = headBytes + kindCount * slotBytes
+postBytes = headBytes + placeCount * slotBytes
 
 -- the posts, and the count of what was refused
 abbrev pub tableBytes : ℕ
@@ -28,7 +28,7 @@ tableBytes = postCount * postBytes + 8
 
 -- another one wherever a place of the table means something else
 abbrev pub layoutNumber : ℕ
-layoutNumber = 3
+layoutNumber = 4
 
 abbrev pub layoutWord : ℕ
-layoutWord = tableBytes + postCount * 2 ^ 32 + kindCount * 2 ^ 40 + layoutNumber * 2 ^ 48
+layoutWord = tableBytes + postCount * 2 ^ 32 + placeCount * 2 ^ 40 + layoutNumber * 2 ^ 48

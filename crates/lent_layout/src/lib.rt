@@ -2,18 +2,18 @@
 // other places.
 ghost use mathlib.Core.Path.{_≡_};
 ghost use Rattle.lent_layout.specs.Layout.{layoutWord};
-use rules::KINDS;
+use rules::PLACES;
 use watch_rules::POSTS;
 
 // Bytes of a table.
-const TABLE: u64 = 3976;
+const TABLE: u64 = 5768;
 
 // Another number wherever a place of the table means something else.
-const LAYOUT: u64 = 3;
+const LAYOUT: u64 = 4;
 
 #[no_mangle]
 pub extern "C" fn rokemaipu_layout() -> u64
     ensures { λ r. ⌜ r ≡ layoutWord ⌝ }
 {
-    TABLE + (POSTS as u64) * 4294967296 + (KINDS as u64) * 1099511627776 + LAYOUT * 281474976710656
+    TABLE + (POSTS as u64) * 4294967296 + (PLACES as u64) * 1099511627776 + LAYOUT * 281474976710656
 }

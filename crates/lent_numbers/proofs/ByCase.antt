@@ -1,9 +1,9 @@
 -- From a case of a look-up what a post's numbers answer and leave.
 use Prim.Native.Nat.{ℕ}
 use mathlib.Core.Path.{_≡_, refl, sym, ap}
-use mathlib.Core.List.{List, _∷_, _++_}
+use mathlib.Core.List.{List, [], _∷_, _++_}
 use lib.ListN.{length}
-use Rattle.rule_limits.specs.Sensor.{sensorNumber}
+use Rattle.rule_limits.specs.Sensor.{sensorNumber, interfaceNumber}
 use Rattle.rules.specs.declared.LastTime.{LastTime}
 use Rattle.rules.specs.declared.LastTime.the-variants as last
 use Rattle.rules.specs.declared.SessionPart.{SessionPart}
@@ -21,7 +21,7 @@ unfolding numbersOf
 numbers-many r = go (r .last) (r .session)
   where
     go : (a : LastTime) (b : SessionPart)
-        → length (r .channel ∷ r .limits .voltage ∷ r .limits .charge ∷ r .limits .discharge ∷ r .limits .silence ∷ sensorNumber (r .limits .sensor) ∷ (lastNumbers a ++ sessionNumbers b)) ≡ numberCount
+        → length (r .channel ∷ r .limits .voltage ∷ r .limits .charge ∷ r .limits .discharge ∷ r .limits .silence ∷ sensorNumber (r .limits .sensor) ∷ (lastNumbers a ++ (sessionNumbers b ++ (interfaceNumber (r .limits .interface) ∷ [])))) ≡ numberCount
     go last.Never part.Closed = refl
     go last.Never (part.Opened s) = refl
     go (last.At t) part.Closed = refl

@@ -12,7 +12,7 @@ use Rattle.rules.specs.declared.LastTime.the-variants as last
 use Rattle.rules.specs.declared.SessionPart.{SessionPart}
 use Rattle.rules.specs.declared.SessionPart.the-variants as part
 use Rattle.rules.specs.declared.Record.{Record}
-use Rattle.rule_limits.specs.Sensor.{sensorNumber}
+use Rattle.rule_limits.specs.Sensor.{sensorNumber, interfaceNumber}
 use Rattle.watch_rules.specs.declared.Table.{Table}
 use Rattle.watch_rules.specs.declared.Setting.{Setting}
 use Rattle.watch_rules.specs.declared.Setting.the-variants as setting
@@ -20,7 +20,7 @@ use Rattle.watch_rules.specs.Table.{lookUpOf}
 use Rattle.plain_words.specs.Words.{Outcome, answers, refuses, outcomeWord}
 
 abbrev pub numberCount : ℕ
-numberCount = 13
+numberCount = 14
 
 -- 1 and the time, or 0 and 0
 abbrev pub lastNumbers : LastTime → List ℕ
@@ -35,7 +35,7 @@ sessionNumbers (part.Opened s) = 1 ∷ s .since ∷ protocolNumber (s .protocol)
 unfoldable pub numbersOf : Record → List ℕ
 numbersOf r =
     r .channel ∷ r .limits .voltage ∷ r .limits .charge ∷ r .limits .discharge ∷ r .limits .silence ∷ sensorNumber (r .limits .sensor)
-    ∷ (lastNumbers (r .last) ++ sessionNumbers (r .session))
+    ∷ (lastNumbers (r .last) ++ (sessionNumbers (r .session) ++ (interfaceNumber (r .limits .interface) ∷ [])))
 
 -- ---- n numbers handed out, into lent places: 8 where those are too few, and then nothing is stored. A post's counts are handed out likewise (`lent_counts`)
 

@@ -16,6 +16,8 @@ use post_record::age;
 use post_record::received;
 use refusals::Refusal;
 use rule_asks::is_set;
+use rule_limits::kept::interface_number;
+use rule_limits::kept::interface_of;
 use rule_limits::kept::sensor_number;
 use rule_limits::kept::sensor_of;
 use rules::Post;
@@ -29,7 +31,7 @@ fn where_set(b: bool, x: u32) -> u32
 }
 
 // How many they are.
-const NUMBERS: usize = 13;
+const NUMBERS: usize = 14;
 
 fn numbers_of(p: Post) -> [u32; NUMBERS]
     ensures { λ r. ⌜ r ≡ numbersOf (postRecord p) ⌝ }
@@ -37,8 +39,9 @@ fn numbers_of(p: Post) -> [u32; NUMBERS]
     let h = p.head;
     let l = h.limits;
     let sensor = sensor_of(l.sensor);
+    let interface = interface_of(l.interface);
     let s = h.session;
-    let heard = is_set(h.heard as u64);
+    let heard = is_set(h.heard);
     let opened = is_set(s.opened);
     let n = message_parts::session_in(s.first);
     let protocol = n.protocol;
@@ -57,6 +60,7 @@ fn numbers_of(p: Post) -> [u32; NUMBERS]
         where_set(opened, protocol_number(protocol) as u32),
         where_set(opened, plug_number(plug) as u32),
         where_set(opened, age(h.time, s.since)),
+        interface_number(interface),
     ]
 }
 

@@ -2,23 +2,30 @@
 -- carries is one of a payload's 64 bits (`reply-within`).
 use Prim.Native.Nat.{ℕ, _+_, _<_, _≤_}
 use native.Mathlib.Omega.{arith}
+use mathlib.Core.List.{List}
 use mathlib.Core.Bool.{Bool, true, false, not, _&&_}
-use lib.Dec.{eqb, ltb}
+use lib.Dec.{ltb}
 use Rattle.refusals.specs.declared.Refusal.the-variants.{ChannelFree, Earlier, CountFull}
 use Rattle.page_read.specs.declared.Judged.{Judged}
 use Rattle.page_read.specs.declared.Judged.the-variants as judged
-use Rattle.page_read.specs.Judge.{judgeOf}
-use Rattle.page_bounds.proofs.Bounds.{SmallJudged, judge-small}
+use Rattle.page_rows.specs.declared.Interface.{Interface}
+use Rattle.page_read.specs.Judge.{judgeOn}
+use Rattle.page_interfaces.specs.Foreign.{isForeign, judgeFor}
+use Rattle.page_bounds.proofs.Bounds.{SmallBelow, kindsOn, judge-small-on}
 use Rattle.rule_limits.specs.declared.PlainLimits.{PlainLimits}
 use Rattle.rule_limits.specs.Limits.{limitsFit}
 use Rattle.rules.specs.declared.Head.{Head}
 use Rattle.message_types.specs.declared.DcPowerControl.{DcPowerControl}
 use Rattle.message_types.specs.declared.PowerModulesStatus.{PowerModulesStatus}
 use Rattle.message_types.specs.declared.NewChargeSession.{NewChargeSession}
-use Rattle.rule_limits.specs.Sensor.{sensorOf}
+use Rattle.rule_limits.specs.Sensor.{sensorOf, interfaceOf}
 use Rattle.rule_asks.specs.Judgements.{isClose, isPowered, isOff, lowersBadly, outside, badInsulation, differs, isSet, bit}
-use Rattle.message_parts.specs.Parts.{statusKind, sessionKind, controlKind, finishedKind, statusIn, sessionIn, controlIn}
-use Rattle.rules.specs.After.{silentIn, lateAfter, limitIn, unreadyIn, carryingIn, anyFindings, controlFindings, statusFindings, openingFindings, finishedFindings, messageFindings, isFullIn, afterTick, afterFrame, agedTo, stampIn, isEarly}
+use Rattle.message_parts.specs.Parts.{sessionIn}
+use Rattle.rule_pages.specs.declared.Role.{Role}
+use Rattle.rule_pages.specs.declared.Role.the-variants.{Other, Status, Limits, Controller, Opening, Command, Finished}
+use Rattle.rule_pages.specs.Roles.{roleOf}
+use Rattle.rule_pages.specs.Said.{statusBy, openingBy, commandBy}
+use Rattle.rules.specs.After.{silentIn, lateAfter, limitIn, unreadyIn, carryingIn, anyFindings, controlFindings, statusFindings, openingFindings, finishedFindings, findingsBy, messageFindings, isFullIn, afterTick, afterFrame, agedTo, stampIn, isEarly}
 use Rattle.watch_rules.specs.declared.Table.{Table}
 use Rattle.watch_rules.specs.declared.Answer.{Answer}
 use Rattle.watch_rules.specs.declared.Answer.the-variants.{Findings, Refused}
@@ -91,13 +98,18 @@ module _ (p : Head) where
   unfolding finishedFindings
   finished-small = bit-le (not (isSet (p .session .opened))) 1024
 
+  role-small : (r : Role) (k raw : ℕ) → Small (findingsBy r p k raw)
+  role-small Status k raw = status-small (statusBy k raw)
+  role-small Opening k raw = opening-small (openingBy k raw)
+  role-small Command k raw = control-small (commandBy k raw)
+  role-small Finished k raw = finished-small
+  role-small Limits k raw = zero-small
+  role-small Controller k raw = zero-small
+  role-small Other k raw = zero-small
+
   message-small : (k raw : ℕ) → Small (messageFindings p k raw)
   unfolding messageFindings
-  message-small k raw =
-      either Small (eqb k statusKind) (status-small (statusIn raw))
-      (either Small (eqb k sessionKind) (opening-small (sessionIn raw))
-      (either Small (eqb k controlKind) (control-small (controlIn raw))
-      (either Small (eqb k finishedKind) finished-small zero-small)))
+  message-small k raw = role-small (roleOf k) k raw
 
 -- ---- any table
 
@@ -152,9 +164,15 @@ abbrev FedWithin : Answer → Type 0
 FedWithin r = Within 2047 (answerOutcome r)
 
 -- an arrival that is not read is refused with the start of a row, or with none
-frame-readable : (j : Judged) → SmallJudged j → Reads FedWithin (arrivalOf j)
-frame-readable (judged.Frame k n) l = tt
-frame-readable (judged.Refused w) l = l
+frame-readable : (b : ℕ) (j : Judged) → SmallBelow b j → Reads FedWithin (arrivalOf j)
+frame-readable b (judged.Frame k n) l = tt
+frame-readable b (judged.Refused w) l = l
+
+post-readable : (iface : Interface) (m : ℕ) (x : Bool) (bs : List ℕ) → Reads FedWithin (arrivalOf (judgeFor iface m x bs))
+unfolding judgeFor
+post-readable iface m x bs =
+    either (λ (j : Judged). Reads FedWithin (arrivalOf j)) (isForeign iface m x) (omega arith)
+    (frame-readable (kindsOn iface) (judgeOn iface m x bs) (judge-small-on iface m x bs))
 
 fed-within : (t : Table) (c time : ℕ) (a : Arriving) → ((lim : PlainLimits) → Reads FedWithin (a lim)) → FedWithin (feedOf t c time a .answer)
 fed-within t c time a l =
@@ -172,5 +190,5 @@ reply-within t (setUp i c lim) =
     (omega arith))
     (omega arith)
 reply-within t (release i) = either SetWithin (isPost i) (either SetWithin (isSet (postIn t i .head .used)) (omega arith) (omega arith)) (omega arith)
-reply-within t (frame c time m x bs) = fed-within t c time (framing m x bs) (λ lim. frame-readable (judgeOf m x bs) (judge-small m x bs))
+reply-within t (frame c time m x bs) = fed-within t c time (framing m x bs) (λ lim. post-readable (interfaceOf (lim .interface)) m x bs)
 reply-within t (tick c time) = fed-within t c time ticking (λ lim. tt)

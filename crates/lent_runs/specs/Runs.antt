@@ -11,7 +11,7 @@ use Rattle.lent_step.specs.Fed.{frameWord, tickWord}
 
 -- what the entry's contract says of a request: the answer's word, and the table at exit
 abbrev pub lentBy : Table → Request → Lent
-lentBy t (setUp i c lim) = setUpWord t i c (lim .voltage) (lim .charge) (lim .discharge) (lim .silence) (lim .sensor)
+lentBy t (setUp i c lim) = setUpWord t i c (lim .voltage) (lim .charge) (lim .discharge) (lim .silence) (lim .sensor) (lim .interface)
 lentBy t (release i) = releaseWord t i
 lentBy t (frame c time m x bs) = frameWord t c time m x bs
 lentBy t (tick c time) = tickWord t c time

@@ -11,21 +11,27 @@ use borrow.Author.Tests.{ltb-true}
 use Rattle.payload.specs.Payload.{Bytes, leNumber}
 use Rattle.signal.specs.Signal.{getBits}
 use Rattle.signal.specs.Twos.{toSigned}
+use Rattle.page_rows.specs.declared.Interface.the-variants.{Newer}
+use Rattle.page_rows.specs.Messages.{messageCount}
 use Rattle.page_rows.specs.Table.{rows, ofKind, firstAt, covered, lengthOf}
 use Rattle.page_read.specs.declared.Judged.the-variants as judged
-use Rattle.page_read.specs.Judge.{unlabelled, strayBelow, judgedNumber, judgeOf}
+use Rattle.page_read.specs.Judge.{unlabelled, strayBelow, judgedNumber, judgeOn}
+use Rattle.page_interfaces.specs.Foreign.{isForeign, judgeFor}
 use Rattle.page_write.specs.Raws.{wholesOf, pad, rawsOf}
 use Rattle.message_parts.specs.Parts.{statusIn, parametersIn, sessionIn, controlIn}
+use Rattle.rule_pages.specs.Roles.{roleOf}
+use Rattle.rule_pages.specs.Said.{statusBy, limitsBy, openingBy, commandBy}
 use Rattle.rule_limits.specs.declared.PlainLimits.{PlainLimits}
 use Rattle.rule_limits.specs.Limits.{limitsFit}
-use Rattle.rules.specs.History.{History, sinceFinished, opening, inSession}
+use Rattle.rule_pages.specs.Places.{placeBy}
+use Rattle.rules.specs.History.{History, saidAt, sinceFinished, opening, inSession}
 use Rattle.rules.specs.Times.{earlierIn}
 use Rattle.rules.specs.History as history
 use Rattle.rule_asks.specs.Judgements.{lowersBadly, outside, leaking, badInsulation, differs}
 use Rattle.rules.specs.Rules.{sessionStatus, sessionControl, limitOf, f1, f2, f3, f4, f5, f6, f7, f8, f9, f10, f11, findings01}
 use Rattle.rules.specs.declared.Post.{Post}
 use Rattle.rules.specs.declared.Dated.the-variants as dated
-use Rattle.rules.specs.Record.{kindCount, isSet, unknown, slotAt, session01, headAt, latests}
+use Rattle.rules.specs.Record.{isSet, unknown, slotAt, session01, headAt, latests}
 use Rattle.rules.proofs.Excludes.{excludes}
 use Rattle.rules.specs.After.{statusPlace, controlPlace, keptCount, datedIn}
 use Rattle.watch_rules.specs.declared.Setting.the-variants as setting
@@ -38,11 +44,12 @@ use Rattle.watch_rules.proofs.Tables.{post-at}
 use Rattle.watch_rules.proofs.Demand.{run-kept, every-record}
 use Rattle.lent_latest.specs.Latest.{hands, keptOf, nowOf, latestWord, timeAfter, frameAfter}
 use Rattle.lent_latest.proofs.LatestLaws.{latest-refused, latest-shown, some-bytes}
+use Rattle.lent_latest.proofs.LatestLooks.{latest-right}
 use Rattle.lent_session.specs.InSession.{partOf, handsPart, partWord, partTime, partFrame}
 use Rattle.lent_session.proofs.SessionLaws.{as-it-came, part-refused, shownAt, part-shown, closed, part-right, part-closed}
 
 abbrev limits : PlainLimits
-limits = record { voltage = 5000; charge = 1000; discharge = 500; silence = 500; sensor = 0 }
+limits = record { voltage = 5000; charge = 1000; discharge = 500; silence = 500; sensor = 0; interface = 0 }
 
 -- Power_Modules_Status: no voltage, no current, 25 °C, Allowed, and its payload number
 abbrev status : List ℕ
@@ -61,24 +68,24 @@ heard = history.tick 25 ∷ history.frame 10 0 allowed ∷ history.frame 0 3 258
 abbrev buffer : List ℕ
 buffer = replicate 10 7
 
-computed : (standing 0 (accepted night) ≡ held 4 limits heard) × (opening heard ≡ some (0, 258)) × (sessionStatus heard ≡ some (10, allowed)) × (sessionControl heard ≡ none)
-    × (judgeOf 0x63000 true status ≡ judged.Frame 0 allowed) × (lookUp01 (accepted night) 0 .answer ≡ setting.Done) × (hands setting.Done 0 (slotAt 10 allowed) 2 10 ≡ true)
-unfolding standing findFrom holder otherHolds feed01 setUp01 lookUp01 feedSteps setUpSteps limitsFit accepted sinceFinished opening inSession earlierIn lowersBadly outside leaking badInsulation differs sessionStatus sessionControl limitOf f1 f2 f3 f4 f5 f6 f7 f8 f9 f10 f11 findings01 rows ofKind firstAt covered lengthOf unlabelled strayBelow judgedNumber judgeOf wholesOf pad rawsOf getBits leNumber toSigned statusIn parametersIn sessionIn controlIn
+computed : (standing 0 (accepted night) ≡ held 4 limits heard) × (opening heard ≡ some (saidAt 0 3 258)) × (sessionStatus heard ≡ some (saidAt 10 0 allowed)) × (sessionControl heard ≡ none)
+    × (judgeFor Newer 0x63000 true status ≡ judged.Frame 0 allowed) × (lookUp01 (accepted night) 0 .answer ≡ setting.Done) × (hands setting.Done true (slotAt 10 0 allowed) 3 10 ≡ true)
+unfolding standing findFrom holder otherHolds feed01 setUp01 lookUp01 feedSteps setUpSteps limitsFit accepted sinceFinished opening inSession earlierIn lowersBadly outside leaking badInsulation differs sessionStatus sessionControl limitOf f1 f2 f3 f4 f5 f6 f7 f8 f9 f10 f11 findings01 rows ofKind firstAt covered lengthOf unlabelled strayBelow judgedNumber judgeOn isForeign judgeFor wholesOf pad rawsOf getBits leNumber toSigned roleOf statusBy limitsBy openingBy commandBy statusIn parametersIn sessionIn controlIn
 computed = (refl, refl, refl, refl, refl, refl, refl)
 
 first : 0 < postCount
 first = ltb-true 0 postCount refl
 
-pub kept-status : partOf (run night) 0 statusPlace ≡ slotAt 10 allowed
-kept-status = part-right (run night) (accepted night) (run-kept night) 0 4 limits heard first (computed .0) (0, 258) statusPlace (computed .1) (ltb-true statusPlace keptCount refl) ∙ rw (computed .2)
+pub kept-status : partOf (run night) 0 statusPlace ≡ slotAt 10 0 allowed
+kept-status = part-right (run night) (accepted night) (run-kept night) 0 4 limits heard first (computed .0) (saidAt 0 3 258) statusPlace (computed .1) (ltb-true statusPlace keptCount refl) ∙ rw (computed .2)
 
 -- no DC_Power_Control was accepted
 pub kept-control : partOf (run night) 0 controlPlace ≡ unknown
-kept-control = part-right (run night) (accepted night) (run-kept night) 0 4 limits heard first (computed .0) (0, 258) controlPlace (computed .1) (ltb-true controlPlace keptCount refl) ∙ rw (computed .3)
+kept-control = part-right (run night) (accepted night) (run-kept night) 0 4 limits heard first (computed .0) (saidAt 0 3 258) controlPlace (computed .1) (ltb-true controlPlace keptCount refl) ∙ rw (computed .3)
 
-handed : handsPart (run night) 0 statusPlace (99 ∷ 99 ∷ []) buffer ≡ true
+handed : handsPart (run night) 0 statusPlace (99 ∷ 99 ∷ 99 ∷ []) buffer ≡ true
 handed =
-    ap (λ (x : Setting). hands x 0 (partOf (run night) 0 statusPlace) 2 10) (ap (λ (x : LookedUp). x .answer) (every-record night 0) ∙ computed .5)
+    ap (λ (x : Setting). hands x true (partOf (run night) 0 statusPlace) 3 10) (ap (λ (x : LookedUp). x .answer) (every-record night 0) ∙ computed .5)
     ∙ rw kept-status (computed .6)
 
 each-byte : Bytes status
@@ -129,11 +136,11 @@ unfolding headAt
 latest-time = ap (λ (p : Post). p .head .time) (head-in night heard (computed .0))
 
 -- the status is handed out as it came, with its time and its age as of the tick, and behind it the buffer stays
-pub status-out : (partTime (run night) 0 statusPlace (99 ∷ 99 ∷ []) buffer ≡ 10 ∷ 15 ∷ []) × (partFrame (run night) 0 statusPlace (99 ∷ 99 ∷ []) buffer ≡ status ++ (7 ∷ 7 ∷ []))
-status-out = rw latest-time at (as-it-came (run night) 0 statusPlace (99 ∷ 99 ∷ []) buffer 0x63000 true status 10 allowed (computed .4) each-byte kept-status handed)
+pub status-out : (partTime (run night) 0 statusPlace (99 ∷ 99 ∷ 99 ∷ []) buffer ≡ 10 ∷ 15 ∷ 0 ∷ []) × (partFrame (run night) 0 statusPlace (99 ∷ 99 ∷ 99 ∷ []) buffer ≡ status ++ (7 ∷ 7 ∷ []))
+status-out = rw latest-time at (as-it-came Newer (run night) 0 statusPlace (99 ∷ 99 ∷ 99 ∷ []) buffer 0x63000 true status 10 0 allowed (computed .4) each-byte kept-status handed)
 
 -- the record shows the status that is handed out
-pub status-shown : shownAt (lookUpOf (run night) 0 .shown .session) statusPlace ≡ datedIn (postIn (run night) 0 .head .time) 0 (partOf (run night) 0 statusPlace)
+pub status-shown : shownAt (lookUpOf (run night) 0 .shown .session) statusPlace ≡ datedIn (postIn (run night) 0 .head .time) (partOf (run night) 0 statusPlace)
 status-shown = part-shown (run night) 0 statusPlace refl (used-in night heard (computed .0)) (ltb-true statusPlace keptCount refl)
 
 shut : isSet (postIn (run quiet) 0 .head .session .opened) ≡ false
@@ -147,9 +154,12 @@ none-yet times buf =
 
 -- ---- the laws of the latest frame of a kind, and of findings that exclude each other, on the same night
 
-kept-latest : keptOf (run night) 0 0 ≡ slotAt 10 allowed
-unfolding latests
-kept-latest = ap (λ (p : Post). getD (p .latest) 0 unknown) (head-in night heard (computed .0))
+kept-latest : keptOf (run night) 0 0 ≡ slotAt 10 0 allowed
+kept-latest = latest-right (run night) (accepted night) (run-kept night) 0 4 limits heard first (computed .0) (tt, (refl, (refl, tt))) 0 (ltb-true 0 messageCount refl)
+
+in-place : getD (postIn (run night) 0 .latest) (placeBy 0) unknown .kind ≡ 0
+unfolding latests placeBy
+in-place = ap (λ (p : Post). getD (p .latest) 0 unknown .kind) (head-in night heard (computed .0))
 
 latest-8 : latestWord (run night) 0 0 [] buffer ≡ 65544
 unfolding latestWord
@@ -158,11 +168,11 @@ latest-8 = rw (answered, kept-latest)
 pub latest-no-place : (timeAfter (run night) 0 0 [] buffer ≡ []) × (frameAfter (run night) 0 0 [] buffer ≡ buffer)
 latest-no-place = latest-refused (run night) 0 0 [] buffer (subst (λ (a : ℕ). 65536 ≤ a) (sym latest-8) (omega arith))
 
-pub latest-in-record : getD (lookUpOf (run night) 0 .shown .latest) 0 (record { message = dated.Nothing }) .message ≡ datedIn (postIn (run night) 0 .head .time) 0 (keptOf (run night) 0 0)
-latest-in-record = latest-shown (run night) 0 0 refl (used-in night heard (computed .0)) (ltb-true 0 kindCount refl)
+pub latest-in-record : getD (lookUpOf (run night) 0 .shown .latest) (placeBy 0) (record { message = dated.Nothing }) .message ≡ datedIn (postIn (run night) 0 .head .time) (keptOf (run night) 0 0)
+latest-in-record = latest-shown (run night) 0 0 refl (used-in night heard (computed .0)) (ltb-true 0 messageCount refl) in-place
 
 pub probes-have-bytes : 1 ≤ lengthOf 11
-probes-have-bytes = some-bytes 11 (ltb-true 11 kindCount refl)
+probes-have-bytes = some-bytes 11 (ltb-true 11 messageCount refl)
 
 -- in the open session, and before any
 pub no-f3-f4-f11 : (f3 limits heard (history.tick 20) ≡ false) × (f4 limits heard (history.tick 20) ≡ false) × (f11 limits heard (history.tick 20) ≡ false)

@@ -12,10 +12,9 @@ use lib.ListN.{length, getD, drop}
 use borrow.Author.Tests.{lt-ltb, eqb-true, eqb-false}
 use Rattle.payload.specs.Payload.{Bytes}
 use Rattle.page_read.specs.declared.Judged.the-variants.{Frame}
-use Rattle.page_read.specs.Judge.{judgeOf}
+use Rattle.page_rows.specs.declared.Interface.{Interface}
+use Rattle.page_interfaces.specs.Foreign.{judgeFor}
 use Rattle.page_rows.specs.Table.{lengthOf}
-use Rattle.page_write.proofs.Trips.{accepted, raws-back}
-use Rattle.message_parts.specs.Parts.{statusKind, controlKind}
 use Rattle.rule_limits.specs.declared.PlainLimits.{PlainLimits}
 use Rattle.rules.specs.declared.Dated.{Dated}
 use Rattle.rules.specs.declared.Dated.the-variants as dated
@@ -23,10 +22,10 @@ use Rattle.rules.specs.declared.SessionPart.{SessionPart}
 use Rattle.rules.specs.declared.SessionPart.the-variants as part
 use Rattle.rules.specs.declared.Post.{Post}
 use Rattle.rules.specs.declared.Session.{Session}
-use Rattle.rules.specs.History.{History, opening, inSession}
+use Rattle.rules.specs.History.{History, Said, opening, inSession}
 use Rattle.rules.specs.Times.{receivedOf, ageOf}
 use Rattle.rules.specs.Rules.{sessionStatus, sessionControl}
-use Rattle.rules.specs.Record.{kindCount, isSet, unknown, slotAt, slotOf, keptOf, session01, headAt, postOf}
+use Rattle.rules.specs.Record.{isSet, unknown, slotAt, slotOf, keptOf, session01, headAt, postOf}
 use Rattle.rules.specs.After.{statusPlace, controlPlace, keptCount, datedIn, partIn, postRecord}
 use Rattle.watch_rules.specs.declared.Table.{Table}
 use Rattle.watch_rules.specs.Table.{postCount, noPost, postIn, isPost, lookUpOf}
@@ -35,33 +34,31 @@ use Rattle.watch_rules.proofs.Tables.{post-at}
 use Rattle.lent_look.proofs.Asked.{set-up}
 use Rattle.plain_words.specs.Words.{Told}
 use Rattle.lent_latest.specs.Latest.{nowOf}
-use Rattle.lent_latest.proofs.LatestLaws.{slot-told, not-handed, handed-behind}
-use Rattle.lent_session.specs.InSession.{partKind, openKept, partOf, handsPart, partOutcome, partWord, partTime, partFrame}
-use Rattle.lent_session.proofs.ByCase.{part-is-kind}
+use Rattle.lent_latest.proofs.LatestLaws.{slot-came, slot-told, not-handed, handed-behind}
+use Rattle.lent_session.specs.InSession.{isPart, openKept, partOf, handsPart, partOutcome, partWord, partTime, partFrame}
 
 -- a frame that was read to what the session keeps is handed out byte for byte
-pub as-it-came : (t : Table) (i j : ℕ) (times buf : List ℕ) (id : ℕ) (extended : Bool) (bs : List ℕ) (time n : ℕ)
-    → judgeOf id extended bs ≡ Frame (partKind j) n → Bytes bs → partOf t i j ≡ slotAt time n → handsPart t i j times buf ≡ true
-    → (partTime t i j times buf ≡ receivedOf time ∷ ageOf (nowOf t i) time ∷ drop 2 times) × (partFrame t i j times buf ≡ bs ++ drop (length bs) buf)
+pub as-it-came : (iface : Interface) (t : Table) (i j : ℕ) (times buf : List ℕ) (id : ℕ) (extended : Bool) (bs : List ℕ) (time k n : ℕ)
+    → judgeFor iface id extended bs ≡ Frame k n → Bytes bs → partOf t i j ≡ slotAt time k n → handsPart t i j times buf ≡ true
+    → (partTime t i j times buf ≡ receivedOf time ∷ ageOf (nowOf t i) time ∷ k ∷ drop 3 times) × (partFrame t i j times buf ≡ bs ++ drop (length bs) buf)
 unfolding partTime partFrame
-as-it-came t i j times buf id extended bs time n e b s h =
-    (rw (h, s), rw (h, s, raws-back id extended bs (partKind j) n e b .bytes, ← accepted id extended bs (partKind j) n e .sized))
+as-it-came iface t i j times buf id extended bs time k n e b s h = rw (h, s) (slot-came iface (nowOf t i) times buf id extended bs time k n e b)
 
 -- what the word tells, of every table
 pub part-told : (t : Table) (i j : ℕ) (times buf : List ℕ) → Told 8 (partOutcome t i j times buf) (partWord t i j times buf)
 unfolding partWord
-part-told t i j times buf = slot-told t i (partKind j) (partOf t i j) (length times) (length buf)
+part-told t i j times buf = slot-told t i (isPart j) (partOf t i j) (length times) (length buf)
 
 pub part-refused : (t : Table) (i j : ℕ) (times buf : List ℕ) → 65536 ≤ partWord t i j times buf → (partTime t i j times buf ≡ times) × (partFrame t i j times buf ≡ buf)
 unfolding partWord partTime partFrame
 part-refused t i j times buf l =
-    let e : handsPart t i j times buf ≡ false = not-handed t i (partKind j) (partOf t i j) (length times) (length buf) l in
+    let e : handsPart t i j times buf ≡ false = not-handed t i (isPart j) (partOf t i j) (length times) (length buf) l in
     (rw e, rw e)
 
 pub part-kept : (t : Table) (i j : ℕ) (times buf : List ℕ)
-    → (drop 2 (partTime t i j times buf) ≡ drop 2 times) × (drop (lengthOf (partKind j)) (partFrame t i j times buf) ≡ drop (lengthOf (partKind j)) buf)
+    → (drop 3 (partTime t i j times buf) ≡ drop 3 times) × (drop (lengthOf (partOf t i j .kind)) (partFrame t i j times buf) ≡ drop (lengthOf (partOf t i j .kind)) buf)
 unfolding partTime partFrame
-part-kept t i j times buf = handed-behind (handsPart t i j times buf) (nowOf t i) (partKind j) (partOf t i j) times buf
+part-kept t i j times buf = handed-behind (handsPart t i j times buf) (nowOf t i) (partOf t i j) times buf
 
 -- ---- the record shows its message
 
@@ -70,10 +67,10 @@ abbrev pub shownAt : SessionPart → ℕ → Dated
 shownAt part.Closed j = dated.Nothing
 shownAt (part.Opened s) j = cond (eqb j statusPlace) (s .status) (s .control)
 
-shown-part : (now : ℕ) (s : Session) (j : ℕ) → j < keptCount → shownAt (partIn now s) j ≡ datedIn now (partKind j) (openKept s j)
+shown-part : (now : ℕ) (s : Session) (j : ℕ) → j < keptCount → shownAt (partIn now s) j ≡ datedIn now (openKept s j)
 shown-part now s j l = go (isSet (s .opened)) (eqb j statusPlace) (eqb j controlPlace) refl refl refl
   where
-    go : (o a b : Bool) → isSet (s .opened) ≡ o → eqb j statusPlace ≡ a → eqb j controlPlace ≡ b → shownAt (partIn now s) j ≡ datedIn now (partKind j) (openKept s j)
+    go : (o a b : Bool) → isSet (s .opened) ≡ o → eqb j statusPlace ≡ a → eqb j controlPlace ≡ b → shownAt (partIn now s) j ≡ datedIn now (openKept s j)
     go false a b e f g = rw e
     go true true b e f g = rw (e, eqb-true j statusPlace f)
     go true false true e f g = rw (e, eqb-true j controlPlace g)
@@ -83,7 +80,7 @@ shown-part now s j l = go (isSet (s .opened)) (eqb j statusPlace) (eqb j control
         absurd (let z : ⊥ = omega arith in z)
 
 pub part-shown : (t : Table) (i j : ℕ) → isPost i ≡ true → isSet (postIn t i .head .used) ≡ true → j < keptCount
-    → shownAt (lookUpOf t i .shown .session) j ≡ datedIn (nowOf t i) (partKind j) (partOf t i j)
+    → shownAt (lookUpOf t i .shown .session) j ≡ datedIn (nowOf t i) (partOf t i j)
 unfolding postRecord
 part-shown t i j l u m = rw (set-up t i l u) (shown-part (postIn t i .head .time) (postIn t i .head .session) j m)
 
@@ -91,15 +88,15 @@ part-shown t i j l u m = rw (set-up t i l u) (shown-part (postIn t i .head .time
 pub closed : (t : Table) (i j : ℕ) (times buf : List ℕ) → isPost i ≡ true → isSet (postIn t i .head .used) ≡ true → j < keptCount → isSet (postIn t i .head .session .opened) ≡ false
     → partWord t i j times buf ≡ 0
 unfolding partWord
-closed t i j times buf l u m c = rw (set-up t i l u, lt-ltb (partKind j) kindCount (part-is-kind j m), c)
+closed t i j times buf l u m c = rw (set-up t i l u, lt-ltb j keptCount m, c)
 
 -- ---- over a post's history
 
 -- "the latest Power_Modules_Status and DC_Power_Control accepted in that session, each possibly none"
-abbrev pub latest01 : History → ℕ → Option (ℕ × ℕ)
+abbrev pub latest01 : History → ℕ → Option Said
 latest01 h j = cond (eqb j statusPlace) (sessionStatus h) (sessionControl h)
 
-kept-look : (h : History) (o : ℕ × ℕ) (j : ℕ) → opening h ≡ some o → j < keptCount → openKept (session01 h) j ≡ slotOf (latest01 h j)
+kept-look : (h : History) (o : Said) (j : ℕ) → opening h ≡ some o → j < keptCount → openKept (session01 h) j ≡ slotOf (latest01 h j)
 unfolding session01 sessionStatus sessionControl
 kept-look h o j e l = go (eqb j statusPlace) (eqb j controlPlace) refl refl
   where
@@ -117,7 +114,7 @@ module _ (t : Table) (s : Steps) (kept : Kept t s) (i c : ℕ) (lim : PlainLimit
   there = ap (λ (p : Post). p .head .session) (ap (λ (ps : List Post). getD ps i noPost) (kept .posts) ∙ post-at s i low ∙ ap keptPost own)
 
   -- what a post that stands for a history hands out: the latest accepted in its open session
-  pub part-right : (o : ℕ × ℕ) (j : ℕ) → opening h ≡ some o → j < keptCount → partOf t i j ≡ slotOf (latest01 h j)
+  pub part-right : (o : Said) (j : ℕ) → opening h ≡ some o → j < keptCount → partOf t i j ≡ slotOf (latest01 h j)
   part-right o j e l = rw there (kept-look h o j e l)
 
   pub part-closed : (j : ℕ) → opening h ≡ none → partOf t i j ≡ unknown

@@ -1,37 +1,19 @@
-// The latest Power_Modules_Status and DC_Power_Control of an open session over the C interface, as `lent_latest` hands out the latest frame of a kind: its
-// time as received and its age, and its bytes as they came.
+// The latest Power_Modules_Status and DC_Power_Control of an open session over the C interface, or what stands for them on a post of the older interface, as
+// `lent_latest` hands out the latest frame of a kind: its time as received, its age and its kind, and its bytes as they came.
 // The lent table is only read. For C callers; a caller in Rattle asks `watch::look_up`.
 ghost use mathlib.Core.Path.{_≡_};
 ghost use Prim.Native.Nat.{_<_};
 ghost use Rattle.rules.specs.After.{keptCount};
-ghost use Rattle.lent_session.specs.InSession.{partKind, openKept, partWord, partTime, partFrame};
+ghost use Rattle.lent_session.specs.InSession.{openKept, partWord, partTime, partFrame};
 use lent_latest::hand_out;
-use message_types::CONTROL;
-use message_types::STATUS;
 use plain_words::refusal_word;
 use refusals::Refusal;
 use rule_asks::is_set;
-use rules::CONTROL_PLACE;
 use rules::KEPT;
-use rules::KINDS;
-use rules::STATUS_PLACE;
 use rules::Session;
 use rules::Slot;
 use watch_places::is_post;
 use watch_rules::Table;
-
-// The kind of what stands in a place of a session, and KINDS for a number that is no place.
-fn part_kind(part: usize) -> usize
-    ensures { λ r. ⌜ r ≡ partKind part ⌝ }
-{
-    if part == STATUS_PLACE {
-        return STATUS;
-    }
-    if part == CONTROL_PLACE {
-        return CONTROL;
-    }
-    KINDS
-}
 
 // 01: "With no session open all of the session's part is none."
 fn open_kept(s: Session, part: usize) -> Slot
@@ -41,6 +23,7 @@ fn open_kept(s: Session, part: usize) -> Slot
     if !is_set(s.opened) {
         return Slot {
             known: 0,
+            kind: 0,
             time: 0,
             raw: 0,
         };
@@ -68,8 +51,7 @@ fn part_of(t: Table, post: u32, part: u32, times: &mut [u32], buf: &mut [u8]) ->
     }
     let s = h.session;
     let l = open_kept(s, j);
-    let k = part_kind(j);
-    hand_out(h.time, l, k, times, buf)
+    hand_out(h.time, l, times, buf)
 }
 
 #[no_mangle]

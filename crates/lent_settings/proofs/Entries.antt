@@ -13,10 +13,10 @@ abbrev pub start-leaves : (n : ℕ) → Wanted (start-takes n)
 start-leaves n κs h a = startOf h
 
 abbrev pub set-up-takes : (n : ℕ) → List (Param n)
-set-up-takes n = word ∷ word ∷ word ∷ word ∷ word ∷ word ∷ word ∷ []
+set-up-takes n = word ∷ word ∷ word ∷ word ∷ word ∷ word ∷ word ∷ word ∷ []
 
 abbrev pub set-up-leaves : (n : ℕ) → Wanted (set-up-takes n)
-set-up-leaves n κs h a = setUpWord h (a .0) (a .1 .0) (a .1 .1 .0) (a .1 .1 .1 .0) (a .1 .1 .1 .1 .0) (a .1 .1 .1 .1 .1 .0) (a .1 .1 .1 .1 .1 .1 .0)
+set-up-leaves n κs h a = setUpWord h (a .0) (a .1 .0) (a .1 .1 .0) (a .1 .1 .1 .0) (a .1 .1 .1 .1 .0) (a .1 .1 .1 .1 .1 .0) (a .1 .1 .1 .1 .1 .1 .0) (a .1 .1 .1 .1 .1 .1 .1 .0)
 
 abbrev pub release-takes : (n : ℕ) → List (Param n)
 release-takes n = word ∷ []

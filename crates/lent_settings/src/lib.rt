@@ -27,8 +27,9 @@ pub extern "C" fn rokemaipu_set_up(
     discharge: u32,
     silence: u32,
     sensor: u32,
+    interface: u32,
 ) -> u32
-    ensures { λ r. ⌜ (r ≡ setUpWord (now (t .entry)) post channel voltage charge discharge silence sensor .answer) × (now (t .exit) ≡ setUpWord (now (t .entry)) post channel voltage charge discharge silence sensor .table) ⌝ }
+    ensures { λ r. ⌜ (r ≡ setUpWord (now (t .entry)) post channel voltage charge discharge silence sensor interface .answer) × (now (t .exit) ≡ setUpWord (now (t .entry)) post channel voltage charge discharge silence sensor interface .table) ⌝ }
 {
     let r = settled(
         *t,
@@ -39,6 +40,7 @@ pub extern "C" fn rokemaipu_set_up(
         discharge,
         silence,
         sensor,
+        interface,
     );
     *t = r.table;
     r.answer
@@ -70,8 +72,9 @@ pub fn lend_set_up(
     discharge: u32,
     silence: u32,
     sensor: u32,
+    interface: u32,
 ) -> Lent
-    ensures { λ r. ⌜ r ≡ setUpWord t post channel voltage charge discharge silence sensor ⌝ }
+    ensures { λ r. ⌜ r ≡ setUpWord t post channel voltage charge discharge silence sensor interface ⌝ }
 {
     let answer = rokemaipu_set_up(
         &mut t,
@@ -82,6 +85,7 @@ pub fn lend_set_up(
         discharge,
         silence,
         sensor,
+        interface,
     );
     Lent { table: t, answer }
 }

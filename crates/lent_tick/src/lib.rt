@@ -3,7 +3,7 @@ ghost use mathlib.Core.Path.{_≡_};
 ghost use Rattle.lent_step.specs.Fed.{tickWord};
 use lent_step::tick_on;
 use lent_words::Lent;
-use rules::KINDS;
+use rules::PLACES;
 use watch_places::some_place;
 use watch_rules::Table;
 
@@ -18,7 +18,7 @@ pub extern "C" fn rokemaipu_tick(t: &mut Table, channel: u32, time: u32) -> u32
     t.refused = r.refused;
     t.posts[i].head = r.head;
     let at = r.at;
-    if at < KINDS {
+    if at < PLACES {
         t.posts[i].latest[at] = r.slot;
     }
     r.answer

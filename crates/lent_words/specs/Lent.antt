@@ -12,8 +12,9 @@ lentSettled r = record { table = r .table; answer = settingWord (r .answer) }
 unfoldable pub startOf : Table → Lent
 startOf t = record { table = emptyTable; answer = 0 }
 
-unfoldable pub setUpWord : Table → ℕ → ℕ → ℕ → ℕ → ℕ → ℕ → ℕ → Lent
-setUpWord t i c volt chg dis w sensor = lentSettled (setUpOf t i c (record { voltage = volt; charge = chg; discharge = dis; silence = w; sensor = sensor }))
+unfoldable pub setUpWord : Table → ℕ → ℕ → ℕ → ℕ → ℕ → ℕ → ℕ → ℕ → Lent
+setUpWord t i c volt chg dis w sensor iface =
+    lentSettled (setUpOf t i c (record { voltage = volt; charge = chg; discharge = dis; silence = w; sensor = sensor; interface = iface }))
 
 unfoldable pub releaseWord : Table → ℕ → Lent
 releaseWord t i = lentSettled (releaseOf t i)

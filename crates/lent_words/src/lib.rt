@@ -57,8 +57,9 @@ pub fn settled(
     discharge: u32,
     silence: u32,
     sensor: u32,
+    interface: u32,
 ) -> Lent
-    ensures { λ r. ⌜ r ≡ setUpWord t post channel voltage charge discharge silence sensor ⌝ }
+    ensures { λ r. ⌜ r ≡ setUpWord t post channel voltage charge discharge silence sensor interface ⌝ }
 {
     let limits = PlainLimits {
         voltage,
@@ -66,6 +67,7 @@ pub fn settled(
         discharge,
         silence,
         sensor,
+        interface,
     };
     let r = watch::set_up_plain(t, post, channel, limits);
     let a = r.answer;

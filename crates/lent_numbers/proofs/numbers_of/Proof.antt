@@ -10,7 +10,7 @@ use Rattle.rules.specs.declared.Head.{Head}
 use Rattle.rules.specs.declared.Post.{Post}
 use Rattle.rules.specs.Times.{receivedOf, ageOf}
 use Rattle.rules.specs.Record.{isSet}
-use Rattle.rule_limits.specs.Sensor.{sensorNumber, sensorOf}
+use Rattle.rule_limits.specs.Sensor.{sensorNumber, sensorOf, interfaceNumber, interfaceOf}
 use Rattle.rules.specs.After.{postRecord}
 use Rattle.lent_numbers.specs.LookUp.{numbersOf}
 use Rattle.lent_numbers.proofs.numbers_of.Statement.{statement}
@@ -24,7 +24,7 @@ fields h =
     ∷ cond (isSet (h .session .opened)) 1 0 ∷ cond (isSet (h .session .opened)) (receivedOf (h .session .since)) 0
     ∷ cond (isSet (h .session .opened)) (protocolNumber (sessionIn (h .session .first) .protocol)) 0
     ∷ cond (isSet (h .session .opened)) (plugNumber (sessionIn (h .session .first) .plug)) 0
-    ∷ cond (isSet (h .session .opened)) (ageOf (h .time) (h .session .since)) 0 ∷ []
+    ∷ cond (isSet (h .session .opened)) (ageOf (h .time) (h .session .since)) 0 ∷ interfaceNumber (interfaceOf (h .limits .interface)) ∷ []
 
 -- by whether anything was heard and whether a session is open
 spelled : (p : Post) → numbersOf (postRecord p) ≡ fields (p .head)
@@ -39,18 +39,21 @@ spelled p = go (isSet (p .head .heard)) (isSet (p .head .session .opened)) refl 
 
 returns : tie.Need-returns
 returns c =
-    let plug = c .before .before .before in
+    let age = c .before .before in
+    let plug = age .before .before in
     let protocol = plug .before .before in
     let since = protocol .before in
     let time = since .before .before .before in
     let kind = time .before .before .before in
     let read = kind .before in
     let opened = read .before in
-    let sensor = opened .before .before .before .before in
+    let iface = opened .before .before .before in
+    let sensor = iface .before in
     rw (
-      c .where-set5 .ensures,
-      c .before .age .ensures,
-      c .before .before .where-set4 .ensures,
+      c .interface-number .ensures,
+      c .before .where-set5 .ensures,
+      age .age .ensures,
+      age .before .where-set4 .ensures,
       plug .plug-number .ensures,
       plug .before .where-set3 .ensures,
       protocol .protocol-number .ensures,
@@ -64,6 +67,7 @@ returns c =
       read .session-in .ensures,
       opened .is-set2 .ensures,
       opened .before .is-set .ensures,
+      iface .interface-of .ensures,
       sensor .sensor-of .ensures,
     ) (sym (spelled (sensor .before .before .before .args .p)))
 
@@ -72,7 +76,6 @@ numbers-of-spec =
     tie.close
     (tie.spec
     (λ c κs. search needs)
-    (λ c. search needs)
     (λ c κs. search needs)
     (λ c κs. search needs)
     (λ c κs. search needs)
@@ -83,11 +86,13 @@ numbers-of-spec =
     (λ c κs. search needs)
     (λ c κs. search needs)
     (λ c κs. search needs)
-    (λ c κs. search needs)
-    (λ c. search needs)
     (λ c κs. search needs)
     (λ c κs. search needs)
     (λ c. search needs)
+    (λ c κs. search needs)
+    (λ c κs. search needs)
+    (λ c. search needs)
+    (λ c κs. search needs)
     (λ c κs. search needs)
     (λ c κs. search needs)
     (λ c κs. search needs)

@@ -1,11 +1,11 @@
 -- `lent_session::part_of` meets its contract: 9, 14, 3, or what `hand_out` answers and leaves.
 use borrow.Author.Needs.{needs}
-use borrow.Author.Tests.{ltb-true, not-true, not-false}
+use borrow.Author.Tests.{ltb-true, not-true, not-false, le-ltb}
 use native.Mathlib.Omega.{arith}
 use mathlib.Core.Path.{sym, _∙_}
-use Rattle.rules.specs.Record.{kindCount}
+use Rattle.rules.specs.After.{keptCount}
 use Rattle.lent_look.proofs.Asked.{no-post, not-set-up, set-up}
-use Rattle.lent_session.proofs.ByCase.{no-part, handed-by, handed-kept}
+use Rattle.lent_session.proofs.ByCase.{handed-by, handed-kept}
 use Rattle.lent_session.proofs.part_of.Statement.{statement}
 use Rattle.lent_session.proofs.part_of.Tie as tie
 
@@ -35,19 +35,18 @@ returns-3 c =
     let a = post .before .before .before .before .args in
     let e = handed-by (a .t1) (a .post) (a .part) (a .times .now) (a .buf .now)
     (set-up (a .t1) (a .post) (sym (post .before .is-post .ensures) ∙ not-false _ (post .if1 .left)) (sym (used .before .is-set .ensures) ∙ not-false _ (used .if2 .left))) in
-    let f = rw (no-part (a .part) (omega arith)) at e in
+    let f = rw (le-ltb (a .part) keptCount (omega arith)) at e in
     (c .refusal-word3 .ensures ∙ f .0, f .1, f .2)
 
 returns-4 : tie.Need-returns-4
 returns-4 c =
     let h = c .before .before .before .before in
-    let k = h .before .before .before in
-    let l = k .before in
-    let used = h .before .before .before .before .before .before .before in
+    let l = h .before .before .before in
+    let used = l .before .before .before in
     let post = used .before .before .before .before .before in
     let a = post .before .before .before .before .args in
     handed-kept (a .t1) (a .post) (a .part) (a .times .now) (a .buf .now) (sym (post .before .is-post .ensures) ∙ not-false _ (post .if1 .left)) (sym (used .before .is-set .ensures) ∙ not-false _ (used .if2 .left))
-    (omega arith) (rw (k .part-kind .ensures, l .open-kept .ensures) at (h .hand-out .ensures))
+    (omega arith) (rw (l .open-kept .ensures) at (h .hand-out .ensures))
 
 pub part-of-spec : {M : Type 1} → statement M
 part-of-spec =
@@ -64,7 +63,6 @@ part-of-spec =
     returns-2
     (λ c κs. search needs)
     returns-3
-    (λ c κs. search needs)
     (λ c κs. search needs)
     (λ c κs. search needs)
     (λ c. search needs)
