@@ -44,7 +44,7 @@ use Rattle.watch_rules.proofs.Tables.{post-at}
 use Rattle.watch_rules.proofs.Demand.{run-kept, every-record}
 use Rattle.lent_latest.specs.Latest.{hands, keptOf, nowOf, latestWord, timeAfter, frameAfter}
 use Rattle.lent_latest.proofs.LatestLaws.{latest-refused, latest-shown, some-bytes}
-use Rattle.lent_latest.proofs.LatestLooks.{latest-right}
+use Rattle.lent_latest.proofs.LatestLooks.{latest-of-run}
 use Rattle.lent_session.specs.InSession.{partOf, handsPart, partWord, partTime, partFrame}
 use Rattle.lent_session.proofs.SessionLaws.{as-it-came, part-refused, shownAt, part-shown, closed, part-right, part-closed}
 
@@ -155,7 +155,7 @@ none-yet times buf =
 -- ---- the laws of the latest frame of a kind, and of findings that exclude each other, on the same night
 
 kept-latest : keptOf (run night) 0 0 ≡ slotAt 10 0 allowed
-kept-latest = latest-right (run night) (accepted night) (run-kept night) 0 4 limits heard first (computed .0) (tt, (refl, (refl, tt))) 0 (ltb-true 0 messageCount refl)
+kept-latest = latest-of-run night 0 4 limits heard first (computed .0) 0 (ltb-true 0 messageCount refl)
 
 in-place : getD (postIn (run night) 0 .latest) (placeBy 0) unknown .kind ≡ 0
 unfolding latests placeBy

@@ -36,7 +36,7 @@ use Rattle.watch_rules.specs.Steps.{held, standing, findFrom, holder, otherHold
 use Rattle.watch_rules.specs.Run.{Request, setUp, frame, Reply, fed, reply, run, reply01, accepted}
 use Rattle.watch_rules.proofs.Demand.{run-kept, every-answer}
 use Rattle.lent_latest.specs.Latest.{keptOf}
-use Rattle.lent_latest.proofs.LatestLooks.{latest-right}
+use Rattle.lent_latest.proofs.LatestLooks.{latest-of-run}
 use Rattle.lent_session.specs.InSession.{partOf}
 use Rattle.lent_session.proofs.SessionLaws.{part-right}
 
@@ -84,8 +84,8 @@ kept-control =
 -- it is the latest of its kind, and no DC_Power_Control was accepted
 pub kept-insulation : keptOf (run night) 0 older.insulationKind ≡ slotAt 10 older.insulationKind tested
 kept-insulation =
-    latest-right (run night) (accepted night) (run-kept night) 0 4 limits heard first (computed .0) (refl, (refl, tt)) older.insulationKind (ltb-true older.insulationKind messageCount refl)
+    latest-of-run night 0 4 limits heard first (computed .0) older.insulationKind (ltb-true older.insulationKind messageCount refl)
 
 pub no-newer-control : keptOf (run night) 0 newer.controlKind ≡ unknown
 no-newer-control =
-    latest-right (run night) (accepted night) (run-kept night) 0 4 limits heard first (computed .0) (refl, (refl, tt)) newer.controlKind (ltb-true newer.controlKind messageCount refl)
+    latest-of-run night 0 4 limits heard first (computed .0) newer.controlKind (ltb-true newer.controlKind messageCount refl)
