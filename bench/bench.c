@@ -165,7 +165,7 @@ static void set_up(depot *d, uint32_t posts, size_t at) {
     d->posts = posts, d->at = at;
     for (const side *s = sides; s < sides + SIDES; s++) {
         s->start(table_of(d, s));
-        for (uint32_t i = 0; i < posts; i++) s->set_up(table_of(d, s), i, i, 5000, 1000, 500, 500, 0);
+        for (uint32_t i = 0; i < posts; i++) s->set_up(table_of(d, s), i, i, 5000, 1000, 500, 500, 0, 0);
     }
     for (uint32_t turn = 0; turn < 1000; turn++) charge(d, turn);
 }
@@ -254,7 +254,7 @@ static void bench_batch(void) {
     double best[WAYS] = {1e300, 1e300, 1e300};
     uint32_t count = 0;
     for (int w = 0; w < WAYS; w++) {
-        for (uint32_t i = 0; i < ROKEMAIPU_POSTS; i++) rokemaipu_set_up(&tables[w], i, i, 5000, 1000, 500, 500, 0);
+        for (uint32_t i = 0; i < ROKEMAIPU_POSTS; i++) rokemaipu_set_up(&tables[w], i, i, 5000, 1000, 500, 500, 0, 0);
         count = ways[w](&tables[w], bytes, size, answers[w], ROKEMAIPU_BATCH_BYTES);
         if (memcmp(&tables[w], &tables[0], sizeof tables[0]) || memcmp(answers[w], answers[0], sizeof answers[0])) differ("batch");
     }

@@ -39,7 +39,7 @@ static void line(bool tick, uint32_t posts) {
         rokemaipu_start(t);
         memset(l, 0, sizeof *l);
         for (uint32_t i = 0; i < posts; i++) {
-            if (rokemaipu_set_up(t, i, i, 5000, 1000, 500, 500, 0)) differ("set-up");
+            if (rokemaipu_set_up(t, i, i, 5000, 1000, 500, 500, 0, 0)) differ("set-up");
             l->posts[i].head = t->posts[i].head;
         }
         for (uint32_t turn = 0; turn < 1000; turn++)

@@ -56,6 +56,60 @@ static uint32_t judge(uint32_t id, bool extended, const uint8_t *p, size_t n, ui
     return kind;
 }
 
+/* The older controllers': by the identifier's place in document 001. */
+static uint32_t judge_older(uint32_t id, const uint8_t *p, size_t n, uint64_t *raw) {
+    static const uint8_t lengths[] = {8, 8, 3, 8, 8, 2, 4, 1, 5, 1, 1, 1, 8, 8, 6, 8, 8, 8};
+    uint32_t which;
+    if (id >= 0x60010 && id <= 0x60013) which = id - 0x60010;
+    else if (id >= 0x68001 && id <= 0x68007) which = id - 0x68001 + 4;
+    else if (id >= 0x68009 && id <= 0x6800f) which = id - 0x68009 + 11;
+    else return R(3);
+    if (n != lengths[which]) return R(n < lengths[which] ? 4 : 15);
+    uint64_t r = *raw = number(p, n);
+    switch (which) {
+    case 0: if ((r >> 48 & 0xff) > 1) return R5(48); break;
+    case 2: if (r & ~(uint64_t)0x010703) return R(6); break;
+    case 4: if ((r & 0xff) > 7) return R5(0); if ((r >> 8 & 0xff) > 4) return R5(8); break;
+    case 7: if (r > 1) return R5(0); break;
+    case 9: if (r != 1 && r != 3) return R5(0); break;
+    case 10: if (r > 1) return R5(0); break;
+    case 11: if (r > 13) return R5(0); break;
+    case 15: if (r >> 40 & 0xff) return R(6); break;
+    case 16: if ((r & 0xff) > 12 || (r & 0xff) % 3) return R5(0); break;
+    case 17: if ((r & 0xff) > 9) return R5(0); if ((r >> 8 & 0xff) > 3) return R5(8); break;
+    }
+    return which + ROKEMAIPU_OLDER_POWER_MODULES_STATUS;
+}
+
+/* By the pages of a post's interface, and 29 for an identifier that only the other's have. */
+static uint32_t judge_for(uint32_t interface, uint32_t id, bool extended, const uint8_t *p, size_t n, uint64_t *raw) {
+    uint64_t none;
+    bool older = interface == ROKEMAIPU_OLDER;
+    uint32_t kind = older && extended ? judge_older(id, p, n, raw) : judge(id, extended, p, n, raw);
+    if (kind != R(3) || !extended) return kind;
+    return (older ? judge(id, true, NULL, 0, &none) : judge_older(id, NULL, 0, &none)) == R(3) ? R(3) : R(29);
+}
+
+/* What a frame of either interface is to the rules, and where the latest of its kind stands. */
+enum { STATUS_OF = 1, LIMITS_TOLD, CONTROLLER_OF, OPENING, COMMAND, FINISHED };
+static uint32_t asked(uint32_t kind) {
+    static const uint8_t all[ROKEMAIPU_KINDS] = {[0] = STATUS_OF, [1] = LIMITS_TOLD, [2] = CONTROLLER_OF, [3] = OPENING, [5] = COMMAND, [6] = FINISHED,
+        [12] = STATUS_OF, [13] = LIMITS_TOLD, [23] = CONTROLLER_OF, [16] = OPENING, [17] = COMMAND, [18] = COMMAND, [20] = COMMAND, [22] = FINISHED};
+    return all[kind];
+}
+static uint32_t place_by(uint32_t kind) { return kind < 12 ? kind : kind < 21 ? kind - 12 : kind - 9; }
+
+/* The power function that a frame asks for: DC_Power_Control's, or that for which the older interface's message stands. */
+static uint64_t function_of(uint32_t kind, uint64_t r) { return kind == 17 ? 2 : kind == 18 ? 4 : kind == 20 ? 8 : r >> 48 & 15; }
+
+/* What limits that were told make of a default: voltage, charge and discharge stand at 0, 16 and 32. Power_Modules_Limits has no discharge, and a current of 0
+ * or less means the default. */
+static uint32_t told(uint32_t kind, uint64_t r, uint32_t most, int shift) {
+    uint32_t got = (uint32_t)(r >> shift & 0xffff);
+    if (kind == ROKEMAIPU_OLDER_POWER_MODULES_LIMITS && (shift == 32 || (shift == 16 && got >> 15))) return most;
+    return got && got < most ? got : most;
+}
+
 static int64_t s16(uint64_t x) { return (int16_t)x; }
 static int64_t s14(uint64_t x) { return (int64_t)((x & 0x3fff) ^ 0x2000) - 0x2000; }
 
@@ -210,7 +264,7 @@ static bool powered(uint64_t f) { return f == 2 || f == 4 || f == 8; }
 #define CONTROL(s) ((s)->kept[ROKEMAIPU_KEPT_CONTROL])
 #define CONTROLLER(p) ((p)->head.controller)
 #define PARAMETERS(p) ((p)->head.parameters)
-#define KEEP_IN_HEAD(p, kind, slot) do { if (kind == 2) (p)->head.controller = slot; if (kind == 1) (p)->head.parameters = slot; } while (0)
+#define KEEP_IN_HEAD(p, role, slot) do { if (role == CONTROLLER_OF) (p)->head.controller = slot; if (role == LIMITS_TOLD) (p)->head.parameters = slot; } while (0)
 #define SET(flag) ((flag) == 1)
 #define NAMED(name) peer_##name
 #include "peer_watch.h"
@@ -234,9 +288,9 @@ static bool powered(uint64_t f) { return f == 2 || f == 4 || f == 8; }
 #define HEAD(p) (*(p))
 #define STATUS(s) ((s)->status)
 #define CONTROL(s) ((s)->control)
-#define CONTROLLER(p) ((p)->latest[2])
+#define CONTROLLER(p) ((p)->latest[(p)->limits.interface == ROKEMAIPU_OLDER ? 14 : 2])
 #define PARAMETERS(p) ((p)->latest[1])
-#define KEEP_IN_HEAD(p, kind, slot)
+#define KEEP_IN_HEAD(p, role, slot)
 #define SET(flag) (flag)
 #define NAMED(name) own_##name
 #include "peer_watch.h"
@@ -247,7 +301,7 @@ uint32_t own_start(rokemaipu_table *memory) {
 }
 
 /* Without set-up's refusals: nothing is timed here. */
-uint32_t own_set_up(rokemaipu_table *memory, uint32_t post, uint32_t channel, uint32_t voltage, uint32_t charge, uint32_t discharge, uint32_t silence, uint32_t sensor) {
-    ((peer_table *)memory)->posts[post] = (peer_post){.used = true, .channel = channel, .limits = {voltage, charge, discharge, silence, sensor}};
+uint32_t own_set_up(rokemaipu_table *memory, uint32_t post, uint32_t channel, uint32_t voltage, uint32_t charge, uint32_t discharge, uint32_t silence, uint32_t sensor, uint32_t interface) {
+    ((peer_table *)memory)->posts[post] = (peer_post){.used = true, .channel = channel, .limits = {voltage, charge, discharge, silence, sensor, interface}};
     return 0;
 }

@@ -20,29 +20,28 @@ static uint32_t NAMED(always)(const POST *p, uint64_t time) {
 }
 
 static uint32_t NAMED(limit)(const POST *p, uint32_t most, int shift) {
-    if (!SET(PARAMETERS(p).known)) return most;
-    uint32_t got = (uint32_t)(PARAMETERS(p).raw >> shift & 0xffff);
-    return got && got < most ? got : most;
+    return SET(PARAMETERS(p).known) ? told(PARAMETERS(p).kind, PARAMETERS(p).raw, most, shift) : most;
 }
 
-static uint32_t NAMED(found)(const POST *p, uint32_t kind, uint64_t r) {
+static uint32_t NAMED(found)(const POST *p, uint32_t role, uint32_t kind, uint64_t r) {
     const SESSION *s = &HEAD(p).session;
     uint32_t f = 0;
-    if (kind == 0) {
+    if (role == STATUS_OF) {
         int64_t amps = s16(r >> 16);
         if (SET(s->opened) && (amps > (int64_t)NAMED(limit)(p, HEAD(p).limits.charge, 16) || amps < -(int64_t)NAMED(limit)(p, HEAD(p).limits.discharge, 32))) f |= 128;
-        uint64_t g = CONTROL(s).raw >> 48 & 15;
+        uint64_t g = function_of(CONTROL(s).kind, CONTROL(s).raw);
         if (SET(s->opened) && SET(CONTROL(s).known) && (g == 4 || g == 8) && poor(HEAD(p).limits.sensor, r)) f |= 256;
-    } else if (kind == 3) {
-        if (SET(s->opened) && s->first != r) f |= 512;
-    } else if (kind == 5) {
-        uint64_t g = r >> 48 & 15;
-        if ((r >> 54 & 1) && !SET(s->opened)) f |= 4;
+    } else if (role == OPENING) {
+        if (SET(s->opened) && ((s->first ^ r) & 0xffff)) f |= 512;
+    } else if (role == COMMAND) {
+        uint64_t g = function_of(kind, r);
+        bool newer = kind == ROKEMAIPU_DC_POWER_CONTROL;
+        if (newer && (r >> 54 & 1) && !SET(s->opened)) f |= 4;
         if (powered(g) && !SET(s->opened)) f |= 8;
         if (powered(g) && SET(s->opened) && (!SET(STATUS(s).known) || (STATUS(s).raw >> 48 & 0xff) == 0)) f |= 16;
-        if ((r >> 55 & 1) && (g != 1 || (r & 0xffffffffffff))) f |= 32;
-        if (g && (r & 0xffff) > NAMED(limit)(p, HEAD(p).limits.voltage, 0)) f |= 64;
-    } else if (kind == 6 && !SET(s->opened)) {
+        if (newer && (r >> 55 & 1) && (g != 1 || (r & 0xffffffffffff))) f |= 32;
+        if (newer && g && (r & 0xffff) > NAMED(limit)(p, HEAD(p).limits.voltage, 0)) f |= 64;
+    } else if (role == FINISHED && !SET(s->opened)) {
         f |= 1024;
     }
     return f;
@@ -67,19 +66,19 @@ uint32_t NAMED(frame)(rokemaipu_table *memory, uint32_t channel, uint32_t time, 
     uint32_t later = time - (uint32_t)HEAD(p).time;
     if (SET(HEAD(p).heard) && later >> 31) return NAMED(refuse)(t, R(2));
     uint64_t r;
-    uint32_t kind = judge(id, extended, bytes, n, &r);
+    uint32_t kind = judge_for(HEAD(p).limits.interface, id, extended, bytes, n, &r);
     if (kind >= ROKEMAIPU_REFUSED) return NAMED(refuse)(t, kind);
     if (HEAD(p).counts[0] == UINT32_MAX) return NAMED(refuse)(t, R(25));
     uint64_t now = SET(HEAD(p).heard) ? HEAD(p).time + later : time;
-    uint32_t f = NAMED(always)(p, now) | NAMED(found)(p, kind, r);
-    SLOT slot = {true, now, r};
+    uint32_t role = asked(kind), f = NAMED(always)(p, now) | NAMED(found)(p, role, kind, r);
+    SLOT slot = {.known = true, .kind = kind, .time = now, .raw = r};
     SESSION *s = &HEAD(p).session;
-    HEAD(p).heard = true, HEAD(p).time = now, p->latest[kind] = slot;
-    KEEP_IN_HEAD(p, kind, slot);
-    if (kind == 0 && SET(s->opened)) STATUS(s) = slot;
-    if (kind == 5 && SET(s->opened)) CONTROL(s) = slot;
-    if (kind == 3 && !SET(s->opened)) *s = (SESSION){.opened = true, .since = now, .first = r};
-    if (kind == 6) *s = (SESSION){0};
+    HEAD(p).heard = true, HEAD(p).time = now, p->latest[place_by(kind)] = slot;
+    KEEP_IN_HEAD(p, role, slot);
+    if (role == STATUS_OF && SET(s->opened)) STATUS(s) = slot;
+    if (role == COMMAND && SET(s->opened)) CONTROL(s) = slot;
+    if (role == OPENING && !SET(s->opened)) *s = (SESSION){.opened = true, .since = now, .first = r};
+    if (role == FINISHED) *s = (SESSION){0};
     return NAMED(count)(p, f);
 }
 

@@ -10,7 +10,7 @@ typedef struct {
     uint32_t (*write)(uint32_t kind, const int64_t *raws, size_t places, uint8_t *buffer, size_t room);
     uint32_t (*change)(uint32_t id, bool extended, uint8_t *payload, size_t length, uint32_t start, int64_t raw);
     uint32_t (*start)(rokemaipu_table *t);
-    uint32_t (*set_up)(rokemaipu_table *t, uint32_t post, uint32_t channel, uint32_t voltage, uint32_t charge, uint32_t discharge, uint32_t silence, uint32_t sensor);
+    uint32_t (*set_up)(rokemaipu_table *t, uint32_t post, uint32_t channel, uint32_t voltage, uint32_t charge, uint32_t discharge, uint32_t silence, uint32_t sensor, uint32_t interface);
     uint32_t (*frame)(rokemaipu_table *t, uint32_t channel, uint32_t time, uint32_t id, bool extended, const uint8_t *payload, size_t length);
     uint32_t (*tick)(rokemaipu_table *t, uint32_t channel, uint32_t time);
     uint32_t (*log_frame)(uint32_t time, uint32_t channel, uint32_t id, bool extended, const uint8_t *payload, size_t length, uint8_t *buffer, size_t room);

@@ -2,7 +2,8 @@
  *
  *     static rokemaipu_table t;                                              a table is zeroed memory: zero it first
  *     if (rokemaipu_layout() != ROKEMAIPU_LAYOUT) return 1;                  this header and the library that was linked are not of one version
- *     rokemaipu_set_up(&t, 0, 4, 5000, 1000, 500, 500, ROKEMAIPU_MEASURING); post 0 on channel 4: 500.0 V, 100.0 A, 50.0 A, W 500 ms
+ *     rokemaipu_set_up(&t, 0, 4, 5000, 1000, 500, 500, ROKEMAIPU_MEASURING,  post 0 on channel 4: 500.0 V, 100.0 A, 50.0 A, W 500 ms, and a controller
+ *                      ROKEMAIPU_NEWER);                                     of document 000
  *     uint32_t answer = rokemaipu_frame(&t, 4, time, id, extended, payload, length);
  *     if (rokemaipu_refusal(answer)) ..                                      refused, and nothing was changed but the count of what was refused
  *     else if (answer & ROKEMAIPU_F9_LOW_INSULATION) ..                      accepted, and found
@@ -34,10 +35,11 @@
 extern "C" {
 #endif
 
-#define ROKEMAIPU_VERSION 102 /* 1.02: whatever compiles with one 1.xx compiles with each later one */
+#define ROKEMAIPU_VERSION 200 /* 2.00: whatever compiles with one 2.xx compiles with each later one */
 
 #define ROKEMAIPU_POSTS 8
-#define ROKEMAIPU_KINDS 12
+#define ROKEMAIPU_KINDS 30 /* of messages, of both interfaces */
+#define ROKEMAIPU_PLACES 21 /* a post's latest frames */
 #define ROKEMAIPU_SIGNALS 16 /* places of raw numbers; no message has more signals */
 #define ROKEMAIPU_RECORD_BYTES 20 /* no record of the night log is longer */
 #define ROKEMAIPU_BATCH_BYTES 4096 /* a batch has no more */
@@ -93,7 +95,9 @@ enum rokemaipu_refused {
     /* of a comparison */
     ROKEMAIPU_R26_COMPARE_LOG = 26,      /* a log with a malformed or cut record */
     ROKEMAIPU_R27_COMPARE_RECORDS = 27,  /* a log of more than 512 records */
-    ROKEMAIPU_R28_COMPARE_ROOM = 28      /* a list of fewer than 512 places */
+    ROKEMAIPU_R28_COMPARE_ROOM = 28,     /* a list of fewer than 512 places */
+    /* of posts of either interface */
+    ROKEMAIPU_R29_OTHER_INTERFACE = 29   /* identifier that only the pages of the other interface have; in 3's place */
 };
 
 /* Findings of an accepted frame or tick: finding k is bit k - 1 of the answer. */
@@ -104,7 +108,8 @@ enum rokemaipu_finding {
     ROKEMAIPU_F1_POWER_MODULES_SILENT = 1,
     /* any event, once a controller status was accepted: time minus its latest is above 200 ms */
     ROKEMAIPU_F2_CONTROLLER_SILENT = 2,
-    /* DC_Power_Control: contactors Close, no session open */
+    /* DC_Power_Control, for which on a post of the older interface Insulation_Test, Precharge and Charging_Loop stand as the three functions, so that findings
+     * 3, 6 and 7 are not found there: contactors Close, no session open */
     ROKEMAIPU_F3_CLOSE_WITHOUT_SESSION = 4,
     /* DC_Power_Control: insulation test, precharge or power transfer, no session open */
     ROKEMAIPU_F4_POWER_WITHOUT_SESSION = 8,
@@ -127,8 +132,14 @@ enum rokemaipu_finding {
 
 /* ---- numbers that name things */
 
-/* Kinds of messages, by the identifier of their extended frames; the last three are the safety controller's, standard frames. What their raw
- * numbers are stands in rokemaipu_pages.h. */
+/* Interfaces: whose pages a post reads. In a table of your own making every other number counts as the newer one. */
+enum rokemaipu_interface {
+    ROKEMAIPU_NEWER = 0, /* documents 000 and 004 */
+    ROKEMAIPU_OLDER = 1  /* documents 001 and 004 */
+};
+
+/* Kinds of messages, by the identifier of their extended frames; 9 to 11 are the safety controller's, standard frames, which either interface has. 0 to 8 only
+ * the newer one has, and 12 to 29, in the order of document 001, only the older one. What their raw numbers are stands in rokemaipu_pages.h. */
 enum rokemaipu_kind {
     ROKEMAIPU_POWER_MODULES_STATUS = 0,    /* 0x63000 */
     ROKEMAIPU_DC_POWER_PARAMETERS = 1,     /* 0x63001 */
@@ -141,11 +152,7 @@ enum rokemaipu_kind {
     ROKEMAIPU_EV_ID = 8,                   /* 0x6b105 */
     ROKEMAIPU_CHARGE_CONTROL_1 = 9,        /* standard 6 */
     ROKEMAIPU_CHARGE_STATE_1 = 10,         /* standard 7 */
-    ROKEMAIPU_PT1000_STATE = 11            /* standard 8 */
-};
-
-/* Kinds of the older controllers' messages, in the order of document 001, for rokemaipu_read_older and its like: extended frames. No post keeps them. */
-enum rokemaipu_older_kind {
+    ROKEMAIPU_PT1000_STATE = 11,           /* standard 8 */
     ROKEMAIPU_OLDER_POWER_MODULES_STATUS = 12,    /* 0x60010 */
     ROKEMAIPU_OLDER_POWER_MODULES_LIMITS = 13,    /* 0x60011 */
     ROKEMAIPU_OLDER_SEQUENCE_CONTROL = 14,        /* 0x60012 */
@@ -182,12 +189,13 @@ enum rokemaipu_number {
     ROKEMAIPU_SENSOR = 5,
     ROKEMAIPU_HEARD = 6,     /* 1 where a frame or tick was accepted since set-up, else 0 */
     ROKEMAIPU_TIME = 7,      /* the latest accepted one's time, as received, 0 where none was */
-    ROKEMAIPU_OPENED = 8,    /* 1 where a session is open, else 0, and 0 in those that follow */
+    ROKEMAIPU_OPENED = 8,    /* 1 where a session is open, else 0, and 0 in those that follow of it */
     ROKEMAIPU_SINCE = 9,     /* the opening's time, as received */
     ROKEMAIPU_PROTOCOL = 10, /* the first protocol's number and the first plug's, as the page of New_Charge_Session has them */
     ROKEMAIPU_PLUG = 11,
     ROKEMAIPU_SINCE_AGE = 12, /* the opening's age in ms; 0 where no session is open */
-    ROKEMAIPU_NUMBERS = 13    /* how many they are */
+    ROKEMAIPU_INTERFACE = 13, /* of rokemaipu_interface, as it was set up */
+    ROKEMAIPU_NUMBERS = 14    /* how many they are */
 };
 
 /* A post's counts since set-up, in the order in which they are looked up. Place k, 1 to 11, has the accepted frames and ticks that had finding k. */
@@ -196,11 +204,12 @@ enum rokemaipu_count {
     ROKEMAIPU_COUNTS = 12   /* how many they are */
 };
 
-/* A kept frame's times, in the order in which they are looked up. */
+/* A kept frame's times and its kind, in the order in which they are looked up. */
 enum rokemaipu_when {
-    ROKEMAIPU_WHEN = 0,     /* its time, as received */
-    ROKEMAIPU_WHEN_AGE = 1, /* its age in ms, as of the post's latest accepted frame or tick; it stops growing at 4,294,967,295 */
-    ROKEMAIPU_TIMES = 2     /* how many they are */
+    ROKEMAIPU_WHEN = 0,      /* its time, as received */
+    ROKEMAIPU_WHEN_AGE = 1,  /* its age in ms, as of the post's latest accepted frame or tick; it stops growing at 4,294,967,295 */
+    ROKEMAIPU_WHEN_KIND = 2, /* its kind: of ROKEMAIPU_KEPT_CONTROL on a post of the older interface, which of the three messages it is */
+    ROKEMAIPU_TIMES = 3      /* how many they are */
 };
 
 /* What stands at a byte of a log. */
@@ -232,7 +241,8 @@ enum rokemaipu_entry {
  * no padding: two tables can be compared byte by byte. */
 
 typedef struct rokemaipu_slot { /* 24 bytes: the latest frame of a kind, all 0 where none was accepted */
-    uint64_t known;
+    uint32_t known;
+    uint32_t kind; /* of rokemaipu_kind */
     uint64_t time;
     uint64_t raw;
 } rokemaipu_slot;
@@ -243,12 +253,13 @@ typedef struct rokemaipu_limits {
     uint32_t discharge; /* default, tenths of an ampere, 0 to 32,767 */
     uint32_t silence;   /* W, ms without Power_Modules_Status, 100 to 60,000 */
     uint32_t sensor;    /* of rokemaipu_sensor */
+    uint32_t interface; /* of rokemaipu_interface */
 } rokemaipu_limits;
 
 /* What a session keeps: the latest of these accepted in it. */
 enum rokemaipu_kept {
     ROKEMAIPU_KEPT_STATUS = 0,  /* Power_Modules_Status */
-    ROKEMAIPU_KEPT_CONTROL = 1, /* DC_Power_Control */
+    ROKEMAIPU_KEPT_CONTROL = 1, /* DC_Power_Control; on a post of the older interface Insulation_Test, Precharge or Charging_Loop */
     ROKEMAIPU_KEPT = 2          /* how many they are */
 };
 
@@ -259,31 +270,31 @@ typedef struct rokemaipu_session { /* 72 bytes, all 0 where no session is open *
     rokemaipu_slot kept[ROKEMAIPU_KEPT];
 } rokemaipu_session;
 
-typedef struct rokemaipu_head { /* 208 bytes: what the findings are read from, and the counts */
+typedef struct rokemaipu_head { /* 216 bytes: what the findings are read from, and the counts */
     uint32_t used; /* set up */
     uint32_t channel;
     rokemaipu_limits limits;
-    uint32_t heard; /* a frame or tick was accepted since set-up */
+    uint64_t heard; /* a frame or tick was accepted since set-up */
     uint64_t time;
     rokemaipu_slot controller; /* the latest Advantics_Controller_Status, as in latest */
-    rokemaipu_slot parameters; /* the latest DC_Power_Parameters, as in latest */
+    rokemaipu_slot parameters; /* the latest DC_Power_Parameters, or Power_Modules_Limits, as in latest */
     rokemaipu_session session;
     uint32_t counts[ROKEMAIPU_COUNTS];
 } rokemaipu_head;
 
-typedef struct rokemaipu_post { /* 496 bytes */
+typedef struct rokemaipu_post { /* 720 bytes */
     rokemaipu_head head;
-    rokemaipu_slot latest[ROKEMAIPU_KINDS];
+    rokemaipu_slot latest[ROKEMAIPU_PLACES]; /* kind k, 0 to 11, at place k; 12 to 20 at k - 12; 21 to 29 at k - 9 */
 } rokemaipu_post;
 
-typedef struct rokemaipu_table { /* 3,976 bytes; zeroed memory is the empty table */
+typedef struct rokemaipu_table { /* 5,768 bytes; zeroed memory is the empty table */
     rokemaipu_post posts[ROKEMAIPU_POSTS];
     uint64_t refused; /* frames and ticks refused since the table was made; it stays at 4,294,967,295 */
 } rokemaipu_table;
 
-/* The table's layout as one word: its bytes in the low 32 bits, then its posts and its kinds of messages with 8 bits each, then the number of the
+/* The table's layout as one word: its bytes in the low 32 bits, then its posts and a post's places with 8 bits each, then the number of the
  * layout, which is another one wherever a place in the table means something else. */
-#define ROKEMAIPU_LAYOUT ((uint64_t)sizeof(rokemaipu_table) + ((uint64_t)ROKEMAIPU_POSTS << 32) + ((uint64_t)ROKEMAIPU_KINDS << 40) + ((uint64_t)3 << 48))
+#define ROKEMAIPU_LAYOUT ((uint64_t)sizeof(rokemaipu_table) + ((uint64_t)ROKEMAIPU_POSTS << 32) + ((uint64_t)ROKEMAIPU_PLACES << 40) + ((uint64_t)4 << 48))
 
 /* Answers the layout that the library has. Compare it with ROKEMAIPU_LAYOUT before the first call: with another one, no table of this
  * header may be lent. */
@@ -295,13 +306,14 @@ uint64_t rokemaipu_layout(void);
 uint32_t rokemaipu_start(rokemaipu_table *t);
 
 /* Sets a post up on a channel, with an empty history; set up again, it leaves its old channel. Answers 0, or refuses with 9, 10, 11, 12; 12 also
- * where sensor is no kind of sensor. */
-uint32_t rokemaipu_set_up(rokemaipu_table *t, uint32_t post, uint32_t channel, uint32_t voltage, uint32_t charge, uint32_t discharge, uint32_t silence, uint32_t sensor);
+ * where sensor is no kind of sensor or interface no interface. The post then reads the pages of its interface. */
+uint32_t rokemaipu_set_up(rokemaipu_table *t, uint32_t post, uint32_t channel, uint32_t voltage, uint32_t charge, uint32_t discharge, uint32_t silence, uint32_t sensor, uint32_t interface);
 
 /* Frees the post's channel and drops its record. Answers 0, or refuses with 9, 14. */
 uint32_t rokemaipu_release(rokemaipu_table *t, uint32_t post);
 
-/* Watches a frame on the post that holds the channel. Answers the findings, or refuses with 1 to 6, with 15 in 4's place, then with 25. */
+/* Watches a frame on the post that holds the channel. Answers the findings, or refuses with 1 to 6, with 29 in 3's place and 15 in 4's, then with
+ * 25. */
 uint32_t rokemaipu_frame(rokemaipu_table *t, uint32_t channel, uint32_t time, uint32_t id, bool extended, const uint8_t *payload, size_t length);
 
 /* Lets time pass on a channel. Answers the findings, or refuses with 1, 2, then with 25. */
@@ -322,9 +334,10 @@ uint32_t rokemaipu_counts(const rokemaipu_table *t, uint32_t post, uint32_t *cou
  * batch only its records. The answer is a count, never a refusal; it stays at 4,294,967,295 once there. */
 uint32_t rokemaipu_refused(const rokemaipu_table *t);
 
-/* Looks up the latest frame of a kind that the post accepted since set-up: puts its time as received and its age into the first ROKEMAIPU_TIMES places of
- * times, and its bytes, as they came, into buffer from index 0 on. Answers its number of bytes; 0 where there is none, and then nothing is written,
- * whatever is lent. Refuses with 9, 14, with 3 for a kind above 11, then with 8 where times has fewer places or buffer is shorter than the frame. */
+/* Looks up the latest frame of a kind that the post accepted since set-up: puts its time as received, its age and its kind into the first ROKEMAIPU_TIMES
+ * places of times, and its bytes, as they came, into buffer from index 0 on. Answers its number of bytes; 0 where there is none, also of a kind that the
+ * post's interface has not, and then nothing is written, whatever is lent. Refuses with 9, 14, with 3 for a kind above 29, then with 8 where times has fewer
+ * places or buffer is shorter than the frame. */
 uint32_t rokemaipu_latest(const rokemaipu_table *t, uint32_t post, uint32_t kind, uint32_t *times, size_t places, uint8_t *buffer, size_t room);
 
 /* Looks up likewise, by a number of rokemaipu_kept, the latest frame that was accepted in the open session. Answers as rokemaipu_latest does: 0
@@ -347,7 +360,7 @@ uint32_t rokemaipu_write(uint32_t kind, const int64_t *raws, size_t places, uint
 uint32_t rokemaipu_change(uint32_t id, bool extended, uint8_t *payload, size_t length, uint32_t start, int64_t raw);
 
 /* Reads a frame by the pages of the older controllers, document 001, as rokemaipu_read does by the newer ones'. Their kinds are those of
- * rokemaipu_older_kind; 9 to 11, of the safety controller, are of either. Refuses with 3 also an identifier that only the newer pages have. */
+ * the older interface, 9 to 29. Refuses with 3 also an identifier that only the newer pages have. */
 uint32_t rokemaipu_read_older(uint32_t id, bool extended, const uint8_t *payload, size_t length, int64_t *raws, size_t places);
 
 /* Writes the frame of a kind of these pages likewise. Refuses with 7 also a kind that only the newer pages have. */
@@ -451,14 +464,14 @@ uint32_t rokemaipu_compare(const uint8_t *a, size_t size_a, const uint8_t *b, si
  *     char line[ROKEMAIPU_LINE_BYTES];
  *     uint64_t at = 0;
  *     uint32_t n;
- *     rokemaipu_replay_set_up(&r, 0, 2, 5000, 1000, 500, 500, ROKEMAIPU_MEASURING);
+ *     rokemaipu_replay_set_up(&r, 0, 2, 5000, 1000, 500, 500, ROKEMAIPU_MEASURING, ROKEMAIPU_NEWER);
  *     while ((n = rokemaipu_replay_line(&r, log, size, at, (uint8_t *)line, sizeof line, &at, 1)) >= 3 && !rokemaipu_refusal(n))
  *         fwrite(line, 1, n, stdout);
  *
  * A line is the record's count from 1, the post that holds its channel (a dash for refusal 1), then A with the decimal finding number or R with the
  * refusal, one space between; refusal 5 adds a space and the start bit; and a line feed: "1 0 A0", "2 - R1", "3 0 R5 48". */
 
-typedef struct rokemaipu_replay { /* 3,992 bytes; zeroed memory is a replay that was just started */
+typedef struct rokemaipu_replay { /* 5,784 bytes; zeroed memory is a replay that was just started */
     rokemaipu_table table; /* look posts up in it as you like */
     uint64_t count;        /* of the records fed so far */
     uint64_t course;       /* 0: set-ups may come; 1: records were fed; else a set-up was refused, with this word */
@@ -469,7 +482,7 @@ uint32_t rokemaipu_replay_start(rokemaipu_replay *r);
 
 /* Sets a post up, as rokemaipu_set_up does. A refused one ends the replay: it and every later call are refused with its number, 9 to 12.
  * Answers 0; or 1 where a record was fed before, and nothing is changed. */
-uint32_t rokemaipu_replay_set_up(rokemaipu_replay *r, uint32_t post, uint32_t channel, uint32_t voltage, uint32_t charge, uint32_t discharge, uint32_t silence, uint32_t sensor);
+uint32_t rokemaipu_replay_set_up(rokemaipu_replay *r, uint32_t post, uint32_t channel, uint32_t voltage, uint32_t charge, uint32_t discharge, uint32_t silence, uint32_t sensor, uint32_t interface);
 
 /* Feeds the record at byte at of a log to the table, puts its line into line, from index 0 on, and the next record's first byte into next[0]. Answers
  * the line's number of bytes, 3 at least; 0 at the log's end; 1 where only a piece of a record is left. Refuses with 8 where line has fewer than
@@ -491,40 +504,42 @@ ROKEMAIPU_IS(sizeof(bool), 1);
 ROKEMAIPU_IS(sizeof(size_t), 8);
 ROKEMAIPU_IS(sizeof(rokemaipu_slot), 24);
 ROKEMAIPU_IS(offsetof(rokemaipu_slot, known), 0);
+ROKEMAIPU_IS(offsetof(rokemaipu_slot, kind), 4);
 ROKEMAIPU_IS(offsetof(rokemaipu_slot, time), 8);
 ROKEMAIPU_IS(offsetof(rokemaipu_slot, raw), 16);
-ROKEMAIPU_IS(sizeof(rokemaipu_limits), 20);
+ROKEMAIPU_IS(sizeof(rokemaipu_limits), 24);
 ROKEMAIPU_IS(offsetof(rokemaipu_limits, voltage), 0);
 ROKEMAIPU_IS(offsetof(rokemaipu_limits, charge), 4);
 ROKEMAIPU_IS(offsetof(rokemaipu_limits, discharge), 8);
 ROKEMAIPU_IS(offsetof(rokemaipu_limits, silence), 12);
 ROKEMAIPU_IS(offsetof(rokemaipu_limits, sensor), 16);
+ROKEMAIPU_IS(offsetof(rokemaipu_limits, interface), 20);
 ROKEMAIPU_IS(sizeof(rokemaipu_session), 72);
 ROKEMAIPU_IS(offsetof(rokemaipu_session, opened), 0);
 ROKEMAIPU_IS(offsetof(rokemaipu_session, since), 8);
 ROKEMAIPU_IS(offsetof(rokemaipu_session, first), 16);
 ROKEMAIPU_IS(offsetof(rokemaipu_session, kept), 24);
-ROKEMAIPU_IS(sizeof(rokemaipu_head), 208);
+ROKEMAIPU_IS(sizeof(rokemaipu_head), 216);
 ROKEMAIPU_IS(offsetof(rokemaipu_head, used), 0);
 ROKEMAIPU_IS(offsetof(rokemaipu_head, channel), 4);
 ROKEMAIPU_IS(offsetof(rokemaipu_head, limits), 8);
-ROKEMAIPU_IS(offsetof(rokemaipu_head, heard), 28);
-ROKEMAIPU_IS(offsetof(rokemaipu_head, time), 32);
-ROKEMAIPU_IS(offsetof(rokemaipu_head, controller), 40);
-ROKEMAIPU_IS(offsetof(rokemaipu_head, parameters), 64);
-ROKEMAIPU_IS(offsetof(rokemaipu_head, session), 88);
-ROKEMAIPU_IS(offsetof(rokemaipu_head, counts), 160);
+ROKEMAIPU_IS(offsetof(rokemaipu_head, heard), 32);
+ROKEMAIPU_IS(offsetof(rokemaipu_head, time), 40);
+ROKEMAIPU_IS(offsetof(rokemaipu_head, controller), 48);
+ROKEMAIPU_IS(offsetof(rokemaipu_head, parameters), 72);
+ROKEMAIPU_IS(offsetof(rokemaipu_head, session), 96);
+ROKEMAIPU_IS(offsetof(rokemaipu_head, counts), 168);
 ROKEMAIPU_IS(ROKEMAIPU_COUNTS, 12); /* a head of 11 has the same bytes */
-ROKEMAIPU_IS(sizeof(rokemaipu_post), 496);
+ROKEMAIPU_IS(sizeof(rokemaipu_post), 720);
 ROKEMAIPU_IS(offsetof(rokemaipu_post, head), 0);
-ROKEMAIPU_IS(offsetof(rokemaipu_post, latest), 208);
-ROKEMAIPU_IS(sizeof(rokemaipu_table), 3976);
+ROKEMAIPU_IS(offsetof(rokemaipu_post, latest), 216);
+ROKEMAIPU_IS(sizeof(rokemaipu_table), 5768);
 ROKEMAIPU_IS(offsetof(rokemaipu_table, posts), 0);
-ROKEMAIPU_IS(offsetof(rokemaipu_table, refused), 3968);
-ROKEMAIPU_IS(sizeof(rokemaipu_replay), 3992);
+ROKEMAIPU_IS(offsetof(rokemaipu_table, refused), 5760);
+ROKEMAIPU_IS(sizeof(rokemaipu_replay), 5784);
 ROKEMAIPU_IS(offsetof(rokemaipu_replay, table), 0);
-ROKEMAIPU_IS(offsetof(rokemaipu_replay, count), 3976);
-ROKEMAIPU_IS(offsetof(rokemaipu_replay, course), 3984);
+ROKEMAIPU_IS(offsetof(rokemaipu_replay, count), 5768);
+ROKEMAIPU_IS(offsetof(rokemaipu_replay, course), 5776);
 
 #ifdef __cplusplus
 }

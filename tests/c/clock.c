@@ -6,7 +6,7 @@ static const uint8_t status[8] = {0x88, 0x13, 0, 0, 65, 65, 1, 255}, controller[
 
 static void begin(rokemaipu_table *t) {
     IS(rokemaipu_start(t), 0);
-    IS(rokemaipu_set_up(t, 0, 4, 5000, 1000, 500, 500, 0), 0);
+    IS(rokemaipu_set_up(t, 0, 4, 5000, 1000, 500, 500, 0, 0), 0);
 }
 
 /* the latest frame of a kind stands at its time as received, with its age */
@@ -88,7 +88,7 @@ static void ages(void) {
 
 /* a table of the caller's own making: its clock has 64 bits, and comes round there */
 static void any_clock(void) {
-    rokemaipu_table *t = (rokemaipu_table *)fenced((size_t)sysconf(_SC_PAGESIZE));
+    rokemaipu_table *t = table_alone().table;
     rokemaipu_head *h = &t->posts[0].head;
     for (int turn = 0; turn < 20000 && !bad; turn++) {
         random_table(t);

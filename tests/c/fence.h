@@ -43,7 +43,7 @@ static uint64_t next(void) {
     state ^= state >> 7;
     return state ^= state << 17;
 }
-static uint32_t below(uint32_t n) { return (uint32_t)(next() % n); }
+static inline uint32_t below(uint32_t n) { return (uint32_t)(next() % n); }
 
 /* ---- lent memory: it ends at a fence, and what stands before it and behind its places may not change either */
 

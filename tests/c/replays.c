@@ -4,7 +4,7 @@
 
 static const uint8_t channel_32[2] = {0, 32}, ticks[10] = {0xac, 0x02, 0x02, 0x00, 0x09, 0xac, 0x02, 0x03, 0x00, 0x09};
 
-static uint32_t set_up(rokemaipu_replay *r, uint32_t post, uint32_t channel) { return rokemaipu_replay_set_up(r, post, channel, 5000, 1000, 500, 500, 0); }
+static uint32_t set_up(rokemaipu_replay *r, uint32_t post, uint32_t channel) { return rokemaipu_replay_set_up(r, post, channel, 5000, 1000, 500, 500, 0, 0); }
 
 /* a call that is to leave all as it was */
 static void stays(int line, rokemaipu_replay *r, const uint8_t *log, size_t size, size_t at, size_t room, size_t places, uint32_t want) {
@@ -65,7 +65,7 @@ static void refused(void) {
         IS(rokemaipu_replay_start(&r), 0);
         IS(memcmp(&r, &zero, sizeof r), 0);
         IS(set_up(&r, 0, 2), 0);
-        IS(rokemaipu_replay_set_up(&r, rows[i].post, rows[i].channel, 5000, 1000, 500, rows[i].silence, 0), R(rows[i].number));
+        IS(rokemaipu_replay_set_up(&r, rows[i].post, rows[i].channel, 5000, 1000, 500, rows[i].silence, 0, 0), R(rows[i].number));
         IS(r.course, R(rows[i].number));
         IS(set_up(&r, 5, 5), R(rows[i].number)); /* it has ended, also where a later one would be accepted */
         STAYS(&r, ticks, sizeof ticks, 0, ROKEMAIPU_LINE_BYTES, 1, R(rows[i].number));
@@ -93,7 +93,8 @@ static int plain_line(char *out, uint64_t count, uint32_t post, uint32_t answer)
 }
 
 static size_t some_log(uint8_t *log, size_t most, uint32_t *time) {
-    static const struct { uint32_t id; uint8_t n; } kinds[] = {{0x63000, 8}, {0x63001, 8}, {0x6b000, 1}, {0x6b001, 2}, {0x6b003, 7}, {0x6b004, 1}, {0x12345, 3}};
+    static const struct { uint32_t id; uint8_t n; } kinds[] = {{0x63000, 8}, {0x63001, 8}, {0x6b000, 1}, {0x6b001, 2}, {0x6b003, 7}, {0x6b004, 1}, {0x12345, 3},
+        {0x60010, 8}, {0x68001, 8}, {0x68005, 5}, {0x68007, 1}};
     size_t size = 0;
     while (size + ROKEMAIPU_RECORD_BYTES < most) {
         uint32_t channel = below(5), which = below(sizeof kinds / sizeof *kinds);
@@ -117,8 +118,8 @@ static void any_log(void) {
         rokemaipu_table singly;
         memset(r, 0, sizeof *r), memset(&singly, 0, sizeof singly);
         for (uint32_t post = 0; post < 4; post++) {
-            IS(rokemaipu_replay_set_up(r, 7 - post, post, 5000, 1000, 500, 500, post % 2), 0);
-            IS(rokemaipu_set_up(&singly, 7 - post, post, 5000, 1000, 500, 500, post % 2), 0);
+            IS(rokemaipu_replay_set_up(r, 7 - post, post, 5000, 1000, 500, 500, post % 2, post / 2), 0);
+            IS(rokemaipu_set_up(&singly, 7 - post, post, 5000, 1000, 500, 500, post % 2, post / 2), 0);
         }
         uint32_t time = 0;
         size_t size = some_log(log, MOST_BYTES - below(200), &time), at = 0;
@@ -145,7 +146,7 @@ static void any_log(void) {
             at = e[ROKEMAIPU_ENTRY_NEXT];
         }
     }
-    IS(seen[0] && seen[1] && seen[2] && seen[3] && seen[4] && seen[5], true);
+    IS(seen[0] && seen[1] && seen[2] && seen[3] && seen[4] && seen[5] && seen[29], true);
     printf("any log: %" PRIu64 " lines are those of the records fed singly, and so is the table; nothing beside the lent memory is touched\n", lines);
 }
 

@@ -2,9 +2,16 @@
 #ifndef TABLES_H
 #define TABLES_H
 #include "fence.h"
+#include "kinds.h"
 
 /* any number may stand there; all but 1 count as measuring */
 static uint32_t some_sensor(void) { return below(4) ? below(3) : (uint32_t)next(); }
+
+/* any number may stand there too; all but 1 count as the newer one */
+static uint32_t some_interface(void) { return below(4) ? below(2) : (uint32_t)next(); }
+
+/* often a kind, and any number */
+static uint32_t some_kind(void) { return below(4) ? below(ROKEMAIPU_KINDS + 3) : (uint32_t)next(); }
 
 /* of flags all but 1 count as 0 */
 static uint32_t some_flag(void) { return below(8) ? below(2) : (uint32_t)next(); }
@@ -17,12 +24,12 @@ static uint32_t some_count(void) { return below(3) ? below(1000) : UINT32_MAX - 
 /* "an age stops growing at 4,294,967,295" */
 static inline uint32_t age_of(uint64_t now, uint64_t from) { return now <= from ? 0 : now - from < UINT32_MAX ? (uint32_t)(now - from) : UINT32_MAX; }
 
-static void random_slot(rokemaipu_slot *s) { s->known = some_flag(), s->time = some_time(), s->raw = next(); }
+static void random_slot(rokemaipu_slot *s) { s->known = some_flag(), s->kind = some_kind(), s->time = some_time(), s->raw = next(); }
 
 static void random_head(rokemaipu_head *h) {
     h->used = some_flag(), h->channel = below(40), h->heard = some_flag(), h->time = some_time();
     h->limits.voltage = (uint32_t)next(), h->limits.charge = (uint32_t)next(), h->limits.discharge = (uint32_t)next(), h->limits.silence = (uint32_t)next();
-    h->limits.sensor = some_sensor();
+    h->limits.sensor = some_sensor(), h->limits.interface = some_interface();
     random_slot(&h->controller);
     random_slot(&h->parameters);
     h->session.opened = some_flag(), h->session.since = some_time(), h->session.first = next();
@@ -33,9 +40,25 @@ static void random_head(rokemaipu_head *h) {
 static void random_table(rokemaipu_table *t) {
     for (int i = 0; i < ROKEMAIPU_POSTS; i++) {
         random_head(&t->posts[i].head);
-        for (int k = 0; k < ROKEMAIPU_KINDS; k++) random_slot(&t->posts[i].latest[k]);
+        for (uint32_t k = 0; k < ROKEMAIPU_PLACES; k++) {
+            random_slot(&t->posts[i].latest[k]);
+            if (below(2)) t->posts[i].latest[k].kind = kind_at(k, below(2)); /* a kind that has the place */
+        }
     }
     t->refused = some_count();
+}
+
+/* A table that ends at a fence, in pages of its own: those may be made to be only read. */
+typedef struct { rokemaipu_table *table; uint8_t *pages; size_t size; } fenced_table;
+
+static inline fenced_table table_alone(void) {
+    size_t page = (size_t)sysconf(_SC_PAGESIZE), size = (sizeof(rokemaipu_table) + page - 1) / page * page;
+    uint8_t *end = fenced(size) + size;
+    return (fenced_table){(rokemaipu_table *)(end - sizeof(rokemaipu_table)), end - size, size};
+}
+
+static inline void only_read(fenced_table f, bool only) {
+    if (mprotect(f.pages, f.size, only ? PROT_READ : PROT_READ | PROT_WRITE)) exit(1);
 }
 
 #endif

@@ -14,11 +14,11 @@ static bool same_table(const rokemaipu_table *a, const rokemaipu_table *b) { ret
 
 static void layout(void) {
     IS(rokemaipu_layout(), ROKEMAIPU_LAYOUT);
-    IS(rokemaipu_layout(), 3976 + 8 * (1ull << 32) + 12 * (1ull << 40) + 3 * (1ull << 48));
+    IS(rokemaipu_layout(), 5768 + 8 * (1ull << 32) + 21 * (1ull << 40) + 4 * (1ull << 48));
     rokemaipu_table t, zero;
     memset(&t, 0, sizeof t);
     memset(&zero, 0, sizeof zero);
-    IS(rokemaipu_set_up(&t, 7, 31, 1, 2, 3, 100, ROKEMAIPU_YES_NO), 0);
+    IS(rokemaipu_set_up(&t, 7, 31, 1, 2, 3, 100, ROKEMAIPU_YES_NO, ROKEMAIPU_NEWER), 0);
     IS(t.posts[7].head.used, 1);
     IS(t.posts[7].head.channel, 31);
     IS(t.posts[7].head.limits.voltage, 1);
@@ -26,6 +26,7 @@ static void layout(void) {
     IS(t.posts[7].head.limits.discharge, 3);
     IS(t.posts[7].head.limits.silence, 100);
     IS(t.posts[7].head.limits.sensor, 1);
+    IS(t.posts[7].head.limits.interface, 0);
     IS(rokemaipu_frame(&t, 31, 9, 0x6b001, true, (const uint8_t[]){2, 1}, 2), 0);
     IS(rokemaipu_frame(&t, 31, 10, 0x63000, true, (const uint8_t[]){1, 2, 3, 4, 5, 6, 1, 8}, 8), ROKEMAIPU_F(8)); /* 0x0403 tenths of an ampere, above 2 */
     IS(t.posts[7].head.heard, 1);
@@ -118,7 +119,7 @@ static void refused_frames(void) {
     IS(rokemaipu_read(0x6b001, true, (const uint8_t[]){7, 4}, 2, raws, ROKEMAIPU_SIGNALS), ROKEMAIPU_NEW_CHARGE_SESSION);
     rokemaipu_table t;
     memset(&t, 0, sizeof t);
-    IS(rokemaipu_set_up(&t, 0, 4, 5000, 1000, 500, 500, 0), 0);
+    IS(rokemaipu_set_up(&t, 0, 4, 5000, 1000, 500, 500, 0, 0), 0);
     REFUSES(rokemaipu_frame(&t, 4, 0, 0x63000, true, e1, 7), 4, 0);
     REFUSES(rokemaipu_frame(&t, 4, 0, 0x63000, true, e3, 8), 5, 48);
     REFUSES(rokemaipu_frame(&t, 4, 0, 0x6b001, true, (const uint8_t[]){8, 5}, 2), 5, 0);
@@ -183,7 +184,7 @@ static void safety(void) {
     IS(rokemaipu_change(6, false, c, 8, 1, 1024), R(7));
     rokemaipu_table t;
     memset(&t, 0, sizeof t);
-    IS(rokemaipu_set_up(&t, 0, 4, 5000, 1000, 500, 500, 0), 0);
+    IS(rokemaipu_set_up(&t, 0, 4, 5000, 1000, 500, 500, 0, 0), 0);
     IS(rokemaipu_frame(&t, 4, 0, 6, false, c, 8), 0); /* closed contactors, and no F3 */
     IS(rokemaipu_frame(&t, 4, 0, 6, true, c, 8), R(3));
     IS(rokemaipu_frame(&t, 4, 0, 9, false, c, 8), R(3));
@@ -197,7 +198,7 @@ static void safety(void) {
     IS(rokemaipu_frame(&t, 4, 0, 8, false, c, 8), 0); /* every bit of these is covered */
     uint32_t times[ROKEMAIPU_TIMES];
     uint8_t buf[8];
-    IS(rokemaipu_latest(&t, 0, ROKEMAIPU_PT1000_STATE, times, 2, buf, 8), 8);
+    IS(rokemaipu_latest(&t, 0, ROKEMAIPU_PT1000_STATE, times, 3, buf, 8), 8);
     IS(memcmp(buf, c, 8), 0);
     IS(rokemaipu_frame(&t, 4, 10, 0x6b000, true, (const uint8_t[]){7}, 1), 0);
     IS(rokemaipu_frame(&t, 4, 10, 0x6b001, true, (const uint8_t[]){2, 1}, 2), 0);
@@ -222,7 +223,7 @@ static void posts(void) {
     rokemaipu_table t;
     memset(&t, 0, sizeof t);
     IS(rokemaipu_frame(&t, 4, 0, 0x63000, true, e1, 8), R(1));
-    IS(rokemaipu_set_up(&t, 0, 4, 5000, 1000, 500, 500, 0), 0);
+    IS(rokemaipu_set_up(&t, 0, 4, 5000, 1000, 500, 500, 0, 0), 0);
     uint8_t s[8] = {0, 0, 0, 0, 65, 65, 1, 255}, d[7] = {0x88, 0x13, 0, 0, 0, 0, 4};
     IS(rokemaipu_frame(&t, 4, 0, 0x6b001, true, (const uint8_t[]){2, 1}, 2), 0); /* E8 */
     IS(rokemaipu_frame(&t, 4, 10, 0x63000, true, s, 8), 0);
@@ -232,26 +233,26 @@ static void posts(void) {
     s[7] = 24;
     IS(rokemaipu_frame(&t, 4, 40, 0x63000, true, s, 8), ROKEMAIPU_F(9));
     IS(rokemaipu_start(&t), 0); /* E9 */
-    IS(rokemaipu_set_up(&t, 0, 4, 5000, 1000, 500, 500, 0), 0);
+    IS(rokemaipu_set_up(&t, 0, 4, 5000, 1000, 500, 500, 0, 0), 0);
     IS(rokemaipu_frame(&t, 4, 1000, 0x6b000, true, (const uint8_t[]){7}, 1), 0);
     IS(rokemaipu_tick(&t, 4, 1200), 0);
     IS(rokemaipu_tick(&t, 4, 1201), ROKEMAIPU_F(2));
-    IS(rokemaipu_set_up(&t, 0, 4, 5000, 1000, 500, 500, 0), 0); /* E10 */
+    IS(rokemaipu_set_up(&t, 0, 4, 5000, 1000, 500, 500, 0, 0), 0); /* E10 */
     s[0] = 0, s[1] = 0, s[7] = 255;
     IS(rokemaipu_frame(&t, 4, 0, 0x6b001, true, (const uint8_t[]){2, 1}, 2), 0);
     IS(rokemaipu_tick(&t, 4, 500), 0);
     IS(rokemaipu_frame(&t, 4, 501, 0x63000, true, s, 8), ROKEMAIPU_F(1));
     IS(rokemaipu_tick(&t, 4, 1001), 0);
     IS(rokemaipu_tick(&t, 4, 1002), ROKEMAIPU_F(1));
-    IS(rokemaipu_set_up(&t, 0, 4, 5000, 1000, 500, 500, 0), 0); /* E11 */
+    IS(rokemaipu_set_up(&t, 0, 4, 5000, 1000, 500, 500, 0, 0), 0); /* E11 */
     d[6] = 0x48;
     IS(rokemaipu_frame(&t, 4, 0, 0x6b003, true, d, 7), ROKEMAIPU_F(3) | ROKEMAIPU_F(4));
-    IS(rokemaipu_set_up(&t, 1, 4, 5000, 1000, 500, 500, 0), R(11)); /* E12 */
-    IS(rokemaipu_set_up(&t, 0, 4, 5000, 1000, 500, 500, 0), 0);
+    IS(rokemaipu_set_up(&t, 1, 4, 5000, 1000, 500, 500, 0, 0), R(11)); /* E12 */
+    IS(rokemaipu_set_up(&t, 0, 4, 5000, 1000, 500, 500, 0, 0), 0);
     IS(t.posts[0].head.heard, 0);
-    IS(rokemaipu_set_up(&t, 8, 5, 5000, 1000, 500, 500, 0), R(9));
-    IS(rokemaipu_set_up(&t, 1, 32, 5000, 1000, 500, 500, 0), R(10));
-    IS(rokemaipu_set_up(&t, 1, 5, 5000, 1000, 500, 99, 0), R(12));
+    IS(rokemaipu_set_up(&t, 8, 5, 5000, 1000, 500, 500, 0, 0), R(9));
+    IS(rokemaipu_set_up(&t, 1, 32, 5000, 1000, 500, 500, 0, 0), R(10));
+    IS(rokemaipu_set_up(&t, 1, 5, 5000, 1000, 500, 99, 0, 0), R(12));
     uint8_t p[8] = {0xa0, 0x0f, 0, 0, 0, 0, 0, 0}; /* E13 */
     IS(rokemaipu_frame(&t, 4, 0, 0x63001, true, p, 8), 0);
     d[0] = 0xa0, d[1] = 0x0f, d[6] = 1;
@@ -286,7 +287,7 @@ static void sensors(void) {
     for (size_t i = 0; i < sizeof rows / sizeof *rows; i++) {
         const uint8_t valid[8] = {0, 0, 0, 0, 65, 65, 1, 255}, precharge[7] = {0, 0, 0, 0, 0, 0, 4};
         const uint8_t s[8] = {(uint8_t)rows[i].voltage, (uint8_t)(rows[i].voltage >> 8), 0, 0, 65, 65, 1, (uint8_t)rows[i].insulation};
-        IS(rokemaipu_set_up(&t, 0, 4, 5000, 1000, 500, 500, rows[i].sensor), 0); /* a second set-up names the kind anew */
+        IS(rokemaipu_set_up(&t, 0, 4, 5000, 1000, 500, 500, rows[i].sensor, 0), 0); /* a second set-up names the kind anew */
         IS(rokemaipu_frame(&t, 4, 0, 0x6b001, true, (const uint8_t[]){2, 1}, 2), 0);
         IS(rokemaipu_frame(&t, 4, 0, 0x63000, true, valid, 8), 0);
         IS(rokemaipu_frame(&t, 4, 0, 0x6b003, true, precharge, 7), 0);
@@ -294,8 +295,8 @@ static void sensors(void) {
     }
     before = t;
     for (size_t i = 0; i < sizeof unknown / sizeof *unknown; i++) {
-        IS(rokemaipu_set_up(&t, 0, 4, 5000, 1000, 500, 500, unknown[i]), R(12));
-        IS(rokemaipu_set_up(&t, 1, 4, 5000, 1000, 500, 500, unknown[i]), R(11)); /* 9, 10 and 11 before 12 */
+        IS(rokemaipu_set_up(&t, 0, 4, 5000, 1000, 500, 500, unknown[i], 0), R(12));
+        IS(rokemaipu_set_up(&t, 1, 4, 5000, 1000, 500, 500, unknown[i], 0), R(11)); /* 9, 10 and 11 before 12 */
     }
     IS(same_table(&t, &before), true);
     puts("sensors: F9 of both kinds at 0 V and at E8's edge; an unknown kind");
@@ -313,7 +314,7 @@ static void numbers_are(int line, const rokemaipu_table *t, uint32_t post, const
 
 static void looks(void) {
     rokemaipu_table t;
-    uint32_t numbers[ROKEMAIPU_NUMBERS], times[ROKEMAIPU_TIMES] = {77, 77};
+    uint32_t numbers[ROKEMAIPU_NUMBERS], times[ROKEMAIPU_TIMES] = {77, 77, 77};
     uint8_t buf[8];
     memset(&t, 0, sizeof t);
     memset(numbers, 0, sizeof numbers);
@@ -321,48 +322,48 @@ static void looks(void) {
     IS(rokemaipu_look_up(&t, 8, numbers, ROKEMAIPU_NUMBERS), R(9));
     IS(rokemaipu_look_up(&t, 8, NULL, 0), R(9)); /* 9 and 14 before 8 */
     IS(rokemaipu_look_up(&t, 0, NULL, 0), R(14));
-    IS(rokemaipu_set_up(&t, 0, 4, 5000, 1000, 500, 600, ROKEMAIPU_YES_NO), 0); /* as E8 */
+    IS(rokemaipu_set_up(&t, 0, 4, 5000, 1000, 500, 600, ROKEMAIPU_YES_NO, ROKEMAIPU_NEWER), 0); /* as E8 */
     IS(rokemaipu_look_up(&t, 0, numbers, ROKEMAIPU_NUMBERS - 1), R(8));
-    NUMBERS(&t, 0, 4, 5000, 1000, 500, 600, 1, 0, 0, 0, 0, 0, 0, 0);
+    NUMBERS(&t, 0, 4, 5000, 1000, 500, 600, 1, 0, 0, 0, 0, 0, 0, 0, 0);
     IS(rokemaipu_latest(&t, 0, ROKEMAIPU_NEW_CHARGE_SESSION, NULL, 0, NULL, 0), 0);
     const uint8_t s[8] = {0x88, 0x13, 0, 0, 65, 65, 1, 25}, d[7] = {0x88, 0x13, 0, 0, 0, 0, 4};
     IS(rokemaipu_frame(&t, 4, 5, 0x6b001, true, (const uint8_t[]){2, 1}, 2), 0);
-    NUMBERS(&t, 0, 4, 5000, 1000, 500, 600, 1, 1, 5, 1, 5, 2, 1, 0);
+    NUMBERS(&t, 0, 4, 5000, 1000, 500, 600, 1, 1, 5, 1, 5, 2, 1, 0, 0);
     IS(rokemaipu_frame(&t, 4, 10, 0x63000, true, s, 8), 0);
     IS(rokemaipu_frame(&t, 4, 20, 0x6b003, true, d, 7), 0);
     IS(rokemaipu_frame(&t, 4, 25, 0x6b001, true, (const uint8_t[]){3, 2}, 2), ROKEMAIPU_F(10)); /* repeated: the first protocol and plug stay */
     IS(rokemaipu_tick(&t, 4, 30), 0);
-    NUMBERS(&t, 0, 4, 5000, 1000, 500, 600, 1, 1, 30, 1, 5, 2, 1, 25);
+    NUMBERS(&t, 0, 4, 5000, 1000, 500, 600, 1, 1, 30, 1, 5, 2, 1, 25, 0);
     memset(buf, 0x55, sizeof buf);
-    IS(rokemaipu_latest(&t, 0, ROKEMAIPU_POWER_MODULES_STATUS, times, 2, buf, 8), 8);
+    IS(rokemaipu_latest(&t, 0, ROKEMAIPU_POWER_MODULES_STATUS, times, 3, buf, 8), 8);
     IS(times[0], 10);
     IS(times[1], 20);
     IS(memcmp(buf, s, 8), 0);
     memset(buf, 0x55, sizeof buf);
-    IS(rokemaipu_latest(&t, 0, ROKEMAIPU_DC_POWER_CONTROL, times, 2, buf, 8), 7);
+    IS(rokemaipu_latest(&t, 0, ROKEMAIPU_DC_POWER_CONTROL, times, 3, buf, 8), 7);
     IS(times[0], 20);
     IS(times[1], 10);
     IS(memcmp(buf, d, 7), 0);
     IS(buf[7], 0x55);
-    IS(rokemaipu_latest(&t, 0, ROKEMAIPU_NEW_CHARGE_SESSION, times, 2, buf, 2), 2);
+    IS(rokemaipu_latest(&t, 0, ROKEMAIPU_NEW_CHARGE_SESSION, times, 3, buf, 2), 2);
     IS(times[0], 25);
     IS(times[1], 5);
     IS(memcmp(buf, (const uint8_t[]){3, 2}, 2), 0);
-    IS(rokemaipu_latest(&t, 0, ROKEMAIPU_EV_ID, times, 2, buf, 8), 0);
+    IS(rokemaipu_latest(&t, 0, ROKEMAIPU_EV_ID, times, 3, buf, 8), 0);
     IS(times[0], 25);
-    IS(rokemaipu_latest(&t, 0, ROKEMAIPU_KINDS, times, 2, buf, 8), R(3));
+    IS(rokemaipu_latest(&t, 0, ROKEMAIPU_KINDS, times, 3, buf, 8), R(3));
     IS(rokemaipu_latest(&t, 0, ROKEMAIPU_KINDS, NULL, 0, NULL, 0), R(3));
-    IS(rokemaipu_latest(&t, 1, ROKEMAIPU_KINDS, times, 2, buf, 8), R(14)); /* 9 and 14 before 3 */
-    IS(rokemaipu_latest(&t, 8, ROKEMAIPU_KINDS, times, 2, buf, 8), R(9));
-    IS(rokemaipu_latest(&t, 0, ROKEMAIPU_POWER_MODULES_STATUS, times, 2, buf, 7), R(8));
-    IS(rokemaipu_latest(&t, 0, ROKEMAIPU_POWER_MODULES_STATUS, times, 1, buf, 8), R(8));
+    IS(rokemaipu_latest(&t, 1, ROKEMAIPU_KINDS, times, 3, buf, 8), R(14)); /* 9 and 14 before 3 */
+    IS(rokemaipu_latest(&t, 8, ROKEMAIPU_KINDS, times, 3, buf, 8), R(9));
+    IS(rokemaipu_latest(&t, 0, ROKEMAIPU_POWER_MODULES_STATUS, times, 3, buf, 7), R(8));
+    IS(rokemaipu_latest(&t, 0, ROKEMAIPU_POWER_MODULES_STATUS, times, 2, buf, 8), R(8)); /* no place for the kind */
     IS(rokemaipu_latest(&t, 0, ROKEMAIPU_POWER_MODULES_STATUS, NULL, 0, buf, 8), R(8));
     IS(rokemaipu_frame(&t, 4, 31, 0x6b004, true, (const uint8_t[]){0}, 1), 0); /* finished: the session's part is none, the frames stay */
-    NUMBERS(&t, 0, 4, 5000, 1000, 500, 600, 1, 1, 31, 0, 0, 0, 0, 0);
-    IS(rokemaipu_latest(&t, 0, ROKEMAIPU_DC_POWER_CONTROL, times, 2, buf, 8), 7);
-    IS(rokemaipu_set_up(&t, 0, 6, 5000, 1000, 500, 600, 0), 0); /* E12: an empty history */
-    NUMBERS(&t, 0, 6, 5000, 1000, 500, 600, 0, 0, 0, 0, 0, 0, 0, 0);
-    IS(rokemaipu_latest(&t, 0, ROKEMAIPU_DC_POWER_CONTROL, times, 2, buf, 8), 0);
+    NUMBERS(&t, 0, 4, 5000, 1000, 500, 600, 1, 1, 31, 0, 0, 0, 0, 0, 0);
+    IS(rokemaipu_latest(&t, 0, ROKEMAIPU_DC_POWER_CONTROL, times, 3, buf, 8), 7);
+    IS(rokemaipu_set_up(&t, 0, 6, 5000, 1000, 500, 600, 0, 0), 0); /* E12: an empty history */
+    NUMBERS(&t, 0, 6, 5000, 1000, 500, 600, 0, 0, 0, 0, 0, 0, 0, 0, 0);
+    IS(rokemaipu_latest(&t, 0, ROKEMAIPU_DC_POWER_CONTROL, times, 3, buf, 8), 0);
     puts("look-ups: E8's and E12's posts, their numbers and their latest frames");
 }
 
@@ -385,8 +386,8 @@ static void counts(void) {
     IS(rokemaipu_refused(&t), 0);
     IS(rokemaipu_counts(&t, 0, n, ROKEMAIPU_COUNTS), R(14));
     IS(rokemaipu_counts(&t, 8, NULL, 0), R(9)); /* 9 and 14 before 8 */
-    IS(rokemaipu_set_up(&t, 0, 4, 5000, 1000, 500, 500, 0), 0);
-    IS(rokemaipu_set_up(&t, 1, 5, 5000, 1000, 500, 500, 0), 0);
+    IS(rokemaipu_set_up(&t, 0, 4, 5000, 1000, 500, 500, 0, 0), 0);
+    IS(rokemaipu_set_up(&t, 1, 5, 5000, 1000, 500, 500, 0, 0), 0);
     IS(rokemaipu_counts(&t, 0, n, ROKEMAIPU_COUNTS - 1), R(8));
     COUNTS(&t, 0, 0);
     IS(rokemaipu_frame(&t, 4, 0, 0x6b003, true, d, 7), ROKEMAIPU_F(3) | ROKEMAIPU_F(4)); /* E11 */
@@ -399,12 +400,12 @@ static void counts(void) {
     IS(rokemaipu_frame(&t, 4, 999, 0x6b004, true, (const uint8_t[]){2}, 1), R(5));
     IS(rokemaipu_tick(&t, 6, 0), R(1));
     IS(rokemaipu_refused(&t), 3);
-    IS(rokemaipu_set_up(&t, 2, 4, 5000, 1000, 500, 500, 0), R(11)); /* no other refusal counts */
+    IS(rokemaipu_set_up(&t, 2, 4, 5000, 1000, 500, 500, 0, 0), R(11)); /* no other refusal counts */
     IS(rokemaipu_release(&t, 2), R(14));
     IS(rokemaipu_look_up(&t, 2, n, ROKEMAIPU_COUNTS), R(14));
     IS(rokemaipu_refused(&t), 3);
     COUNTS(&t, 0, 4, 0, 2, 1, 1, 0, 0, 0, 0, 0, 0, 1);
-    IS(rokemaipu_set_up(&t, 0, 4, 5000, 1000, 500, 500, 0), 0); /* set-up makes them 0 */
+    IS(rokemaipu_set_up(&t, 0, 4, 5000, 1000, 500, 500, 0, 0), 0); /* set-up makes them 0 */
     COUNTS(&t, 0, 0);
     IS(rokemaipu_release(&t, 0), 0);
     IS(rokemaipu_refused(&t), 3);
@@ -416,8 +417,8 @@ static void full_counts(void) {
     rokemaipu_table t, before;
     const uint8_t d[7] = {0x88, 0x13, 0, 0, 0, 0, 0x48};
     memset(&t, 0, sizeof t);
-    IS(rokemaipu_set_up(&t, 0, 4, 5000, 1000, 500, 500, 0), 0);
-    IS(rokemaipu_set_up(&t, 1, 5, 5000, 1000, 500, 500, 0), 0);
+    IS(rokemaipu_set_up(&t, 0, 4, 5000, 1000, 500, 500, 0, 0), 0);
+    IS(rokemaipu_set_up(&t, 1, 5, 5000, 1000, 500, 500, 0, 0), 0);
     t.posts[0].head.counts[0] = UINT32_MAX - 1;
     IS(rokemaipu_tick(&t, 4, 10), 0); /* the largest itself is reached */
     COUNTS(&t, 0, UINT32_MAX);
@@ -435,7 +436,7 @@ static void full_counts(void) {
     IS(same_table(&t, &before), true);
     IS(rokemaipu_tick(&t, 5, 10), 0); /* the other post has a count of its own */
     COUNTS(&t, 1, 1);
-    IS(rokemaipu_set_up(&t, 0, 4, 5000, 1000, 500, 500, 0), 0);
+    IS(rokemaipu_set_up(&t, 0, 4, 5000, 1000, 500, 500, 0, 0), 0);
     IS(rokemaipu_tick(&t, 4, 0), 0);
     COUNTS(&t, 0, 1);
     t.refused = UINT32_MAX - 1;
@@ -453,8 +454,8 @@ static void full_counts(void) {
 /* ---- any input: tables of random numbers, slices of every length, lent at a fence; a refusal leaves all as it was */
 
 /* by kind, and behind the kinds such that are none */
-static const uint32_t lengths_of[ROKEMAIPU_KINDS] = {8, 8, 1, 2, 1, 7, 1, 1, 6, 8, 8, 8};
-static const uint32_t ids[] = {0x63000, 0x63001, 0x6b000, 0x6b001, 0x6b002, 0x6b003, 0x6b004, 0x6b005, 0x6b105, 6, 7, 8, 0x63003, 0, 9, 0xffffffff};
+static const uint32_t ids[] = {0x63000, 0x63001, 0x6b000, 0x6b001, 0x6b002, 0x6b003, 0x6b004, 0x6b005, 0x6b105, 6, 7, 8, 0x60010, 0x60011, 0x60012, 0x60013, 0x68001, 0x68002, 0x68003,
+    0x68004, 0x68005, 0x68006, 0x68007, 0x68009, 0x6800a, 0x6800b, 0x6800c, 0x6800d, 0x6800e, 0x6800f, 0x63003, 0x68008, 0, 9, 0xffffffff};
 enum { IDS = sizeof ids / sizeof *ids };
 static bool is_standard(uint32_t kind) { return kind >= ROKEMAIPU_CHARGE_CONTROL_1 && kind <= ROKEMAIPU_PT1000_STATE; }
 static bool some_form(uint32_t which) { return is_standard(which) ? !below(8) : below(8) != 0; }
@@ -491,7 +492,7 @@ static void anything(void) {
         case 0: r = rokemaipu_frame(t, channel, time, ids[which], some_form(which), payload, length); break;
         case 1: r = rokemaipu_tick(t, channel, time); break;
         case 2: r = rokemaipu_release(t, below(12)); break;
-        default: r = rokemaipu_set_up(t, below(12), channel, below(70000), below(40000), below(40000), below(70000), some_sensor()); break;
+        default: r = rokemaipu_set_up(t, below(12), channel, below(70000), below(40000), below(40000), below(70000), some_sensor(), some_interface()); break;
         }
         if (what < 2) {
             counted(&before, channel, r);
@@ -513,12 +514,13 @@ static void anything(void) {
 /* any frame, read and watched as plain C does it */
 static void any_frame(void) {
     uint8_t *end = fenced(12) + 12;
-    uint32_t seen[32] = {0}, starts[256] = {0}, low[2][2] = {{0}}, time = 0;
+    uint32_t seen[32] = {0}, starts[256] = {0}, low[2][2] = {{0}}, found[2][12] = {{0}}, other[2] = {0}, time = 0;
     rokemaipu_table ours, plain;
     memset(&ours, 0, sizeof ours);
-    IS(rokemaipu_set_up(&ours, 0, 4, 5000, 1000, 500, 500, 0), 0);
+    IS(rokemaipu_set_up(&ours, 0, 4, 5000, 1000, 500, 500, 0, ROKEMAIPU_NEWER), 0);
+    IS(rokemaipu_set_up(&ours, 1, 5, 5000, 1000, 500, 500, 0, ROKEMAIPU_OLDER), 0);
     plain = ours;
-    for (int turn = 0; turn < 400000 && !bad; turn++) {
+    for (int turn = 0; turn < 600000 && !bad; turn++) {
         int64_t got[ROKEMAIPU_SIGNALS] = {0}, want[ROKEMAIPU_SIGNALS] = {0};
         uint32_t which = below(IDS), most = below(4) ? 10 : 1;
         size_t length = which < ROKEMAIPU_KINDS && below(2) ? lengths_of[which] : below(11);
@@ -531,16 +533,22 @@ static void any_frame(void) {
         seen[rokemaipu_refusal(word)]++;
         if (rokemaipu_refusal(word) == 5) starts[rokemaipu_start_bit(word)]++;
         time += below(20);
-        if (turn % 50 == 0) ours.posts[0].head.limits.sensor = plain.posts[0].head.limits.sensor = some_sensor();
-        word = peer_frame(&plain, 4, time, id, extended, payload, length);
-        IS(rokemaipu_frame(&ours, 4, time, id, extended, payload, length), word);
+        uint32_t post = below(2);
+        if (turn % 50 == 0) ours.posts[post].head.limits.sensor = plain.posts[post].head.limits.sensor = some_sensor();
+        word = peer_frame(&plain, 4 + post, time, id, extended, payload, length);
+        IS(rokemaipu_frame(&ours, 4 + post, time, id, extended, payload, length), word);
         if (!same_table(&ours, &plain)) IS(turn, -1);
-        if (!rokemaipu_refusal(word) && (word & ROKEMAIPU_F(9))) low[plain.posts[0].head.limits.sensor == ROKEMAIPU_YES_NO][!payload[0] && !payload[1]]++;
+        if (rokemaipu_refusal(word)) other[post] += rokemaipu_refusal(word) == 29;
+        else for (int k = 1; k <= 11; k++) found[post][k] += (word & ROKEMAIPU_F(k)) != 0;
+        if (!rokemaipu_refusal(word) && (word & ROKEMAIPU_F(9))) low[plain.posts[post].head.limits.sensor == ROKEMAIPU_YES_NO][!payload[0] && !payload[1]]++;
     }
     IS(seen[0] && seen[3] && seen[4] && seen[6] && seen[15], true);
+    for (int k = 1; k <= 11; k++) IS(found[0][k] > 0, true);
+    for (int k = 1; k <= 11; k++) IS(found[1][k] > 0, k != 3 && k != 6 && k != 7); /* 02: "F3, F6 and F7 give no finding there" */
+    IS(other[0] && other[1], true);
     IS(starts[0] && starts[8] && starts[48], true);
     IS(low[0][0] && !low[0][1] && low[1][0] && low[1][1], true);
-    puts("any frame, any sensor: read and watched as plain C does it, with the start bits 0, 8 and 48, and F9 at 0 V by a yes/no sensor");
+    puts("any frame, any sensor, either interface: read and watched as plain C does it, with the start bits 0, 8 and 48, F9 at 0 V by a yes/no sensor, and 29");
 }
 
 static void lengths(void) {
@@ -571,13 +579,14 @@ static uint32_t least(uint32_t a, uint32_t b) { return a < b ? a : b; }
 
 static void any_look(void) {
     size_t page = (size_t)sysconf(_SC_PAGESIZE);
-    rokemaipu_table *t = (rokemaipu_table *)fenced(page); /* a page of its own, which is read-only while it is looked at */
+    fenced_table f = table_alone(); /* pages of its own, which are read-only while it is looked at */
+    rokemaipu_table *t = f.table;
     lent numbers = {.end = fenced(page) + page, .width = 4}, times = {.end = fenced(page) + page, .width = 4}, buf = {.end = fenced(page) + page, .width = 1};
     for (int turn = 0; turn < 300; turn++) {
-        if (mprotect(t, page, PROT_READ | PROT_WRITE)) exit(1);
+        only_read(f, false);
         random_table(t);
         for (int i = 0; turn % 3 && i < ROKEMAIPU_POSTS; i++) t->posts[i].head.used = 1;
-        if (mprotect(t, page, PROT_READ)) exit(1);
+        only_read(f, true);
         for (uint32_t post = 0; post < 10; post++) {
             const rokemaipu_post *p = &t->posts[post % 8];
             const rokemaipu_head *h = &p->head;
@@ -587,7 +596,7 @@ static void any_look(void) {
             const uint32_t want[ROKEMAIPU_NUMBERS] = {h->channel, h->limits.voltage, h->limits.charge, h->limits.discharge, h->limits.silence,
                 h->limits.sensor == ROKEMAIPU_YES_NO, heard, heard ? (uint32_t)h->time : 0,
                 opened, opened ? (uint32_t)s->since : 0, opened ? least(s->first & 0xff, 7) : 0, opened ? least(s->first >> 8 & 0xff, 4) : 0, /* without a label: the last one */
-                opened ? age_of(h->time, s->since) : 0};
+                opened ? age_of(h->time, s->since) : 0, h->limits.interface == ROKEMAIPU_OLDER};
             for (size_t places = 0; places <= MOST; places++) {
                 uint32_t answer = refused ? refused : places < ROKEMAIPU_NUMBERS ? R(8) : 0;
                 lend(&numbers, places);
@@ -599,13 +608,14 @@ static void any_look(void) {
                 lent_is(__LINE__, &numbers, h->counts, answer ? 0 : ROKEMAIPU_COUNTS);
             }
             for (uint32_t kind = 0; kind < ROKEMAIPU_KINDS + 2; kind++)
-                for (size_t places = 0; places < 4; places++)
+                for (size_t places = 0; places < 5; places++)
                     for (size_t room = 0; room <= 10; room++) {
-                        const rokemaipu_slot *l = &p->latest[kind % ROKEMAIPU_KINDS];
-                        uint32_t length = lengths_of[kind % ROKEMAIPU_KINDS], answer = refused ? refused : kind >= ROKEMAIPU_KINDS ? R(3) : l->known != 1 ? 0 : places < ROKEMAIPU_TIMES || room < length ? R(8) : length;
+                        const rokemaipu_slot *l = &p->latest[place_of(kind % ROKEMAIPU_KINDS)];
+                        bool kept = l->known == 1 && l->kind == kind; /* the other interface's kind may stand there, or none */
+                        uint32_t length = lengths_of[kind % ROKEMAIPU_KINDS], answer = refused ? refused : kind >= ROKEMAIPU_KINDS ? R(3) : !kept ? 0 : places < ROKEMAIPU_TIMES || room < length ? R(8) : length;
                         bool out = answer && !rokemaipu_refusal(answer);
                         uint8_t bytes[8];
-                        uint32_t when[ROKEMAIPU_TIMES] = {(uint32_t)l->time, age_of(h->time, l->time)};
+                        uint32_t when[ROKEMAIPU_TIMES] = {(uint32_t)l->time, age_of(h->time, l->time), kind};
                         for (int i = 0; i < 8; i++) bytes[i] = (uint8_t)(l->raw >> 8 * (is_standard(kind) ? 7 - i : i));
                         lend(&times, places), lend(&buf, room);
                         IS(rokemaipu_latest(t, post, kind, (uint32_t *)times.at, places, buf.at, room), answer);

@@ -56,7 +56,7 @@ def enum(text, tag):
 def held(header, pages, names, messages, before, first):
     """The faults of some documents' messages, whose names begin with `before` and whose kinds with `first`, and how many signals and labels were compared."""
     said, seen = [], [0, 0]
-    kinds = enum(header, f'{before}kind')
+    kinds = enum(header, 'kind')[first:][:len(names)]
     if len(kinds) != len(names) or len(messages) < len(names):
         said.append(f'{len(kinds)} kinds')
     for k, (message, short) in enumerate(names.items()):
@@ -101,6 +101,9 @@ def faults(header, pages, refusals):
     said, seen = held(header, pages, MESSAGES, document('000.txt', '004.txt'), '', 0)
     more, older = held(header, pages, OLDER, document('001.txt'), 'older_', len(MESSAGES))
     said += more
+    kinds = len(enum(header, 'kind'))
+    if kinds != len(MESSAGES) + len(OLDER) or f'#define ROKEMAIPU_KINDS {kinds} ' not in header:
+        said.append(f'{kinds} kinds in all')
     wanted = sorted((int(n), w) for w, n in re.findall(r'^numberOf \(?(\w+)(?: \w+\))? = (\d+)$', refusals, re.M))
     have = enum(header, 'refused')
     if len(have) != len(wanted) or any(v != n or not alike(name, f'R{n}{w}') for (name, v, _), (n, w) in zip(have, wanted)):
@@ -134,7 +137,7 @@ for first, second in (('ROKEMAIPU_POWER_MODULES_TEMPERATURE = 2', 'ROKEMAIPU_ENC
     if not faults(header, other, refusals):
         sys.exit(f'header.py: {first!r} and {second!r} in each other\'s place were not found')
 for first, second in (('R4_TOO_SHORT', 'R15_TOO_LONG'), ('R9_NO_SUCH_POST = 9', 'R14_NOT_SET_UP = 14'), ('ROKEMAIPU_F7', 'ROKEMAIPU_F8'), ('ROKEMAIPU_EMERGENCY_STOP = 7', 'ROKEMAIPU_EV_ID = 8'),
-                      ('ROKEMAIPU_OLDER_PRECHARGE = 18', 'ROKEMAIPU_OLDER_CHARGING_LOOP = 20')):
+                      ('ROKEMAIPU_OLDER_PRECHARGE = 18', 'ROKEMAIPU_OLDER_CHARGING_LOOP = 20'), ('ROKEMAIPU_PT1000_STATE = 11', 'ROKEMAIPU_OLDER_POWER_MODULES_STATUS = 12')):
     if not faults(swapped(header, first, second), pages, refusals):
         sys.exit(f'header.py: {first!r} and {second!r} in each other\'s place were not found')
 print('headers: the places of 139 signals and the numbers of 128 labels are the documents\', '

@@ -33,7 +33,7 @@ int main(void) {
                 const uint8_t *payload = n ? SAFETY : STATUS;
                 rokemaipu_table a, b;
                 memset(&a, 0, sizeof a);
-                HELD(rokemaipu_set_up(&a, 0, 4, 5000, 1000, 500, 500, ROKEMAIPU_MEASURING) == 0);
+                HELD(rokemaipu_set_up(&a, 0, 4, 5000, 1000, 500, 500, ROKEMAIPU_MEASURING, ROKEMAIPU_NEWER) == 0);
                 b = a;
                 HELD(rokemaipu_frame(&a, 4, 20, ids[n], extended, payload, 8) == AS(frame_wide, rokemaipu_frame)(&b, 4, 20, ids[n], wide, payload, 8));
                 HELD(!memcmp(&a, &b, sizeof a));
