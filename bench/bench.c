@@ -130,9 +130,20 @@ static void bench_changes(void) {
 
 enum { PAGE = 4096, PLACES = 16, STEP = PAGE / PLACES + 8 };
 
-typedef struct { _Alignas(PAGE) uint8_t room[SIDES][2 * PAGE]; size_t at; uint32_t posts, turn[SIDES]; } depot;
+/* The same session as the older controllers tell it: a message of document 001 for each of the mix. */
+static const frame older_mix[MIX] = {
+    {0x60010, 8, {0xa0, 0x0f, 0x83, 0x00, 0x41, 0x40, 0x01, 0x64}}, {0x68009, 1, {7}},
+    {0x68005, 5, {0xa0, 0x0f, 0x90, 0x00, 0x32}},                   {0x68001, 8, {2, 1, 0x94, 0x11, 0xe2, 0x04, 0x32, 0x25}},
+    {0x60010, 8, {0xa1, 0x0f, 0x85, 0x00, 0x41, 0x40, 0x01, 0x64}}, {0x68009, 1, {7}},
+    {0x68005, 5, {0xa0, 0x0f, 0x91, 0x00, 0x32}},                   {0x60011, 8, {0x88, 0x13, 0xe8, 0x03, 0, 0, 0, 0}},
+    {0x60010, 8, {0xa2, 0x0f, 0x87, 0x00, 0x41, 0x40, 0x01, 0x64}}, {0x6800c, 6, {1, 2, 3, 4, 5, 6}},
+    {0x68005, 5, {0xa0, 0x0f, 0x92, 0x00, 0x32}},                   {0x68004, 1, {1}},
+    {0x68006, 1, {1}},                                              {0x68007, 1, {0}},
+};
 
-_Static_assert((PLACES - 1) * STEP + sizeof(rokemaipu_table) <= 2 * PAGE, "the tables have room");
+typedef struct { _Alignas(PAGE) uint8_t room[SIDES][3 * PAGE]; size_t at; const frame *mix; uint32_t posts, turn[SIDES]; } depot;
+
+_Static_assert((PLACES - 1) * STEP + sizeof(rokemaipu_table) <= 3 * PAGE, "the tables have room");
 
 static rokemaipu_table *table_of(depot *d, const side *s) { return (rokemaipu_table *)(d->room[s - sides] + d->at); }
 
@@ -143,7 +154,7 @@ static uint64_t frames(const side *s, void *with) {
     rokemaipu_table *t = table_of(d, s);
     uint32_t channel = channel_of(d, s);
     uint64_t seen = 0;
-    for (int i = 0; i < MIX; i++) seen = 31 * seen + s->frame(t, channel, 2000, mix[i].id, true, mix[i].bytes, mix[i].n);
+    for (const frame *f = d->mix; f < d->mix + MIX; f++) seen = 31 * seen + s->frame(t, channel, 2000, f->id, true, f->bytes, f->n);
     return seen;
 }
 
@@ -153,28 +164,32 @@ static uint64_t tick(const side *s, void *with) {
 }
 
 static void charge(depot *d, uint32_t turn) {
-    for (const frame *f = mix; f < mix + MIX; f++) {
+    for (const frame *f = d->mix; f < d->mix + MIX; f++) {
         uint32_t first = sides[0].frame(table_of(d, &sides[0]), turn % d->posts, turn, f->id, true, f->bytes, f->n);
         for (int k = 1; k < SIDES; k++)
             if (sides[k].frame(table_of(d, &sides[k]), turn % d->posts, turn, f->id, true, f->bytes, f->n) != first) differ("frame");
     }
 }
 
-static void set_up(depot *d, uint32_t posts, size_t at) {
+static void set_up(depot *d, uint32_t interface, uint32_t posts, size_t at) {
     memset(d, 0, sizeof *d);
-    d->posts = posts, d->at = at;
+    d->mix = interface == ROKEMAIPU_OLDER ? older_mix : mix, d->posts = posts, d->at = at;
     for (const side *s = sides; s < sides + SIDES; s++) {
         s->start(table_of(d, s));
+<<<<<<< HEAD
         for (uint32_t i = 0; i < posts; i++) s->set_up(table_of(d, s), i, i, 5000, 1000, 500, 500, 0, 0);
+=======
+        for (uint32_t i = 0; i < posts; i++) s->set_up(table_of(d, s), i, i, 5000, 1000, 500, 500, 0, interface);
+>>>>>>> 2acdfc4964d9b6854efd4a44b7a7f708b1c4cca8
     }
     for (uint32_t turn = 0; turn < 1000; turn++) charge(d, turn);
 }
 
-static void bench_watch(const char *what, work *f, uint32_t posts, int turns, double calls) {
+static void bench_watch(const char *what, work *f, uint32_t interface, uint32_t posts, int turns, double calls) {
     static depot d;
     times mean = {{0}};
     for (int place = 0; place < PLACES; place++) {
-        set_up(&d, posts, (size_t)place * STEP);
+        set_up(&d, interface, posts, (size_t)place * STEP);
         times t = timed(what, f, &d, turns, calls, AGAIN / PLACES, true);
         for (int k = 0; k < SIDES; k++) mean.took[k] += t.took[k] / PLACES;
     }
@@ -327,10 +342,14 @@ static void bench_comparisons(void) {
 int main(void) {
     bench_codec();
     bench_changes();
-    bench_watch("frame in place, 1 post", frames, 1, TURNS, MIX);
-    bench_watch("frame in place, 8 posts", frames, 8, TURNS, MIX);
-    bench_watch("tick in place, 1 post", tick, 1, 4 * TURNS, 1);
-    bench_watch("tick in place, 8 posts", tick, 8, 4 * TURNS, 1);
+    bench_watch("frame in place, 1 post", frames, ROKEMAIPU_NEWER, 1, TURNS, MIX);
+    bench_watch("frame in place, 8 posts", frames, ROKEMAIPU_NEWER, 8, TURNS, MIX);
+#ifndef BEFORE /* a revision before Req 11 has no posts of the older interface */
+    bench_watch("older frame, 1 post", frames, ROKEMAIPU_OLDER, 1, TURNS, MIX);
+    bench_watch("older frame, 8 posts", frames, ROKEMAIPU_OLDER, 8, TURNS, MIX);
+#endif
+    bench_watch("tick in place, 1 post", tick, ROKEMAIPU_NEWER, 1, 4 * TURNS, 1);
+    bench_watch("tick in place, 8 posts", tick, ROKEMAIPU_NEWER, 8, 4 * TURNS, 1);
     bench_log();
     bench_batch();
     bench_comparisons();

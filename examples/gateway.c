@@ -3,8 +3,8 @@
  *     gateway POSTS LOG INTERFACE..    frames of SocketCAN interfaces, as can4 or vcan4: the number is the channel
  *     gateway POSTS LOG < RECORDING    frames of a recording of candump -L, by its own stamps
  *
- * POSTS has a line for each post: setup POST CHANNEL VOLT CHG DIS W [SENSOR], blank lines and comments with #. Every frame, and every 100 ms a tick on the
- * channel of each post, is appended to the night log LOG and then handed to the watch. What is found goes to standard output, a line each:
+ * POSTS has a line for each post: setup POST CHANNEL VOLT CHG DIS W [SENSOR [IFACE]], blank lines and comments with #. Every frame, and every 100 ms a tick on
+ * the channel of each post, is appended to the night log LOG and then handed to the watch. What is found goes to standard output, a line each:
  * `frame 4 110 6b003 x F3 F4`, `tick 4 300 F1`. It drives no hardware: what it hears it tells.
  *
  * cc gateway.c $(pkg-config --cflags --libs rokemaipu) -o gateway */
@@ -52,14 +52,14 @@ static void set_up(const char *name) {
     if (!file) stop(name, strerror(errno));
     char line[256];
     for (unsigned number = 1; fgets(line, sizeof line, file); number++) {
-        uint32_t post, channel, voltage, charge, discharge, silence, sensor = ROKEMAIPU_MEASURING;
+        uint32_t post, channel, voltage, charge, discharge, silence, sensor = ROKEMAIPU_MEASURING, interface = ROKEMAIPU_NEWER;
         char where[64];
         if (line[0] == '#' || line[0] == '\n') continue;
         snprintf(where, sizeof where, "line %u of the posts", number);
-        int read = sscanf(line, "setup %" SCNu32 " %" SCNu32 " %" SCNu32 " %" SCNu32 " %" SCNu32 " %" SCNu32 " %" SCNu32, &post, &channel, &voltage, &charge, &discharge,
-                          &silence, &sensor);
-        if (read < 6) stop(where, "no setup POST CHANNEL VOLT CHG DIS W [SENSOR]");
-        if (rokemaipu_refusal(rokemaipu_set_up(&table, post, channel, voltage, charge, discharge, silence, sensor))) stop(where, "the set-up is refused");
+        int read = sscanf(line, "setup %" SCNu32 " %" SCNu32 " %" SCNu32 " %" SCNu32 " %" SCNu32 " %" SCNu32 " %" SCNu32 " %" SCNu32, &post, &channel, &voltage, &charge, &discharge,
+                          &silence, &sensor, &interface);
+        if (read < 6) stop(where, "no setup POST CHANNEL VOLT CHG DIS W [SENSOR [IFACE]]");
+        if (rokemaipu_refusal(rokemaipu_set_up(&table, post, channel, voltage, charge, discharge, silence, sensor, interface))) stop(where, "the set-up is refused");
     }
     fclose(file);
     for (uint32_t channel = 0; channel < ROKEMAIPU_CHANNELS; channel++)

@@ -104,31 +104,48 @@ static void answer(uint32_t word, bool numbered) {
     else puts("A");
 }
 
-/* ---- messages: identifier, form and number of fields of each kind; what is no raw number in Power_Modules_Status */
+/* ---- messages: identifier, form and number of fields of each kind; what is no raw number: temperatures, insulation and Battery_Capacity */
 
 static const struct { uint32_t id; bool extended; size_t n; } kinds[ROKEMAIPU_KINDS] = {{0x63000, true, 6}, {0x63001, true, 4}, {0x6b000, true, 1}, {0x6b001, true, 2}, {0x6b002, true, 1},
-    {0x6b003, true, 8}, {0x6b004, true, 1}, {0x6b005, true, 1}, {0x6b105, true, 6}, {6, false, 4}, {7, false, 15}, {8, false, 12}};
+    {0x6b003, true, 8}, {0x6b004, true, 1}, {0x6b005, true, 1}, {0x6b105, true, 6}, {6, false, 4}, {7, false, 15}, {8, false, 12},
+    {0x60010, true, 6}, {0x60011, true, 3}, {0x60012, true, 6}, {0x60013, true, 5}, {0x68001, true, 6}, {0x68002, true, 1}, {0x68003, true, 2}, {0x68004, true, 1}, {0x68005, true, 3},
+    {0x68006, true, 1}, {0x68007, true, 1}, {0x68009, true, 1}, {0x6800a, true, 11}, {0x6800b, true, 8}, {0x6800c, true, 6}, {0x6800d, true, 11}, {0x6800e, true, 3}, {0x6800f, true, 3}};
 
-static bool is_celsius(uint32_t kind, size_t i) { return kind == ROKEMAIPU_POWER_MODULES_STATUS && (i == 2 || i == 3); }
-static bool is_kilohms(uint32_t kind, size_t i) { return kind == ROKEMAIPU_POWER_MODULES_STATUS && i == 5; }
+static bool is_celsius(uint32_t kind, size_t i) {
+    switch (kind) {
+    case ROKEMAIPU_POWER_MODULES_STATUS: case ROKEMAIPU_OLDER_POWER_MODULES_STATUS: return i == 2 || i == 3;
+    case ROKEMAIPU_OLDER_ADM_CO_CUI1_INPUTS: return i >= 7;
+    case ROKEMAIPU_OLDER_ADM_CS_SECC_INPUTS: case ROKEMAIPU_OLDER_ADM_CS_SPCC_INPUTS: return i >= 5;
+    default: return false;
+    }
+}
+static bool is_doubled(uint32_t kind, size_t i) {
+    return i == 5 ? kind == ROKEMAIPU_POWER_MODULES_STATUS || kind == ROKEMAIPU_OLDER_POWER_MODULES_STATUS : i == 4 && kind == ROKEMAIPU_OLDER_NEW_CHARGE_SESSION;
+}
+
+/* by the pages of an interface */
+static uint32_t read_on(uint32_t interface, uint32_t id, bool extended, const uint8_t *payload, size_t n, int64_t *raws) {
+    return (interface == ROKEMAIPU_OLDER ? rokemaipu_read_older : rokemaipu_read)(id, extended, payload, n, raws, ROKEMAIPU_SIGNALS);
+}
 
 static void put_message(uint32_t kind, const int64_t *raws) {
     printf("%" PRIx32 "%c:", kinds[kind].id, kinds[kind].extended ? 'x' : 's');
-    for (size_t i = 0; i < kinds[kind].n; i++) printf("%s%" PRId64, i ? "," : "", is_celsius(kind, i) ? raws[i] - 40 : is_kilohms(kind, i) ? raws[i] * 2 : raws[i]);
+    for (size_t i = 0; i < kinds[kind].n; i++) printf("%s%" PRId64, i ? "," : "", is_celsius(kind, i) ? raws[i] - 40 : is_doubled(kind, i) ? raws[i] * 2 : raws[i]);
 }
 
-static void put_dated(uint32_t kind, const uint8_t *payload, size_t n, const uint32_t times[ROKEMAIPU_TIMES]) {
+static void put_dated(const uint8_t *payload, size_t n, const uint32_t times[ROKEMAIPU_TIMES]) {
     int64_t raws[ROKEMAIPU_SIGNALS];
-    if (rokemaipu_read(kinds[kind].id, kinds[kind].extended, payload, n, raws, ROKEMAIPU_SIGNALS) != kind) exit(fprintf(stderr, "desk.c: a kept frame is no frame\n"));
+    uint32_t kind = times[ROKEMAIPU_WHEN_KIND];
+    if (read_on(kind > ROKEMAIPU_PT1000_STATE ? ROKEMAIPU_OLDER : ROKEMAIPU_NEWER, kinds[kind].id, kinds[kind].extended, payload, n, raws) != kind) exit(fprintf(stderr, "desk.c: a kept frame is no frame\n"));
     put_message(kind, raws);
     printf("@%" PRIu32 "+%" PRIu32, times[ROKEMAIPU_WHEN], times[ROKEMAIPU_WHEN_AGE]);
 }
 
-static void put_part(const char *name, uint32_t kind, uint32_t post, uint32_t part) {
+static void put_part(const char *name, uint32_t post, uint32_t part) {
     uint8_t payload[8];
     uint32_t times[ROKEMAIPU_TIMES], length = rokemaipu_in_session(&table, post, part, times, ROKEMAIPU_TIMES, payload, sizeof payload);
     printf(" %s=", name);
-    if (length) put_dated(kind, payload, length, times);
+    if (length) put_dated(payload, length, times);
     else putchar('-');
 }
 
@@ -148,24 +165,24 @@ static void record(uint32_t post) {
         answer(refused, false);
         return;
     }
-    printf("K ch=%" PRIu32 " volt=%" PRIu32 " chg=%" PRIu32 " dis=%" PRIu32 " w=%" PRIu32 " sensor=%" PRIu32, n[ROKEMAIPU_CHANNEL], n[ROKEMAIPU_VOLTAGE], n[ROKEMAIPU_CHARGE],
-        n[ROKEMAIPU_DISCHARGE], n[ROKEMAIPU_SILENCE], n[ROKEMAIPU_SENSOR]);
+    printf("K ch=%" PRIu32 " volt=%" PRIu32 " chg=%" PRIu32 " dis=%" PRIu32 " w=%" PRIu32 " sensor=%" PRIu32 " iface=%" PRIu32, n[ROKEMAIPU_CHANNEL], n[ROKEMAIPU_VOLTAGE],
+        n[ROKEMAIPU_CHARGE], n[ROKEMAIPU_DISCHARGE], n[ROKEMAIPU_SILENCE], n[ROKEMAIPU_SENSOR], n[ROKEMAIPU_INTERFACE]);
     if (n[ROKEMAIPU_HEARD]) printf(" last=%" PRIu32, n[ROKEMAIPU_TIME]);
     else printf(" last=-");
     if (n[ROKEMAIPU_OPENED]) {
         printf(" open=1 since=%" PRIu32 "+%" PRIu32 " first=%" PRIu32 ",%" PRIu32, n[ROKEMAIPU_SINCE], n[ROKEMAIPU_SINCE_AGE], n[ROKEMAIPU_PROTOCOL], n[ROKEMAIPU_PLUG]);
-        put_part("spms", ROKEMAIPU_POWER_MODULES_STATUS, post, ROKEMAIPU_KEPT_STATUS);
-        put_part("sdpc", ROKEMAIPU_DC_POWER_CONTROL, post, ROKEMAIPU_KEPT_CONTROL);
+        put_part("spms", post, ROKEMAIPU_KEPT_STATUS);
+        put_part("sdpc", post, ROKEMAIPU_KEPT_CONTROL);
     } else
         printf(" open=0 since=- first=- spms=- sdpc=-");
     put_counts(post);
     printf(" latest=");
-    for (uint32_t i = 0; i < ROKEMAIPU_KINDS; i++) { /* the standard ones stand behind the others, and come first */
+    for (uint32_t i = 0; i < ROKEMAIPU_KINDS; i++) { /* the standard ones come first; a post has the older interface's or the newer one's */
         uint32_t kind = (i + ROKEMAIPU_CHARGE_CONTROL_1) % ROKEMAIPU_KINDS;
         uint32_t length = rokemaipu_latest(&table, post, kind, times, ROKEMAIPU_TIMES, payload, sizeof payload);
         if (!length) continue;
         if (some) putchar(';');
-        put_dated(kind, payload, length, times);
+        put_dated(payload, length, times);
         some = true;
     }
     puts(some ? "" : "-");
@@ -175,54 +192,57 @@ static void record(uint32_t post) {
 
 static bool is(const char *name, size_t fields) { return words[0].n == strlen(name) && !memcmp(words[0].at, name, words[0].n) && count == fields + 1; }
 
-static bool write_step(void) {
+static bool write_step(uint32_t interface) {
+    const int64_t FAR = (int64_t)1 << 61;
     int64_t raws[ROKEMAIPU_SIGNALS] = {0}, value;
-    uint32_t id, kind = 0, written;
+    uint32_t id, written;
     bool extended, fits = true;
     size_t n = 0;
     if (!frame_id(1, &id, &extended) || !hex(words[4])) return false;
-    while (kind < ROKEMAIPU_KINDS && (kinds[kind].id != id || kinds[kind].extended != extended)) kind++;
+    bool older = interface == ROKEMAIPU_OLDER;
+    uint32_t kind = older ? ROKEMAIPU_CHARGE_CONTROL_1 : 0, end_of = older ? ROKEMAIPU_KINDS : ROKEMAIPU_PT1000_STATE + 1;
+    while (kind < end_of && (kinds[kind].id != id || kinds[kind].extended != extended)) kind++;
     for (const char *p = words[3].at, *end = p + words[3].n;; p++, n++) {
         const char *from = p;
         while (p < end && *p != ',') p++;
         if (!whole((word){from, (size_t)(p - from)}, &value)) return false;
         if (n < ROKEMAIPU_SIGNALS) {
             /* far outside every signal: no overflow below, and refused all the same */
-            if (value > 1000000 || value < -1000000) value = 1000000;
+            if (value > FAR || value < -FAR) value = FAR;
             raws[n] = value;
         }
         if (p == end) break;
     }
     n++;
-    if (kind == ROKEMAIPU_KINDS) return puts("X"), true;
+    if (kind == end_of) return puts("X"), true;
     if (n != kinds[kind].n) return false;
     for (size_t i = 0; i < n; i++) {
         if (is_celsius(kind, i)) raws[i] += 40;
-        if (is_kilohms(kind, i)) fits = raws[i] % 2 == 0, raws[i] /= 2;
+        if (is_doubled(kind, i)) fits = raws[i] % 2 == 0, raws[i] /= 2;
     }
-    written = fits ? rokemaipu_write(kind, raws, ROKEMAIPU_SIGNALS, bytes, size) : ROKEMAIPU_REFUSED + 7;
+    written = fits ? (older ? rokemaipu_write_older : rokemaipu_write)(kind, raws, ROKEMAIPU_SIGNALS, bytes, size) : ROKEMAIPU_REFUSED + 7;
     if (written < ROKEMAIPU_REFUSED) printf("A %" PRIx32 " %" PRIu32, id, written);
     else put_refusal(written);
     return put_lent(), true;
 }
 
-static bool change_step(void) {
+static bool change_step(uint32_t interface) {
     uint32_t id, start, changed;
     int64_t raw;
     bool extended;
     if (!frame_id(1, &id, &extended) || !hex(words[3]) || !u32(4, &start) || !whole(words[5], &raw)) return false;
-    changed = rokemaipu_change(id, extended, bytes, size, start, raw);
+    changed = (interface == ROKEMAIPU_OLDER ? rokemaipu_change_older : rokemaipu_change)(id, extended, bytes, size, start, raw);
     if (changed < ROKEMAIPU_REFUSED) putchar('A');
     else put_refusal(changed);
     return put_lent(), true;
 }
 
-static bool read_step(void) {
+static bool read_step(uint32_t interface) {
     int64_t raws[ROKEMAIPU_SIGNALS];
     uint32_t id, kind;
     bool extended;
     if (!frame_id(1, &id, &extended) || !hex(words[3])) return false;
-    kind = rokemaipu_read(id, extended, bytes, size, raws, ROKEMAIPU_SIGNALS);
+    kind = read_on(interface, id, extended, bytes, size, raws);
     if (kind >= ROKEMAIPU_REFUSED) return answer(kind, false), true;
     printf("A ");
     put_message(kind, raws);
@@ -294,12 +314,12 @@ static word cut(word *rest, char mark) {
     return first;
 }
 
-static bool set_up_numbers(word w, uint32_t n[7]) {
+static bool set_up_numbers(word w, uint32_t n[8]) {
     size_t i = 0;
     uint64_t v;
-    n[6] = ROKEMAIPU_MEASURING;
+    n[6] = ROKEMAIPU_MEASURING, n[7] = ROKEMAIPU_NEWER;
     do {
-        if (i == 7 || !number(cut(&w, ','), 10, UINT32_MAX, &v)) return false;
+        if (i == 8 || !number(cut(&w, ','), 10, UINT32_MAX, &v)) return false;
         n[i++] = (uint32_t)v;
     } while (w.at);
     return i >= 6;
@@ -307,14 +327,14 @@ static bool set_up_numbers(word w, uint32_t n[7]) {
 
 static bool replay_step(void) {
     static rokemaipu_replay own;
-    uint32_t n[7], refused = 0;
+    uint32_t n[8], refused = 0;
     word w = words[2];
     bool none = w.n == 1 && *w.at == '-';
     if (!hex(words[1])) return false;
     rokemaipu_replay_start(&own);
     while (!none && w.at) {
         if (!set_up_numbers(cut(&w, ';'), n)) return false;
-        refused = rokemaipu_replay_set_up(&own, n[0], n[1], n[2], n[3], n[4], n[5], n[6]); /* once refused, always */
+        refused = rokemaipu_replay_set_up(&own, n[0], n[1], n[2], n[3], n[4], n[5], n[6], n[7]); /* once refused, always */
     }
     if (refused) printf("SETUP "), put_refusal(refused);
     else put_replay(&own, bytes, size);
@@ -369,19 +389,22 @@ static bool compare_step(void) {
 }
 
 static bool step(void) {
-    uint32_t a, b, c, d, e, f, sensor = ROKEMAIPU_MEASURING, id;
+    uint32_t a, b, c, d, e, f, sensor = ROKEMAIPU_MEASURING, interface = ROKEMAIPU_NEWER, id;
     bool extended;
     if (is("frame", 5)) return u32(1, &a) && u32(2, &b) && frame_id(3, &id, &extended) && hex(words[5]) && (answer(rokemaipu_frame(&table, a, b, id, extended, bytes, size), true), true);
     if (is("tick", 2)) return u32(1, &a) && u32(2, &b) && (answer(rokemaipu_tick(&table, a, b), true), true);
-    if (is("setup", 6) || is("setup", 7))
-        return u32(1, &a) && u32(2, &b) && u32(3, &c) && u32(4, &d) && u32(5, &e) && u32(6, &f) && (count == 7 || u32(7, &sensor))
-            && (answer(rokemaipu_set_up(&table, a, b, c, d, e, f, sensor), false), true);
+    if (is("setup", 6) || is("setup", 7) || is("setup", 8))
+        return u32(1, &a) && u32(2, &b) && u32(3, &c) && u32(4, &d) && u32(5, &e) && u32(6, &f) && (count < 8 || u32(7, &sensor)) && (count < 9 || u32(8, &interface))
+            && (answer(rokemaipu_set_up(&table, a, b, c, d, e, f, sensor, interface), false), true);
     if (is("release", 1)) return u32(1, &a) && (answer(rokemaipu_release(&table, a), false), true);
     if (is("record", 1)) return u32(1, &a) && (record(a), true);
     if (is("refused", 0)) return printf("N %" PRIu32 "\n", rokemaipu_refused(&table)), true;
-    if (is("read", 3)) return read_step();
-    if (is("change", 5)) return change_step();
-    if (is("write", 4)) return write_step();
+    if (is("read", 3)) return read_step(ROKEMAIPU_NEWER);
+    if (is("change", 5)) return change_step(ROKEMAIPU_NEWER);
+    if (is("write", 4)) return write_step(ROKEMAIPU_NEWER);
+    if (is("read1", 3)) return read_step(ROKEMAIPU_OLDER);
+    if (is("change1", 5)) return change_step(ROKEMAIPU_OLDER);
+    if (is("write1", 4)) return write_step(ROKEMAIPU_OLDER);
     if (is("probe", 1)) return probe_step();
     if (is("duty", 1)) return duty_step();
     if (is("logw", 4) || is("logw", 7)) return log_write_step();

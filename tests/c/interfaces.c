@@ -1,5 +1,5 @@
-/* 02, Req 11: posts of either interface in one table, from C: set-up and look-up, 29 in 3's place, the safety controller's frames on both, the rules on a post of
- * the older interface, the latest frame by its kind, and tables of the caller's own making with kinds that are none.
+/* 02, Req 11: posts of either interface in one table, from C: set-up and look-up, 29 in 3's place, the safety controller's frames on both, the rules on a
+ * post of the older interface, the latest frame by its kind, and tables of the caller's own making with kinds that are none.
  * Prints a line for each part and 'ok', or says what was wrong and where, and exits 1. */
 #include "fence.h"
 #include "kinds.h"

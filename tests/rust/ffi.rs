@@ -3,7 +3,8 @@
 #![allow(dead_code)]
 
 pub const POSTS: usize = 8;
-pub const KINDS: usize = 12;
+pub const KINDS: usize = 30;
+pub const PLACES: usize = 21;
 pub const KEPT: usize = 2;
 pub const SIGNALS: usize = 16;
 pub const RECORD_BYTES: usize = 20;
@@ -12,16 +13,19 @@ pub const LINE_BYTES: usize = 40;
 pub const CHANNELS: usize = 32;
 pub const COMPARE_RECORDS: usize = 512;
 pub const COMPARED_NUMBERS: usize = 2;
-pub const NUMBERS: usize = 13;
-pub const TIMES: usize = 2;
+pub const NUMBERS: usize = 14;
+pub const TIMES: usize = 3;
 pub const COUNTS: usize = 12;
 pub const ENTRY_NUMBERS: usize = 8;
 pub const REFUSED: u32 = 65536;
+pub const NEWER: u32 = 0;
+pub const OLDER: u32 = 1;
 
 #[repr(C)]
 #[derive(Clone, Copy, Debug, PartialEq)]
 pub struct Slot {
-    pub known: u64,
+    pub known: u32,
+    pub kind: u32,
     pub time: u64,
     pub raw: u64,
 }
@@ -34,6 +38,7 @@ pub struct Limits {
     pub discharge: u32,
     pub silence: u32,
     pub sensor: u32,
+    pub interface: u32,
 }
 
 #[repr(C)]
@@ -51,7 +56,7 @@ pub struct Head {
     pub used: u32,
     pub channel: u32,
     pub limits: Limits,
-    pub heard: u32,
+    pub heard: u64,
     pub time: u64,
     pub controller: Slot,
     pub parameters: Slot,
@@ -63,7 +68,7 @@ pub struct Head {
 #[derive(Clone, Copy, Debug, PartialEq)]
 pub struct Post {
     pub head: Head,
-    pub latest: [Slot; KINDS],
+    pub latest: [Slot; PLACES],
 }
 
 #[repr(C)]
@@ -82,7 +87,7 @@ pub struct Replay {
 }
 
 /// What `rokemaipu_layout` answers where the library has this table.
-pub const LAYOUT: u64 = std::mem::size_of::<Table>() as u64 + ((POSTS as u64) << 32) + ((KINDS as u64) << 40) + (3 << 48);
+pub const LAYOUT: u64 = std::mem::size_of::<Table>() as u64 + ((POSTS as u64) << 32) + ((PLACES as u64) << 40) + (4 << 48);
 
 impl Table {
     /// Zeroed memory is the empty table.
@@ -101,7 +106,7 @@ pub fn refusal(answer: u32) -> u32 {
 extern "C" {
     pub fn rokemaipu_layout() -> u64;
     pub fn rokemaipu_start(t: *mut Table) -> u32;
-    pub fn rokemaipu_set_up(t: *mut Table, post: u32, channel: u32, voltage: u32, charge: u32, discharge: u32, silence: u32, sensor: u32) -> u32;
+    pub fn rokemaipu_set_up(t: *mut Table, post: u32, channel: u32, voltage: u32, charge: u32, discharge: u32, silence: u32, sensor: u32, interface: u32) -> u32;
     pub fn rokemaipu_release(t: *mut Table, post: u32) -> u32;
     pub fn rokemaipu_frame(t: *mut Table, channel: u32, time: u32, id: u32, extended: bool, payload: *const u8, length: usize) -> u32;
     pub fn rokemaipu_tick(t: *mut Table, channel: u32, time: u32) -> u32;
@@ -126,6 +131,6 @@ extern "C" {
     pub fn rokemaipu_batch(t: *mut Table, records: *const u8, length: usize, answers: *mut u32, places: usize) -> u32;
     pub fn rokemaipu_compare(a: *const u8, size_a: usize, b: *const u8, size_b: usize, first: *mut u32, room_first: usize, second: *mut u32, room_second: usize, places: *mut u32, channels: usize, numbers: *mut u64, two: usize) -> u32;
     pub fn rokemaipu_replay_start(r: *mut Replay) -> u32;
-    pub fn rokemaipu_replay_set_up(r: *mut Replay, post: u32, channel: u32, voltage: u32, charge: u32, discharge: u32, silence: u32, sensor: u32) -> u32;
+    pub fn rokemaipu_replay_set_up(r: *mut Replay, post: u32, channel: u32, voltage: u32, charge: u32, discharge: u32, silence: u32, sensor: u32, interface: u32) -> u32;
     pub fn rokemaipu_replay_line(r: *mut Replay, log: *const u8, size: usize, at: usize, line: *mut u8, room: usize, next: *mut u64, places: usize) -> u32;
 }

@@ -25,8 +25,8 @@ macro_rules! fields {
 fn sizes() {
     let ours: Vec<String> = [
         vec![format!("ROKEMAIPU_IS(sizeof(bool), {});", size_of::<bool>()), format!("ROKEMAIPU_IS(sizeof(size_t), {});", size_of::<usize>())],
-        fields!(Slot as "slot": known time raw),
-        fields!(Limits as "limits": voltage charge discharge silence sensor),
+        fields!(Slot as "slot": known kind time raw),
+        fields!(Limits as "limits": voltage charge discharge silence sensor interface),
         fields!(Session as "session": opened since first kept),
         fields!(Head as "head": used channel limits heard time controller parameters session counts),
         vec![format!("ROKEMAIPU_IS(ROKEMAIPU_COUNTS, {});", COUNTS)],
@@ -43,6 +43,7 @@ fn numbers() {
     for (name, number) in [
         ("#define ROKEMAIPU_POSTS ", POSTS),
         ("#define ROKEMAIPU_KINDS ", KINDS),
+        ("#define ROKEMAIPU_PLACES ", PLACES),
         ("    ROKEMAIPU_KEPT = ", KEPT),
         ("#define ROKEMAIPU_SIGNALS ", SIGNALS),
         ("#define ROKEMAIPU_RECORD_BYTES ", RECORD_BYTES),
@@ -56,6 +57,8 @@ fn numbers() {
         ("    ROKEMAIPU_COUNTS = ", COUNTS),
         ("    ROKEMAIPU_ENTRY_NUMBERS = ", ENTRY_NUMBERS),
         ("#define ROKEMAIPU_REFUSED ", REFUSED as usize),
+        ("    ROKEMAIPU_NEWER = ", NEWER as usize),
+        ("    ROKEMAIPU_OLDER = ", OLDER as usize),
     ] {
         let said = HEADER.lines().find_map(|line| line.strip_prefix(name)).unwrap_or_else(|| panic!("the header has no line {name}"));
         let digits: String = said.chars().take_while(char::is_ascii_digit).collect();

@@ -7,7 +7,7 @@ fn frame(t: &mut Table, channel: u32, time: u32, id: u32, payload: &[u8]) -> u32
     unsafe { rokemaipu_frame(t, channel, time, id, true, payload.as_ptr(), payload.len()) }
 }
 
-/// The latest of a kind, or in the session: the answer, the time, the bytes.
+/// The latest of a kind, or in the session: the answer, the time, the age and the kind, the bytes.
 type Look = unsafe extern "C" fn(*const Table, u32, u32, *mut u32, usize, *mut u8, usize) -> u32;
 
 fn looked(look: Look, t: &Table, post: u32, which: u32) -> (u32, [u32; TIMES], Vec<u8>) {
@@ -22,8 +22,8 @@ fn posts() {
     let mut t = Table::empty();
     unsafe {
         assert_eq!(rokemaipu_holder(&t, 4), REFUSED + 1);
-        assert_eq!(rokemaipu_set_up(&mut t, 0, 4, 5000, 1000, 500, 500, 0), 0);
-        assert_eq!(rokemaipu_set_up(&mut t, 1, 4, 5000, 1000, 500, 500, 0), REFUSED + 11);
+        assert_eq!(rokemaipu_set_up(&mut t, 0, 4, 5000, 1000, 500, 500, 0, NEWER), 0);
+        assert_eq!(rokemaipu_set_up(&mut t, 1, 4, 5000, 1000, 500, 500, 0, NEWER), REFUSED + 11);
         assert_eq!(rokemaipu_holder(&t, 4), 0);
     }
     assert_eq!(frame(&mut t, 4, 0, 0x6b003, &[0x88, 0x13, 0, 0, 0, 0, 0x48]), 4 + 8); // closed contactors and power transfer with no session open
@@ -39,16 +39,16 @@ fn posts() {
 
     let mut numbers = [0; NUMBERS];
     assert_eq!(unsafe { rokemaipu_look_up(&t, 0, numbers.as_mut_ptr(), NUMBERS) }, 0);
-    assert_eq!(numbers, [4, 5000, 1000, 500, 500, 0, 1, 40, 1, 0, 2, 1, 40]);
+    assert_eq!(numbers, [4, 5000, 1000, 500, 500, 0, 1, 40, 1, 0, 2, 1, 40, NEWER]);
     let mut counts = [0; COUNTS];
     assert_eq!(unsafe { rokemaipu_counts(&t, 0, counts.as_mut_ptr(), COUNTS) }, 0);
     assert_eq!(counts, [6, 0, 0, 1, 1, 0, 0, 0, 0, 1, 0, 0]); // accepted; F3, F4 and F9
     assert_eq!(unsafe { rokemaipu_refused(&t) }, 2);
     assert_eq!(unsafe { rokemaipu_counts(&t, 0, counts.as_mut_ptr(), COUNTS - 1) }, REFUSED + 8);
-    assert_eq!(looked(rokemaipu_latest, &t, 0, 0), (8, [40, 0], status(24).to_vec()));
-    assert_eq!(looked(rokemaipu_latest, &t, 0, 8), (0, [77, 77], vec![]));
-    assert_eq!(looked(rokemaipu_in_session, &t, 0, 0), (8, [40, 0], status(24).to_vec()));
-    assert_eq!(looked(rokemaipu_in_session, &t, 0, 1), (7, [20, 20], vec![0x88, 0x13, 0, 0, 0, 0, 4]));
+    assert_eq!(looked(rokemaipu_latest, &t, 0, 0), (8, [40, 0, 0], status(24).to_vec()));
+    assert_eq!(looked(rokemaipu_latest, &t, 0, 8), (0, [77, 77, 77], vec![]));
+    assert_eq!(looked(rokemaipu_in_session, &t, 0, 0), (8, [40, 0, 0], status(24).to_vec()));
+    assert_eq!(looked(rokemaipu_in_session, &t, 0, 1), (7, [20, 20, 5], vec![0x88, 0x13, 0, 0, 0, 0, 4]));
     assert_eq!(looked(rokemaipu_in_session, &t, 0, 2).0, REFUSED + 3);
 
     unsafe {
@@ -58,6 +58,23 @@ fn posts() {
         assert_eq!(rokemaipu_start(&mut t), 0);
     }
     assert_eq!(t, Table::empty());
+}
+
+/// A post of the older interface beside one of the newer: each hears its own pages.
+fn interfaces() {
+    let mut t = Table::empty();
+    unsafe {
+        assert_eq!(rokemaipu_set_up(&mut t, 0, 4, 5000, 1000, 500, 500, 0, OLDER), 0);
+        assert_eq!(rokemaipu_set_up(&mut t, 1, 5, 5000, 1000, 500, 500, 0, NEWER), 0);
+        assert_eq!(rokemaipu_set_up(&mut t, 2, 6, 5000, 1000, 500, 500, 0, 2), REFUSED + 12);
+    }
+    assert_eq!(refusal(frame(&mut t, 4, 0, 0x6b001, &[2, 1])), 29);
+    assert_eq!(refusal(frame(&mut t, 5, 0, 0x68001, &[2, 1, 0, 0, 0, 0, 0, 0])), 29);
+    assert_eq!(frame(&mut t, 4, 0, 0x68001, &[2, 1, 0, 0, 0, 0, 0, 0]), 0);
+    assert_eq!(frame(&mut t, 4, 10, 0x68002, &[0x88, 0x13]), 16); // Insulation_Test before any Power_Modules_Status: F5
+    assert_eq!(looked(rokemaipu_latest, &t, 0, 17), (2, [10, 0, 17], vec![0x88, 0x13]));
+    assert_eq!(looked(rokemaipu_latest, &t, 0, 5).0, 0); // DC_Power_Control, which has its place on the other post
+    assert_eq!(looked(rokemaipu_in_session, &t, 0, 1), (2, [10, 0, 17], vec![0x88, 0x13]));
 }
 
 /// E1, E7, and 02's duty and probe.
@@ -103,7 +120,7 @@ fn batch() {
     let records = [0, 4, 0x83, 0xc0, 0x35, 2, 2, 5, 0, 4, 0, 9, 0, 5, 0, 9];
     let (mut table, mut answers) = (Table::empty(), [7u32; 4]);
     unsafe {
-        assert_eq!(rokemaipu_set_up(&mut table, 0, 4, 5000, 1000, 500, 500, 0), 0);
+        assert_eq!(rokemaipu_set_up(&mut table, 0, 4, 5000, 1000, 500, 500, 0, NEWER), 0);
         let before = table;
         assert_eq!(refusal(rokemaipu_batch(&mut table, records.as_ptr(), records.len(), answers.as_mut_ptr(), 2)), 24);
         assert_eq!(refusal(rokemaipu_batch(&mut table, records.as_ptr(), records.len() - 1, answers.as_mut_ptr(), 2)), 23);
@@ -139,7 +156,7 @@ fn replay() {
     let mut r = Replay { table: Table::empty(), count: 0, course: 0 };
     let (mut at, mut text) = (0u64, String::new());
     unsafe {
-        assert_eq!(rokemaipu_replay_set_up(&mut r, 0, 2, 5000, 1000, 500, 500, 0), 0);
+        assert_eq!(rokemaipu_replay_set_up(&mut r, 0, 2, 5000, 1000, 500, 500, 0, NEWER), 0);
         loop {
             let mut line = [0u8; LINE_BYTES];
             let n = rokemaipu_replay_line(&mut r, log.as_ptr(), log.len(), at as usize, line.as_mut_ptr(), LINE_BYTES, &mut at, 1);
@@ -150,7 +167,7 @@ fn replay() {
             text += std::str::from_utf8(&line[..n as usize]).unwrap();
         }
         assert_eq!((text.as_str(), r.count), ("1 0 A0\n2 - R1\n", 2));
-        assert_eq!(rokemaipu_replay_set_up(&mut r, 1, 3, 5000, 1000, 500, 500, 0), 1);
+        assert_eq!(rokemaipu_replay_set_up(&mut r, 1, 3, 5000, 1000, 500, 500, 0, NEWER), 1);
         assert_eq!(rokemaipu_replay_start(&mut r), 0);
     }
     assert_eq!(r, Replay { table: Table::empty(), count: 0, course: 0 });
@@ -160,10 +177,11 @@ fn main() {
     header::same();
     assert_eq!(unsafe { rokemaipu_layout() }, LAYOUT);
     posts();
+    interfaces();
     frames();
     log();
     batch();
     compare();
     replay();
-    println!("Rust: sizes, offsets, numbers and functions are the header's; posts, frames, the log, a batch, a comparison and a replay over the archive");
+    println!("Rust: sizes, offsets, numbers and functions are the header's; posts of either interface, frames, the log, a batch, a comparison and a replay over the archive");
 }

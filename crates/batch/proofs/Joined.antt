@@ -12,7 +12,7 @@ use Rattle.log_records.specs.Record.{Rec, tick, frame}
 use Rattle.rules.specs.declared.Head.{Head}
 use Rattle.rules.specs.declared.Slot.{Slot}
 use Rattle.rules.specs.declared.Post.{Post}
-use Rattle.rules.specs.Record.{kindCount}
+use Rattle.rules.specs.Record.{placeCount}
 use Rattle.rules.specs.After.{isEarly, isFullIn, afterTick, afterFrame, agedTo, withFrame, withCounts, keepIn}
 use Rattle.watch_rules.specs.declared.Table.{Table}
 use Rattle.watch_rules.specs.declared.Heard.{Heard}
@@ -138,8 +138,8 @@ module _ (hs : List Head) (ls : List (List Slot)) (n i : ℕ) (low : i < length 
       (ap (λ (ps : List Post). placeOf ps c) (joined-set hs ls i (w .head) (keepIn (getD ls i []) (w .at) (w .slot)))
       ∙ place-set (joined hs ls) i _ c (record-holds (getD hs i noHead) r c ∙ ap (λ (p : Post). holds (p .head) c) (sym (joined-at hs ls i low row))))
 
-  pub latest-kept : (w : Heard) → w .at < kindCount → latestBy w ≡ set ls i (set (getD ls i []) (w .at) (w .slot))
-  latest-kept w h = rw (lt-ltb (w .at) kindCount h)
+  pub latest-kept : (w : Heard) → w .at < placeCount → latestBy w ≡ set ls i (set (getD ls i []) (w .at) (w .slot))
+  latest-kept w h = rw (lt-ltb (w .at) placeCount h)
 
-  pub latest-left : (w : Heard) → kindCount ≤ w .at → latestBy w ≡ ls
-  latest-left w h = rw (le-ltb (w .at) kindCount h) (set-getD ls i [])
+  pub latest-left : (w : Heard) → placeCount ≤ w .at → latestBy w ≡ ls
+  latest-left w h = rw (le-ltb (w .at) placeCount h) (set-getD ls i [])

@@ -20,7 +20,7 @@ use plain_words::refusal_word;
 use refusals::Refusal;
 use rule_limits::PlainLimits;
 use rules::Head;
-use rules::KINDS;
+use rules::PLACES;
 use rules::Post;
 use rules::Slot;
 use watch_hear::arrival_for;
@@ -51,7 +51,7 @@ fn heads_of(t: Table) -> [Head; POSTS]
     heads
 }
 
-fn latest_of(t: Table) -> [[Slot; KINDS]; POSTS]
+fn latest_of(t: Table) -> [[Slot; PLACES]; POSTS]
     ensures { λ r. ⌜ r ≡ map (λ p. p .latest) (t .posts) ⌝ }
 {
     let p = t.posts[0];
@@ -67,7 +67,7 @@ fn latest_of(t: Table) -> [[Slot; KINDS]; POSTS]
     latest
 }
 
-fn table_of(heads: [Head; POSTS], latest: [[Slot; KINDS]; POSTS], refused: u64) -> Table
+fn table_of(heads: [Head; POSTS], latest: [[Slot; PLACES]; POSTS], refused: u64) -> Table
     ensures { λ r. ⌜ r ≡ record { posts = joined heads latest; refused = refused } ⌝ }
 {
     let h = heads[0];
@@ -141,7 +141,7 @@ fn feed_all(t: Table, log: &[u8], answers: &mut [u32]) -> Table
         answers[n] = answer_word(answer);
         at = e.next;
         n += 1;
-        if k < KINDS {
+        if k < PLACES {
             latest[i][k] = slot;
         }
     }

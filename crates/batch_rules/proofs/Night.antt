@@ -88,11 +88,30 @@ counted : (min (refusedEver alone) largest ≡ 1) × (acceptedEver alone ≡ 2) 
 unfolding standing findFrom holder otherHolds feed01 setUp01 lookUp01 feedSteps setUpSteps limitsFit accepted sinceFinished opening inSession earlierIn lowersBadly outside leaking badInsulation differs sessionStatus sessionControl limitOf f1 f2 f3 f4 f5 f6 f7 f8 f9 f10 f11 findings01 rows ofKind firstAt covered unlabelled strayBelow judgedNumber judgeOn isForeign judgeFor wholesOf pad rawsOf getBits leNumber toSigned roleOf statusBy limitsBy openingBy commandBy statusIn parametersIn sessionIn controlIn
 counted = (refl, refl, refl)
 
+-- 02, Req 11: posts 0 and 1 read the pages of one interface each; on channel 5, of the older one, the newer New_Charge_Session gets 29
+abbrev olderLimits : PlainLimits
+olderLimits = record { voltage = 5000; charge = 1000; discharge = 500; silence = 500; sensor = 0; interface = 1 }
+
+abbrev both : List Asked
+both = single (setUp 1 5 olderLimits) ∷ before
+
+abbrev either : List Rec
+either = rec.frame 0 5 true 0x6b001 (2 ∷ 1 ∷ []) ∷ rec.frame 0 5 true 0x68001 (2 ∷ 1 ∷ 0 ∷ 0 ∷ 0 ∷ 0 ∷ 0 ∷ 0 ∷ []) ∷ rec.frame 0 4 true 0x6b001 (2 ∷ 1 ∷ []) ∷ []
+
+computed-either : words01 (setUp 1 5 olderLimits ∷ setUp 0 4 limits ∷ []) either ≡ 65565 ∷ 0 ∷ 0 ∷ []
+unfolding words01 standing findFrom holder otherHolds feed01 setUp01 lookUp01 feedSteps setUpSteps limitsFit accepted sinceFinished opening inSession earlierIn lowersBadly outside leaking badInsulation differs sessionStatus sessionControl limitOf f1 f2 f3 f4 f5 f6 f7 f8 f9 f10 f11 findings01 rows ofKind firstAt covered unlabelled strayBelow judgedNumber judgeOn isForeign judgeFor wholesOf pad rawsOf getBits leNumber toSigned roleOf statusBy limitsBy openingBy commandBy statusIn parametersIn sessionIn controlIn
+computed-either = refl
+
 module _ (t : Table) where
   -- the first batch answers nothing found, nothing found, and 1 for the channel that nobody holds
   pub night-words : wordsOf (askedRun t before) (recordsIn (logOf bytes)) ≡ 0 ∷ 0 ∷ 65537 ∷ []
   unfolding flat
   night-words = ap (wordsOf (askedRun t before)) reads ∙ flat-words t before three ∙ computed .0
+
+  -- a batch over posts of either interface answers by each post's own pages
+  pub either-words : wordsOf (askedRun t both) either ≡ 65565 ∷ 0 ∷ 0 ∷ []
+  unfolding flat
+  either-words = flat-words t both either ∙ computed-either
 
   -- the tick at 501 ms finds F1, by the session that the batch opened
   pub night-tick : lentBy (askedRun t night) (tick 4 501) .answer ≡ 1
