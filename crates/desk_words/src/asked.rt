@@ -52,7 +52,7 @@ fn refusal_of(l: Last) -> Asked {
         return Asked::Nothing;
     };
     match n {
-        1..=28 => Asked::Refusal(n),
+        1..=29 => Asked::Refusal(n),
         _ => Asked::Nothing,
     }
 }

@@ -37,7 +37,8 @@ fewer places for answers than a batch has records\n\
 the post's count of accepted frames and ticks is at its largest\n\
 a malformed or cut log in a comparison\n\
 more than 512 records in a log of a comparison\n\
-fewer than 512 places for the record numbers of a comparison\n",
+fewer than 512 places for the record numbers of a comparison\n\
+identifier that only the other interface has\n",
         n,
     )
 }

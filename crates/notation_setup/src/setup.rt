@@ -1,11 +1,17 @@
 // A post's set-up as a line tells it, by the fields behind the line's word.
 ghost use mathlib.Core.Path.{_≡_};
-ghost use Rattle.notation_setup.specs.Setup.{sensorOf, limitsOf, setupOf};
+ghost use Rattle.notation_setup.specs.Setup.{interfaceOf, choicesOf, limitsOf, setupOf};
 use notation_read::fields;
 use notation_read::fields::Last;
 use text_lines::Field;
 
-// `VOLT CHG DIS W [SENSOR]`
+// `[SENSOR [IFACE]]`
+pub enum Choices {
+    Bad,
+    Is(u32, u32),
+}
+
+// `VOLT CHG DIS W [SENSOR [IFACE]]`
 pub enum Limits {
     Bad,
     Is {
@@ -14,6 +20,7 @@ pub enum Limits {
         discharge: u32,
         silence: u32,
         sensor: u32,
+        interface: u32,
     },
 }
 
@@ -27,17 +34,33 @@ pub enum Asked {
         discharge: u32,
         silence: u32,
         sensor: u32,
+        interface: u32,
     },
 }
 
 // desk.md: "missing: 0"
-fn take_sensor(s: &[u8], at: usize) -> Last
-    ensures { λ r. ⌜ r ≡ sensorOf (now (s .entry)) at ⌝ }
+fn take_interface(s: &[u8], at: usize) -> Last
+    ensures { λ r. ⌜ r ≡ interfaceOf (now (s .entry)) at ⌝ }
 {
     if at > s.len() {
         return Last::Is(0);
     }
     fields::take_last(s, at)
+}
+
+fn take_choices(s: &[u8], at: usize) -> Choices
+    ensures { λ r. ⌜ r ≡ choicesOf (now (s .entry)) at ⌝ }
+{
+    if at > s.len() {
+        return Choices::Is(0, 0);
+    }
+    let Field::Is(sensor, next) = text_lines::take_u32(s, at) else {
+        return Choices::Bad;
+    };
+    let Last::Is(interface) = take_interface(s, next) else {
+        return Choices::Bad;
+    };
+    Choices::Is(sensor, interface)
 }
 
 fn take_limits(s: &[u8], at: usize) -> Limits
@@ -55,7 +78,7 @@ fn take_limits(s: &[u8], at: usize) -> Limits
     let Field::Is(silence, d) = text_lines::take_u32(s, c) else {
         return Limits::Bad;
     };
-    let Last::Is(sensor) = take_sensor(s, d) else {
+    let Choices::Is(sensor, interface) = take_choices(s, d) else {
         return Limits::Bad;
     };
     Limits::Is {
@@ -64,10 +87,11 @@ fn take_limits(s: &[u8], at: usize) -> Limits
         discharge,
         silence,
         sensor,
+        interface,
     }
 }
 
-// `POST CHANNEL VOLT CHG DIS W [SENSOR]`
+// `POST CHANNEL VOLT CHG DIS W [SENSOR [IFACE]]`
 pub fn setup_line(s: &[u8], at: usize) -> Asked
     ensures { λ r. ⌜ r ≡ setupOf (now (s .entry)) at ⌝ }
 {
@@ -83,6 +107,7 @@ pub fn setup_line(s: &[u8], at: usize) -> Asked
         discharge,
         silence,
         sensor,
+        interface,
     } = take_limits(s, b)
     else {
         return Asked::Bad;
@@ -95,5 +120,6 @@ pub fn setup_line(s: &[u8], at: usize) -> Asked
         discharge,
         silence,
         sensor,
+        interface,
     }
 }

@@ -2,8 +2,8 @@
 use mathlib.Core.Path.{_≡_, sym, ap, _∙_}
 use borrow.Author.Needs.{needs}
 use Rattle.text_lines.specs.declared.Field.{Field}
-use Rattle.notation_setup.specs.Setup.{withVoltage, withCharge, withDischarge, withSilence, withSensor, limitsOf}
-use Rattle.notation_read.specs.declared.fields.Last.{Last}
+use Rattle.notation_setup.specs.Setup.{withVoltage, withCharge, withDischarge, withSilence, withChoices, limitsOf}
+use Rattle.notation_setup.specs.declared.setup.Choices.{Choices}
 use Rattle.notation_setup.proofs.setup.take_limits.Statement.{statement}
 use Rattle.notation_setup.proofs.setup.take_limits.Tie as tie
 
@@ -21,8 +21,8 @@ told3 c e = ap (withDischarge (c .before .before .before .before .before .before
 told4 : {b : Field} (c : tie.After-take-u324) → c .take-u324 .result ≡ b → withSilence (c .before .before .before .before .before .before .before .before .before .before .before .before .before .before .args .s .now) (c .before .before .before .before .before .before .before .before .before .before .voltage .given .0 .0) (c .before .before .before .before .before .before .charge .given .0 .0) (c .before .before .discharge .given .0 .0) b ≡ limitsOf (c .before .before .before .before .before .before .before .before .before .before .before .before .before .before .args .s .now) (c .before .before .before .before .before .before .before .before .before .before .before .before .before .before .args .at)
 told4 c e = ap (withSilence (c .before .before .before .before .before .before .before .before .before .before .before .before .before .before .args .s .now) (c .before .before .before .before .before .before .before .before .before .before .voltage .given .0 .0) (c .before .before .before .before .before .before .charge .given .0 .0) (c .before .before .discharge .given .0 .0)) (sym e ∙ c .take-u324 .ensures) ∙ told3 (c .before .before .before .before) (c .before .before .discharge .given .1)
 
-told5 : {b : Last} (c : tie.After-take-sensor) → c .take-sensor .result ≡ b → withSensor (c .before .before .before .before .before .before .before .before .before .before .before .before .before .before .voltage .given .0 .0) (c .before .before .before .before .before .before .before .before .before .before .charge .given .0 .0) (c .before .before .before .before .before .before .discharge .given .0 .0) (c .before .before .silence .given .0 .0) b ≡ limitsOf (c .before .before .before .before .before .before .before .before .before .before .before .before .before .before .before .before .before .before .args .s .now) (c .before .before .before .before .before .before .before .before .before .before .before .before .before .before .before .before .before .before .args .at)
-told5 c e = ap (withSensor (c .before .before .before .before .before .before .before .before .before .before .before .before .before .before .voltage .given .0 .0) (c .before .before .before .before .before .before .before .before .before .before .charge .given .0 .0) (c .before .before .before .before .before .before .discharge .given .0 .0) (c .before .before .silence .given .0 .0)) (sym e ∙ c .take-sensor .ensures) ∙ told4 (c .before .before .before .before) (c .before .before .silence .given .1)
+told5 : {b : Choices} (c : tie.After-take-choices) → c .take-choices .result ≡ b → withChoices (c .before .before .before .before .before .before .before .before .before .before .before .before .before .before .voltage .given .0 .0) (c .before .before .before .before .before .before .before .before .before .before .charge .given .0 .0) (c .before .before .before .before .before .before .discharge .given .0 .0) (c .before .before .silence .given .0 .0) b ≡ limitsOf (c .before .before .before .before .before .before .before .before .before .before .before .before .before .before .before .before .before .before .args .s .now) (c .before .before .before .before .before .before .before .before .before .before .before .before .before .before .before .before .before .before .args .at)
+told5 c e = ap (withChoices (c .before .before .before .before .before .before .before .before .before .before .before .before .before .before .voltage .given .0 .0) (c .before .before .before .before .before .before .before .before .before .before .charge .given .0 .0) (c .before .before .before .before .before .before .discharge .given .0 .0) (c .before .before .silence .given .0 .0)) (sym e ∙ c .take-choices .ensures) ∙ told4 (c .before .before .before .before) (c .before .before .silence .given .1)
 
 take-u32-requires : tie.Need-take-u32-requires
 take-u32-requires c κs = search needs
@@ -72,8 +72,8 @@ enum-told-4 c = search needs
 returns-4 : tie.Need-returns-4
 returns-4 c = told4 (c .before .before) (c .enum-told4 .given .1)
 
-take-sensor-requires : tie.Need-take-sensor-requires
-take-sensor-requires c κs = search needs
+take-choices-requires : tie.Need-take-choices-requires
+take-choices-requires c κs = search needs
 
 enum-known-sensor : tie.Need-enum-known-sensor
 enum-known-sensor c = search needs
@@ -107,7 +107,7 @@ take-limits-spec =
     enum-known-silence
     enum-told-4
     returns-4
-    take-sensor-requires
+    take-choices-requires
     enum-known-sensor
     enum-told-5
     returns-5
