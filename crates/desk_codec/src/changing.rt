@@ -1,9 +1,10 @@
-// The step `change`.
+// The steps `change` and `change1`.
 use desk_buffers::front;
 use notation_answers::answer;
 use notation_read::fields;
 use notation_read::fields::Head;
 use page_read::Judged;
+use page_rows::Interface;
 use text_bytes::Bytes;
 use text_lines::Field;
 use text_numbers::sign::Signed;
@@ -56,7 +57,7 @@ enum Changed {
     Is(Judged, usize),
 }
 
-fn judged_in(s: &[u8], at: usize, room: &mut [u8]) -> Changed {
+fn judged_in(iface: Interface, s: &[u8], at: usize, room: &mut [u8]) -> Changed {
     let Asked::Change {
         id,
         extended,
@@ -70,13 +71,20 @@ fn judged_in(s: &[u8], at: usize, room: &mut [u8]) -> Changed {
     if length > room.len() {
         return Changed::Bad;
     }
-    let j = page_change::change(id, extended, &mut room[0..length], start, raw);
+    let j = page_change::change_on(iface, id, extended, &mut room[0..length], start, raw);
     Changed::Is(j, length)
 }
 
-// `change ID x|s HEX START RAW`
-pub fn change(s: &[u8], at: usize, room: &mut [u8], out: &mut [u8], pen: Pen) -> Pen {
-    match judged_in(s, at, room) {
+// `change ID x|s HEX START RAW`, `change1 ..`
+pub fn change(
+    iface: Interface,
+    s: &[u8],
+    at: usize,
+    room: &mut [u8],
+    out: &mut [u8],
+    pen: Pen,
+) -> Pen {
+    match judged_in(iface, s, at, room) {
         Changed::Bad => answer::unknown(out, pen),
         Changed::Is(j, length) => put_changed(out, pen, j, front(room, length)),
     }

@@ -1,4 +1,4 @@
-// The step `write`.
+// The steps `write` and `write1`.
 use desk_buffers::front;
 use desk_values::message;
 use desk_values::message::MOST;
@@ -8,9 +8,10 @@ use desk_values::values::Made;
 use notation_answers::answer;
 use notation_read::fields;
 use notation_read::fields::Head;
+use page_rows::FoundMessage;
+use page_rows::Interface;
 use page_write::Written;
 use refusals::Refusal;
-use rules::KINDS;
 use text_bytes::Bytes;
 use text_pen::Pen;
 
@@ -61,7 +62,7 @@ enum Done {
     Is(Written),
 }
 
-fn carried_out(o: Order, room: &mut [u8]) -> Done {
+fn carried_out(iface: Interface, o: Order, room: &mut [u8]) -> Done {
     let length = o.length;
     let v = o.values;
     if v.count == 0 {
@@ -70,13 +71,20 @@ fn carried_out(o: Order, room: &mut [u8]) -> Done {
     if length > room.len() {
         return Done::Bad;
     }
-    ordered(values::kind_with(o.id, o.extended), v, &mut room[0..length])
+    by_pages(iface, o.id, o.extended, v, &mut room[0..length])
 }
 
-fn ordered(kind: usize, v: Values, buf: &mut [u8]) -> Done {
-    if KINDS <= kind {
-        return Done::NoKind;
+fn by_pages(iface: Interface, id: u32, extended: bool, v: Values, buf: &mut [u8]) -> Done {
+    match iface {
+        Interface::Newer => ordered(page_rows::message_with_id(id, extended), v, buf),
+        Interface::Older => ordered_older(page_rows::older_with_id(id, extended), v, buf),
     }
+}
+
+fn ordered(found: FoundMessage, v: Values, buf: &mut [u8]) -> Done {
+    let FoundMessage::At(kind, _, _, _) = found else {
+        return Done::NoKind;
+    };
     if v.count != message::count_of(kind) {
         return Done::Bad;
     }
@@ -90,11 +98,35 @@ fn written(m: Made, buf: &mut [u8]) -> Written {
     }
 }
 
-// `write ID x|s VALUES HEX`
-pub fn write(s: &[u8], at: usize, room: &mut [u8], out: &mut [u8], pen: Pen) -> Pen {
+fn ordered_older(found: FoundMessage, v: Values, buf: &mut [u8]) -> Done {
+    let FoundMessage::At(kind, _, _, _) = found else {
+        return Done::NoKind;
+    };
+    if v.count != desk_older::count_of(kind) {
+        return Done::Bad;
+    }
+    Done::Is(written_older(desk_older::message_of(kind, v), buf))
+}
+
+fn written_older(m: desk_older::Made, buf: &mut [u8]) -> Written {
+    match m {
+        desk_older::Made::Message(m) => older::write(m, buf),
+        desk_older::Made::Nothing => Written::Refused(Refusal::NoRawNumber),
+    }
+}
+
+// `write ID x|s VALUES HEX`, `write1 ..`
+pub fn write(
+    iface: Interface,
+    s: &[u8],
+    at: usize,
+    room: &mut [u8],
+    out: &mut [u8],
+    pen: Pen,
+) -> Pen {
     let o = write_line(s, at, room);
     let length = o.length;
-    let d = carried_out(o, room);
+    let d = carried_out(iface, o, room);
     put_done(out, pen, d, front(room, length))
 }
 
