@@ -5,6 +5,7 @@ use crate::word::Showing;
 use crate::word::Telling;
 use desk_table::Line;
 use notation_answers::answer;
+use page_rows::Interface;
 use text_pen::Pen;
 use watch_rules::Table;
 
@@ -46,9 +47,12 @@ fn shown(
         Showing::No => told(word::telling_word(word), s, at, room, out, pen),
         Showing::Record => desk_record::show(table, s, at, out, pen),
         Showing::Refused => desk_record::refused(table, s, at, out, pen),
-        Showing::Read => desk_codec::read(s, at, room, out, pen),
-        Showing::Change => desk_codec::change(s, at, room, out, pen),
-        Showing::Write => desk_codec::write(s, at, room, out, pen),
+        Showing::Read => desk_codec::read(Interface::Newer, s, at, room, out, pen),
+        Showing::Change => desk_codec::change(Interface::Newer, s, at, room, out, pen),
+        Showing::Write => desk_codec::write(Interface::Newer, s, at, room, out, pen),
+        Showing::ReadOlder => desk_codec::read(Interface::Older, s, at, room, out, pen),
+        Showing::ChangeOlder => desk_codec::change(Interface::Older, s, at, room, out, pen),
+        Showing::WriteOlder => desk_codec::write(Interface::Older, s, at, room, out, pen),
     }
 }
 

@@ -29,7 +29,7 @@ pub fn changing_word(word: &[u8]) -> Changing {
     Changing::No
 }
 
-// The steps on the table as it is, and on a frame by itself.
+// The steps on the table as it is, and on a frame by itself, by the pages of either interface.
 pub enum Showing {
     No,
     Record,
@@ -37,6 +37,9 @@ pub enum Showing {
     Read,
     Change,
     Write,
+    ReadOlder,
+    ChangeOlder,
+    WriteOlder,
 }
 
 pub fn showing_word(word: &[u8]) -> Showing {
@@ -54,6 +57,15 @@ pub fn showing_word(word: &[u8]) -> Showing {
     }
     if check::same(word, b"write") {
         return Showing::Write;
+    }
+    if check::same(word, b"read1") {
+        return Showing::ReadOlder;
+    }
+    if check::same(word, b"change1") {
+        return Showing::ChangeOlder;
+    }
+    if check::same(word, b"write1") {
+        return Showing::WriteOlder;
     }
     Showing::No
 }

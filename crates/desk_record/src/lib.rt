@@ -1,7 +1,9 @@
 // A post's record as one line, and the table's count of what was refused: the steps `record` and `refused`, for the desk alone.
 use desk_values::message;
+use message_types::PROBES;
 use message_types::Plug;
 use message_types::Protocol;
+use message_types::SAFETY_CONTROL;
 use message_types::labels::plug_number;
 use message_types::labels::protocol_number;
 use notation_answers::answer;
@@ -9,12 +11,13 @@ use notation_answers::answer::named;
 use notation_read::fields;
 use notation_read::fields::Last;
 use rule_limits::Limits;
+use rule_limits::kept::interface_number;
 use rule_limits::kept::sensor_number;
 use rules::Dated;
 use rules::FINDINGS;
-use rules::KINDS;
 use rules::LastTime;
 use rules::OpenSession;
+use rules::PLACES;
 use rules::Record;
 use rules::SessionPart;
 use text_pen::Pen;
@@ -36,6 +39,10 @@ fn put_dated(out: &mut [u8], pen: Pen, d: Dated) -> Pen {
             let p = message::put(out, pen, m);
             put_time(out, p, b"@", time, age)
         }
+        Dated::OlderAt(time, age, m) => {
+            let p = desk_older::put(out, pen, m);
+            put_time(out, p, b"@", time, age)
+        }
     }
 }
 
@@ -45,11 +52,17 @@ fn put_defaults(out: &mut [u8], pen: Pen, l: Limits) -> Pen {
     named(out, q, b" dis=", l.discharge)
 }
 
-fn put_limits(out: &mut [u8], pen: Pen, l: Limits) -> Pen {
+fn put_choices(out: &mut [u8], pen: Pen, l: Limits) -> Pen {
     let sensor = l.sensor;
+    let interface = l.interface;
+    let p = named(out, pen, b" sensor=", sensor_number(sensor));
+    named(out, p, b" iface=", interface_number(interface))
+}
+
+fn put_limits(out: &mut [u8], pen: Pen, l: Limits) -> Pen {
     let p = put_defaults(out, pen, l);
     let q = named(out, p, b" w=", l.silence);
-    named(out, q, b" sensor=", sensor_number(sensor))
+    put_choices(out, q, l)
 }
 
 fn put_last(out: &mut [u8], pen: Pen, l: LastTime) -> Pen {
@@ -91,6 +104,7 @@ fn is_known(d: Dated) -> bool {
     match d {
         Dated::Nothing => false,
         Dated::At(_, _, _) => true,
+        Dated::OlderAt(_, _, _) => true,
     }
 }
 
@@ -100,7 +114,15 @@ struct Listed {
     some: bool,
 }
 
-// desk.md: "standard identifiers first, then extended, each ascending by identifier"; so the kinds of each form stand.
+// 004's messages alone have standard identifiers: their places stand between those of the other documents, whose identifiers ascend by place.
+fn is_standard(place: usize) -> bool {
+    if place < SAFETY_CONTROL {
+        return false;
+    }
+    place <= PROBES
+}
+
+// desk.md: "standard identifiers first, then extended, each ascending by identifier"
 fn put_latest(out: &mut [u8], pen: Pen, r: Record) -> Pen {
     let none = Listed { pen, some: false };
     let standard = put_form(out, none, r, false);
@@ -111,10 +133,10 @@ fn put_latest(out: &mut [u8], pen: Pen, r: Record) -> Pen {
 fn put_form(out: &mut [u8], listed: Listed, r: Record, extended: bool) -> Listed {
     let mut l = listed;
     let mut k = 0;
-    while k < KINDS {
+    while k < PLACES {
         let latest = r.latest[k];
         let d = latest.message;
-        let is_in = page_rows::is_extended(k) == extended;
+        let is_in = is_standard(k) != extended;
         l = put_next(out, l, is_in, d);
         k += 1;
     }

@@ -41,7 +41,7 @@ fn respaced(s: &[u8], room: &mut [u8]) -> usize {
     i
 }
 
-// `POST,CHANNEL,VOLT,CHG,DIS,W[,SENSOR]`: the fields of a `setup` line, whose spaces are commas here.
+// `POST,CHANNEL,VOLT,CHG,DIS,W[,SENSOR[,IFACE]]`: the fields of a `setup` line, whose spaces are commas here.
 fn asked_in(s: &[u8], room: &mut [u8]) -> Asked {
     let n = respaced(s, room);
     if n > room.len() {
@@ -61,6 +61,7 @@ fn prepared(r: Ready, a: Asked) -> Ready {
             discharge,
             silence,
             sensor,
+            interface,
         } => {
             let limits = PlainLimits {
                 voltage,
@@ -68,6 +69,7 @@ fn prepared(r: Ready, a: Asked) -> Ready {
                 discharge,
                 silence,
                 sensor,
+                interface,
             };
             let p = playing_setups::set_up(r.replay, post, channel, limits);
             let replay = p.replay;

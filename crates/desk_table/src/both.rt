@@ -15,8 +15,9 @@ pub fn set_up(
     discharge: u32,
     silence: u32,
     sensor: u32,
+    interface: u32,
 ) -> Lent
-    ensures { λ r. ⌜ r ≡ setUpWord t post channel voltage charge discharge silence sensor ⌝ }
+    ensures { λ r. ⌜ r ≡ setUpWord t post channel voltage charge discharge silence sensor interface ⌝ }
 {
     if lent {
         return gateway::lend_set_up(
@@ -28,6 +29,7 @@ pub fn set_up(
             discharge,
             silence,
             sensor,
+            interface,
         );
     }
     lent_words::settled(
@@ -39,6 +41,7 @@ pub fn set_up(
         discharge,
         silence,
         sensor,
+        interface,
     )
 }
 

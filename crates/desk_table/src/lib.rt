@@ -44,7 +44,7 @@ fn found(r: Lent, out: &mut [u8], pen: Pen) -> Line {
     }
 }
 
-// `setup POST CHANNEL VOLT CHG DIS W [SENSOR]`
+// `setup POST CHANNEL VOLT CHG DIS W [SENSOR [IFACE]]`
 pub fn setup(lent: bool, table: Table, s: &[u8], at: usize, out: &mut [u8], pen: Pen) -> Line {
     let Asked::Setup {
         post,
@@ -54,6 +54,7 @@ pub fn setup(lent: bool, table: Table, s: &[u8], at: usize, out: &mut [u8], pen:
         discharge,
         silence,
         sensor,
+        interface,
     } = setup::setup_line(s, at)
     else {
         return unknown(table, out, pen);
@@ -68,6 +69,7 @@ pub fn setup(lent: bool, table: Table, s: &[u8], at: usize, out: &mut [u8], pen:
         discharge,
         silence,
         sensor,
+        interface,
     );
     set(r, out, pen)
 }

@@ -52,10 +52,10 @@ abbrev pub start-says : (n : ℕ) (κs : Lfts n) → PlainReplay → (a : Denots
 start-says n κs h a r ws = r ≡ startBy h
 
 abbrev pub set-up-takes : (n : ℕ) → Handing n
-set-up-takes n = handing.word (handing.word (handing.word (handing.word (handing.word (handing.word (handing.word handing.no-more))))))
+set-up-takes n = handing.word (handing.word (handing.word (handing.word (handing.word (handing.word (handing.word (handing.word handing.no-more)))))))
 
 abbrev pub set-up-says : (n : ℕ) (κs : Lfts n) → PlainReplay → (a : Denots (typesAt (set-up-takes n .slots) κs)) → Says (set-up-takes n .slots) κs a
-set-up-says n κs h a r ws = r ≡ setUpBy h (a .0) (a .1 .0) (a .1 .1 .0) (a .1 .1 .1 .0) (a .1 .1 .1 .1 .0) (a .1 .1 .1 .1 .1 .0) (a .1 .1 .1 .1 .1 .1 .0)
+set-up-says n κs h a r ws = r ≡ setUpBy h (a .0) (a .1 .0) (a .1 .1 .0) (a .1 .1 .1 .0) (a .1 .1 .1 .1 .0) (a .1 .1 .1 .1 .1 .0) (a .1 .1 .1 .1 .1 .1 .0) (a .1 .1 .1 .1 .1 .1 .1 .0)
 
 -- the log is lent for the lifetime numbered i, the line's buffer for j, the place of the next byte for k
 abbrev pub line-takes : (n i j k : ℕ) → Within n i → Within n j → Within n k → Handing n

@@ -26,8 +26,9 @@ pub extern "C" fn rokemaipu_replay_set_up(
     discharge: u32,
     silence: u32,
     sensor: u32,
+    interface: u32,
 ) -> u32
-    ensures { λ a. ⌜ (a ≡ setUpBy (now (r .entry)) post channel voltage charge discharge silence sensor .answer) × (now (r .exit) ≡ setUpBy (now (r .entry)) post channel voltage charge discharge silence sensor .replay) ⌝ }
+    ensures { λ a. ⌜ (a ≡ setUpBy (now (r .entry)) post channel voltage charge discharge silence sensor interface .answer) × (now (r .exit) ≡ setUpBy (now (r .entry)) post channel voltage charge discharge silence sensor interface .replay) ⌝ }
 {
     let q = settled(
         *r,
@@ -38,6 +39,7 @@ pub extern "C" fn rokemaipu_replay_set_up(
         discharge,
         silence,
         sensor,
+        interface,
     );
     *r = q.replay;
     q.answer

@@ -11,11 +11,13 @@ use Rattle.page_rows.specs.declared.Found.{Found}
 use Rattle.page_rows.specs.declared.Found.the-variants.{At, Nothing}
 use Rattle.page_read.specs.declared.Judged.{Judged}
 use Rattle.page_read.specs.declared.Judged.the-variants as judged
-use Rattle.page_rows.specs.declared.Interface.the-variants.{Newer}
+use Rattle.page_rows.specs.declared.Interface.{Interface}
 use Rattle.page_rows.specs.Table.{rows, rowsOf, noRow}
 use Rattle.page_rows.specs.Interfaces.{withId}
-use Rattle.page_read.specs.Judge.{unlabelled, offends, offender, strayBelow, judgedNumber, judgedAt, judgeOf}
+use Rattle.page_read.specs.Judge.{unlabelled, offends, offender, strayBelow, judgedNumber, judgedAt, judgeOn}
+use Rattle.page_interfaces.specs.Foreign.{isForeign, judgeFor}
 use Rattle.rule_limits.specs.declared.PlainLimits.{PlainLimits}
+use Rattle.rule_limits.specs.Sensor.{interfaceOf}
 use Rattle.rules.specs.History.{Event, History, frame, tick}
 use Rattle.rules.specs.Times.{stampOf, earlierIn}
 use Rattle.rule_asks.specs.Judgements.{bit}
@@ -93,9 +95,9 @@ unfolding judgedNumber
 number-small k bits n =
     by-cond Unread-small (unlabelled n (rowsOf k)) _ _ (omega arith, omega (arith, offender-le n (rowsOf k))) (by-cond Unread-small (strayBelow bits n (rowsOf k)) _ _ (omega arith, omega arith) tt)
 
-judged-small : (m : ℕ) (extended : Bool) (bs : List ℕ) → Unread-small (judgeOf m extended bs)
-unfolding judgeOf
-judged-small m extended bs = at-place (withId Newer m extended)
+judged-small : (iface : Interface) (m : ℕ) (extended : Bool) (bs : List ℕ) → Unread-small (judgeFor iface m extended bs)
+unfolding judgeFor judgeOn
+judged-small iface m extended bs = by-cond Unread-small (isForeign iface m extended) _ _ (omega arith, omega arith) (at-place (withId iface m extended))
   where
     at-place : (f : Found) → Unread-small (judgedAt bs f)
     at-place Nothing = (omega arith, omega arith)
@@ -113,7 +115,7 @@ Arrival-small (Unread w) = InWords (Refused w)
 
 arrival-small : (x : Rec) (lim : PlainLimits) → Arrival-small (arrivalIn x lim)
 arrival-small (rec.tick time c) lim = tt
-arrival-small (rec.frame time c extended id payload) lim = go (judgeOf id extended payload) (judged-small id extended payload)
+arrival-small (rec.frame time c extended id payload) lim = go (judgeFor (interfaceOf (lim .interface)) id extended payload) (judged-small (interfaceOf (lim .interface)) id extended payload)
   where
     go : (j : Judged) → Unread-small j → Arrival-small (arrivalOf j)
     go (judged.Frame k n) h = tt

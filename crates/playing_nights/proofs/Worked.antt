@@ -45,7 +45,7 @@ abbrev posts : List Wanted
 posts = set-up 0 2 ∷ []
 
 abbrev one : List Request
-one = setUp 0 2 (record { voltage = 10000; charge = 10000; discharge = 10000; silence = 500; sensor = 0 }) ∷ []
+one = setUp 0 2 (record { voltage = 10000; charge = 10000; discharge = 10000; silence = 500; sensor = 0; interface = 0 }) ∷ []
 
 abbrev buffer : List ℕ
 buffer = replicate lineRoom 0

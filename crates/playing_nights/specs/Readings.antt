@@ -38,7 +38,7 @@ line-forms = refl
 -- ---- nights
 
 abbrev limits : PlainLimits
-limits = record { voltage = 5000; charge = 1000; discharge = 500; silence = 500; sensor = 0 }
+limits = record { voltage = 5000; charge = 1000; discharge = 500; silence = 500; sensor = 0; interface = 0 }
 
 abbrev pub set-up : ℕ → ℕ → Wanted
 set-up i c = (i, c, limits)

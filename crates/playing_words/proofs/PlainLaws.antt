@@ -108,10 +108,10 @@ set-up-plain q i c lim e = go (q .course) refl
     go (Refused w) f = rw f (rw f at e)
 
 -- a set-up leaves the replay that it leaves by value
-pub set-up-same : (r : PlainReplay) (i c volt chg dis w sensor : ℕ)
-    → replayOf (setUpBy r i c volt chg dis w sensor .replay) ≡ setUpIn (replayOf r) i c (record { voltage = volt; charge = chg; discharge = dis; silence = w; sensor = sensor }) .replay
+pub set-up-same : (r : PlainReplay) (i c volt chg dis w sensor interface : ℕ)
+    → replayOf (setUpBy r i c volt chg dis w sensor interface .replay) ≡ setUpIn (replayOf r) i c (record { voltage = volt; charge = chg; discharge = dis; silence = w; sensor = sensor; interface = interface }) .replay
 unfolding setUpBy
-set-up-same r i c volt chg dis w sensor = back _ (set-up-plain (replayOf r) i c (record { voltage = volt; charge = chg; discharge = dis; silence = w; sensor = sensor }) (any-plain (r .course)))
+set-up-same r i c volt chg dis w sensor interface = back _ (set-up-plain (replayOf r) i c (record { voltage = volt; charge = chg; discharge = dis; silence = w; sensor = sensor; interface = interface }) (any-plain (r .course)))
 
 pub start-same : (r : PlainReplay) → replayOf (startBy r .replay) ≡ fresh
 unfolding startBy

@@ -55,8 +55,8 @@ preparedBy p = record { replay = plainOf (p .replay); answer = preparedWord (p .
 unfoldable pub startBy : PlainReplay → LentReplay
 startBy r = record { replay = plainOf fresh; answer = 0 }
 
-unfoldable pub setUpBy : PlainReplay → ℕ → ℕ → ℕ → ℕ → ℕ → ℕ → ℕ → LentReplay
-setUpBy r i c volt chg dis w sensor = preparedBy (setUpIn (replayOf r) i c (record { voltage = volt; charge = chg; discharge = dis; silence = w; sensor = sensor }))
+unfoldable pub setUpBy : PlainReplay → ℕ → ℕ → ℕ → ℕ → ℕ → ℕ → ℕ → ℕ → LentReplay
+setUpBy r i c volt chg dis w sensor interface = preparedBy (setUpIn (replayOf r) i c (record { voltage = volt; charge = chg; discharge = dis; silence = w; sensor = sensor; interface = interface }))
 
 -- ---- calls
 

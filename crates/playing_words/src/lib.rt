@@ -122,8 +122,9 @@ pub fn settled(
     discharge: u32,
     silence: u32,
     sensor: u32,
+    interface: u32,
 ) -> LentReplay
-    ensures { λ q. ⌜ q ≡ setUpBy r post channel voltage charge discharge silence sensor ⌝ }
+    ensures { λ q. ⌜ q ≡ setUpBy r post channel voltage charge discharge silence sensor interface ⌝ }
 {
     let limits = PlainLimits {
         voltage,
@@ -131,6 +132,7 @@ pub fn settled(
         discharge,
         silence,
         sensor,
+        interface,
     };
     let p = playing_setups::set_up(replay_of(r), post, channel, limits);
     let q = p.replay;

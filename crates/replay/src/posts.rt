@@ -80,6 +80,7 @@ fn asked(p: Posts, name: &[u8], a: Asked) -> Posts {
             discharge,
             silence,
             sensor,
+            interface,
         } => {
             let limits = PlainLimits {
                 voltage,
@@ -87,6 +88,7 @@ fn asked(p: Posts, name: &[u8], a: Asked) -> Posts {
                 discharge,
                 silence,
                 sensor,
+                interface,
             };
             prepared(p, name, post, channel, limits)
         }
