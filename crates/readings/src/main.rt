@@ -2,6 +2,7 @@
 // What is printed is held to the file stdout beside src/. The readings through the watch stand in `readings_posts`, messages in words in `readings_messages`.
 mod changes; // changes.rt: one signal changed
 mod frames; // frames.rt: frames read
+mod older_frames; // older_frames.rt: frames of document 001
 mod safety; // safety.rt: the safety controller
 mod screen; // screen.rt: a probe and a duty, a line each
 mod show; // show.rt: a frame read and a signal changed, a line each
@@ -10,6 +11,7 @@ mod writings; // writings.rt: messages written
 
 use readings_messages::show::text;
 use readings_messages::trips;
+use readings_posts::older;
 use readings_posts::posts;
 
 fn codec() {
@@ -17,6 +19,7 @@ fn codec() {
     writings::all();
     changes::all();
     safety::all();
+    older_frames::all();
     text(b"read-write, write-read and one-message, run on two frames of each kind\n");
     trips::all();
 }
@@ -24,4 +27,5 @@ fn codec() {
 fn main() {
     codec();
     posts::all();
+    older::all();
 }

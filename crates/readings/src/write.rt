@@ -15,23 +15,26 @@ use readings_messages::show::refusal;
 use readings_messages::show::short;
 use readings_messages::show::text;
 
-fn written(m: Message, buf: &mut [u8]) {
-    let w = messages::write(m, buf);
-    text(b" -> ");
-    bytes(buf);
-    text(b" ");
+// `ID, N bytes`, or the refusal
+pub fn written(w: Written) {
     match w {
         Written::Wrote(id, len) => {
             hex(id as u64, 1);
             text(b", ");
             natural(len as u64);
-            text(b" bytes\n");
+            text(b" bytes");
         }
-        Written::Refused(r) => {
-            refusal(r);
-            text(b"\n");
-        }
+        Written::Refused(r) => refusal(r),
     }
+}
+
+fn write(m: Message, buf: &mut [u8]) {
+    let w = messages::write(m, buf);
+    text(b" -> ");
+    bytes(buf);
+    text(b" ");
+    written(w);
+    text(b"\n");
 }
 
 // E1's message with another temperature of the modules and another insulation.
@@ -46,12 +49,12 @@ pub fn write_status(shown: &[u8], modules: i16, insulation: u16, buf: &mut [u8])
         enable: SystemEnable::Allowed,
         insulation,
     });
-    written(m, buf);
+    write(m, buf);
 }
 
 pub fn write_session(protocol: Protocol, plug: Plug, buf: &mut [u8]) {
     text(b"  write a New_Charge_Session");
-    written(Message::Session(NewChargeSession { protocol, plug }), buf);
+    write(Message::Session(NewChargeSession { protocol, plug }), buf);
 }
 
 // A ChargeControl1 with PWM active and both contactors open.
@@ -64,7 +67,7 @@ pub fn write_duty(duty: u16, buf: &mut [u8]) {
         contactor1: false,
         contactor2: false,
     });
-    written(m, buf);
+    write(m, buf);
 }
 
 // A PT1000State with 0.0 C in the other three probes.
@@ -85,5 +88,5 @@ pub fn write_probe(temperature1: i16, buf: &mut [u8]) {
         stopped4: false,
         failed4: false,
     });
-    written(m, buf);
+    write(m, buf);
 }

@@ -9,6 +9,7 @@ use crate::steps::set_up;
 use crate::steps::standard;
 use crate::steps::tick;
 use readings_messages::show::text;
+use rule_limits::Interface;
 use rule_limits::Sensor;
 use watch_rules::Table;
 
@@ -149,6 +150,7 @@ fn lowest(voltage: u32) -> rule_limits::Limits {
         discharge: 0,
         silence: 100,
         sensor: Sensor::Measuring,
+        interface: Interface::Newer,
     }
 }
 

@@ -6,11 +6,13 @@ use readings_messages::show::natural;
 use readings_messages::show::refusal;
 use readings_messages::show::text;
 use refusals::Refusal;
+use rule_limits::Interface;
 use rule_limits::Limits;
 use rule_limits::Sensor;
 use rules::Dated;
-use rules::KINDS;
 use rules::LastTime;
+use rules::OpenSession;
+use rules::PLACES;
 use rules::SessionPart;
 use watch_rules::Answer;
 use watch_rules::Setting;
@@ -47,18 +49,27 @@ fn at(channel: u32, time: u32) {
 }
 
 // Default voltage 500.0 V, charge 100.0 A, discharge 50.0 A, W 500 ms.
-pub fn limits_with(sensor: Sensor) -> Limits {
+fn limits_for(sensor: Sensor, interface: Interface) -> Limits {
     Limits {
         voltage: 5000,
         charge: 1000,
         discharge: 500,
         silence: 500,
         sensor,
+        interface,
     }
 }
 
+pub fn limits_with(sensor: Sensor) -> Limits {
+    limits_for(sensor, Interface::Newer)
+}
+
 pub fn limits() -> Limits {
-    limits_with(Sensor::Measuring)
+    limits_for(Sensor::Measuring, Interface::Newer)
+}
+
+pub fn older_limits() -> Limits {
+    limits_for(Sensor::Measuring, Interface::Older)
 }
 
 pub fn set_up(t: Table, post: u32, channel: u32, limits: Limits) -> Table {
@@ -130,6 +141,13 @@ fn sensor(x: Sensor) {
     }
 }
 
+fn interface(x: Interface) {
+    match x {
+        Interface::Newer => text(b"newer, "),
+        Interface::Older => text(b"older, "),
+    }
+}
+
 fn session(s: SessionPart) {
     match s {
         SessionPart::Closed => text(b"no session\n"),
@@ -139,8 +157,19 @@ fn session(s: SessionPart) {
             text(b", ");
             natural(o.age as u64);
             text(b" ms ago\n");
+            kept(o);
         }
     }
+}
+
+// What the session keeps.
+fn kept(o: OpenSession) {
+    let status = o.status;
+    let control = o.control;
+    text(b"    status: ");
+    dated(status);
+    text(b"    control: ");
+    dated(control);
 }
 
 pub fn record(t: Table, post: u32) {
@@ -158,6 +187,8 @@ pub fn record(t: Table, post: u32) {
             let limits = shown.limits;
             let x = limits.sensor;
             sensor(x);
+            let i = limits.interface;
+            interface(i);
             let l = shown.last;
             last_time(l);
             let s = shown.session;
@@ -166,23 +197,28 @@ pub fn record(t: Table, post: u32) {
     }
 }
 
+fn kind_at(kind: usize, time: u32, age: u32) {
+    text(b"kind ");
+    natural(kind as u64);
+    text(b" at ");
+    natural(time as u64);
+    text(b", ");
+    natural(age as u64);
+    text(b" ms ago\n");
+}
+
 fn dated(d: Dated) {
     match d {
         Dated::Nothing => text(b"nothing\n"),
-        Dated::At(time, age, m) => {
-            text(b"kind ");
-            natural(kind_of(m) as u64);
-            text(b" at ");
-            natural(time as u64);
-            text(b", ");
-            natural(age as u64);
-            text(b" ms ago\n");
-        }
+        Dated::At(time, age, m) => kind_at(kind_of(m), time, age),
+        Dated::OlderAt(time, age, m) => kind_at(older_types::kind_of(m), time, age),
     }
 }
 
+// What stands at the kind's place.
 pub fn latest(t: Table, post: u32, kind: usize) {
-    if KINDS <= kind {
+    let place = rule_pages::place_by(kind);
+    if PLACES <= place {
         return;
     }
     text(b"  latest of kind ");
@@ -190,7 +226,7 @@ pub fn latest(t: Table, post: u32, kind: usize) {
     text(b" -> ");
     let r = watch::look_up(t, post);
     let shown = r.shown;
-    let l = shown.latest[kind];
+    let l = shown.latest[place];
     let d = l.message;
     dated(d);
 }
