@@ -7,6 +7,8 @@ use Rattle.refusals.specs.declared.Refusal.the-variants.{ChannelFree, Earlier, 
 use Rattle.rule_limits.specs.declared.PlainLimits.{PlainLimits}
 use Rattle.rules.specs.After.{stampIn, agedTo, silentIn, lateAfter, anyFindings, withCounts, afterTick}
 use Rattle.log_numbers.specs.Number.{readGroups}
+use Rattle.page_rows.specs.Table.{rows, firstAt}
+use Rattle.page_interfaces.specs.Foreign.{isForeign, judgeFor}
 use Rattle.log_records.specs.Reading.{lengthPart, identifierPart, channelPart, timePart, recordAt}
 use Rattle.text_numbers.specs.Numbers.{glyphOf, digitsIn, numeral}
 use Rattle.text_pen.specs.Pens.{textOf}
@@ -37,11 +39,15 @@ line-forms = refl
 
 -- ---- nights
 
-abbrev limits : PlainLimits
-limits = record { voltage = 5000; charge = 1000; discharge = 500; silence = 500; sensor = 0; interface = 0 }
+-- of an interface by its number
+abbrev limits : ℕ → PlainLimits
+limits n = record { voltage = 5000; charge = 1000; discharge = 500; silence = 500; sensor = 0; interface = n }
 
 abbrev pub set-up : ℕ → ℕ → Wanted
-set-up i c = (i, c, limits)
+set-up i c = (i, c, limits 0)
+
+abbrev older : ℕ → ℕ → Wanted
+older i c = (i, c, limits 1)
 
 -- "log AC 02 02 00 09 AC 02 03 00 09: lines "1 0 A0" and "2 - R1""
 abbrev pub ticks : List ℕ
@@ -53,6 +59,14 @@ told = (49 ∷ 32 ∷ 48 ∷ 32 ∷ 65 ∷ 48 ∷ 10 ∷ []) ∷ (50 ∷ 32 ∷ 
 -- a tick at 299
 abbrev earlier-tick : List ℕ
 earlier-tick = 0xab ∷ 0x02 ∷ 0x02 ∷ 0x00 ∷ 0x09 ∷ []
+
+-- 000's Advantics_Controller_Status on channel 2, and 001's on channel 3
+abbrev statuses : List ℕ
+statuses = 0x00 ∷ 0x02 ∷ 0x81 ∷ 0xc0 ∷ 0x35 ∷ 0x01 ∷ 0x07 ∷ 0x00 ∷ 0x03 ∷ 0x93 ∷ 0x80 ∷ 0x34 ∷ 0x01 ∷ 0x07 ∷ []
+
+-- "1 0 R29", "2 1 R29"
+abbrev foreign : List (List ℕ)
+foreign = (49 ∷ 32 ∷ 48 ∷ 32 ∷ 82 ∷ 50 ∷ 57 ∷ 10 ∷ []) ∷ (50 ∷ 32 ∷ 49 ∷ 32 ∷ 82 ∷ 50 ∷ 57 ∷ 10 ∷ []) ∷ []
 
 -- set-ups, a log, the bytes of the line buffer, and the night
 abbrev Case : Type 0
@@ -71,8 +85,10 @@ cases =
     ∷ (set-up 0 2 ∷ set-up 1 2 ∷ [], ticks, lineRoom, record { lines = []; ending = SetUp ChannelTaken })
     -- "a line buffer under 40 bytes gets 8 first"
     ∷ (set-up 8 2 ∷ [], ticks, 39, record { lines = []; ending = Short })
+    -- Req 11: an older post and a newer one, each with the other's frame
+    ∷ (older 0 2 ∷ set-up 1 3 ∷ [], statuses, lineRoom, record { lines = foreign; ending = End })
     ∷ []
 
 pub readings : map (λ e. runOf (e .0) (e .1) (replicate (e .2) 0)) cases ≡ map (λ e. e .3) cases
-unfolding callsFrom setUpsFrom setUpIn callOf lineCall lineOf refusedWords textOf numeral digitsIn glyphOf setUpOf isOther limitsFit placeOf feedOf feedAt heardOf withCounts afterTick anyFindings silentIn lateAfter stampIn agedTo recordAt timePart channelPart identifierPart lengthPart readGroups
+unfolding callsFrom setUpsFrom setUpIn callOf lineCall lineOf refusedWords textOf numeral digitsIn glyphOf setUpOf isOther limitsFit placeOf feedOf feedAt heardOf withCounts afterTick anyFindings silentIn lateAfter stampIn agedTo recordAt timePart channelPart identifierPart lengthPart readGroups judgeFor isForeign firstAt rows
 readings = refl

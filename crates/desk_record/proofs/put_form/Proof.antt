@@ -1,4 +1,4 @@
--- `desk_record::put_form`: the buffer keeps its length over the kinds of a form.
+-- `desk_record::put_form`: the buffer keeps its length over the places of a form.
 use mathlib.Core.Path.{_≡_}
 use Prim.Native.Nat.{_-_}
 use lib.ListN.{length}
@@ -10,7 +10,7 @@ abbrev Inv-loop : tie.InvT-loop
 Inv-loop out₀ r extended l₀ k₀ out l k = length out ≡ length out₀
 
 abbrev μ-loop : tie.MeasureT-loop
-μ-loop out₀ r extended l₀ k₀ out l k = 12 - k
+μ-loop out₀ r extended l₀ k₀ out l k = 21 - k
 
 loop-holds : tie.Need-loop-holds Inv-loop μ-loop
 loop-holds c = search needs
@@ -21,8 +21,8 @@ mul-latest c = search needs
 element-copy-out-latest : tie.Need-element-copy-out-latest Inv-loop μ-loop
 element-copy-out-latest c = search needs
 
-is-extended-requires : tie.Need-is-extended-requires Inv-loop μ-loop
-is-extended-requires c κs = search needs
+is-standard-requires : tie.Need-is-standard-requires Inv-loop μ-loop
+is-standard-requires c κs = search needs
 
 put-next-requires : tie.Need-put-next-requires Inv-loop μ-loop
 put-next-requires c κs = search needs
@@ -51,7 +51,7 @@ put-form-spec =
     loop-holds
     mul-latest
     element-copy-out-latest
-    is-extended-requires
+    is-standard-requires
     put-next-requires
     add-k
     loop-less
