@@ -8,7 +8,8 @@
 # make install    programs with their wrappers, the library, manual pages: PREFIX (/usr/local), DESTDIR, PROCESSOR and PROGRAM_PREFIX as packaging/install says
 # make uninstall  what make install installed, by the same words
 # make deb        target/deb/rokemaipu_VERSION_ARCH.deb for amd64 and arm64, of the same install
-# make bench  the library and the replay beside plain C in one run, and the panel beside the replay; BEFORE=REVISION, the library beside that revision of itself too
+# make bench  the library and the replay beside plain C in one run, the panel beside the replay; BEFORE=REVISION, the library beside that revision of itself
+#             too
 # make panel  the panel over a scratch log, to which the March night is appended at its own pace: NIGHT and POSTS as above, PORT (8600); Ctrl-C ends it
 # make report a night as a page, target/report/NAME.html: NIGHT and POSTS as above; PICTURE=FILE.png takes a picture of it too
 
