@@ -176,11 +176,7 @@ static void set_up(depot *d, uint32_t interface, uint32_t posts, size_t at) {
     d->mix = interface == ROKEMAIPU_OLDER ? older_mix : mix, d->posts = posts, d->at = at;
     for (const side *s = sides; s < sides + SIDES; s++) {
         s->start(table_of(d, s));
-<<<<<<< HEAD
-        for (uint32_t i = 0; i < posts; i++) s->set_up(table_of(d, s), i, i, 5000, 1000, 500, 500, 0, 0);
-=======
         for (uint32_t i = 0; i < posts; i++) s->set_up(table_of(d, s), i, i, 5000, 1000, 500, 500, 0, interface);
->>>>>>> 2acdfc4964d9b6854efd4a44b7a7f708b1c4cca8
     }
     for (uint32_t turn = 0; turn < 1000; turn++) charge(d, turn);
 }

@@ -9,10 +9,10 @@ from pathlib import Path
 
 ROOT = Path(__file__).resolve().parents[2]
 sys.path += [str(ROOT), str(ROOT / 'tests/nightlog')]
-# set by tests/panel/run: the programs of one processor, and what runs them
-RUN = os.environ.get('PANEL_RUN', '').split()
-PANEL = [*RUN, os.environ.get('PANEL', str(ROOT / 'panel/target/release/panel'))]
-PROGRAMS = ROOT / os.environ.get('PANEL_PROGRAMS', 'target/bin')
+# tests/panel/run says which processor's panel, and what runs it and the programs
+PANEL = os.environ.get('PANEL', str(ROOT / 'panel/target/release/panel')).split()
+RUN = os.environ.get('PROGRAMS_RUN', '').split()
+PROGRAMS = ROOT / os.environ.get('PROGRAMS', 'target/bin')
 
 
 class Panel:

@@ -8,10 +8,9 @@ import unittest
 from pathlib import Path
 
 import events
-from depot import ROOT, RUN
+from depot import ROOT
 
 
-@unittest.skipIf(RUN, 'tools/ runs the programs of this machine')
 class Paced(unittest.TestCase):
     def test_the_march_night(self):
         """F9 stands on post 1 as soon as the recorder's clock has it, and Ctrl-C ends all of it."""
