@@ -70,10 +70,13 @@ bench: lib replay
 	[ -n "$$run" ] || { cargo build --release --offline --quiet --manifest-path panel/Cargo.toml; bench/panel; }
 
 PORT ?= 8600
+archive = target/lib/$(shell uname -m)/librokemaipu.a
 
-panel: lib
-	@rt check nightlog > nightlog.out 2>&1 || { cat nightlog.out; rm -f nightlog.out; exit 1; }
-	@rm -f nightlog.out
+# the archives, where a source is newer than they are
+panel:
+	@[ -f $(archive) ] && [ -z "$$(find crates include \( -name '*.rt' -o -name '*.antt' -o -name '*.h' \) -newer $(archive) -print -quit)" ] || \
+		{ echo "proving and building the library: about 20 minutes, once" >&2; tools/lib; }
+	@rt check nightlog > target/nightlog.out 2>&1 || { cat target/nightlog.out; exit 1; }
 	@panel/night $(POSTS) $(LOG) --port $(PORT)
 
 report: replay

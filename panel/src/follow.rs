@@ -1,12 +1,11 @@
 //! Following the night log: whole records go to the library, batch by batch, and what it answers is kept where it is a finding.
 
-use crate::library::{self, Depot, Found, Refusal, BATCH_BYTES, FINDINGS, POSTS};
+use crate::library::{self, Depot, Found, Refusal, BATCH_BYTES, CHANNELS, FINDINGS, POSTS};
 use crate::log::{Log, Lost};
 use crate::words;
 
 /// A record has four bytes at least.
 const RECORDS: usize = BATCH_BYTES / 4;
-const CHANNELS: usize = 32;
 
 /// How the log stands.
 #[derive(Clone, Debug, PartialEq, Eq)]

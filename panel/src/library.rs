@@ -5,7 +5,7 @@
 mod ffi;
 
 use ffi::*;
-pub use ffi::{BATCH_BYTES, COUNTS, KINDS, POSTS, REFUSED, SIGNALS};
+pub use ffi::{BATCH_BYTES, CHANNELS, COUNTS, KINDS, POSTS, REFUSED, SIGNALS};
 
 /// The findings are F1 to this one.
 pub const FINDINGS: usize = COUNTS - 1;

@@ -1,6 +1,6 @@
 //! POSTS: the desk's `setup` lines, blank lines and comments, as the replay takes them.
 
-use crate::library::{Depot, Refusal, SetUp, POSTS};
+use crate::library::{Depot, Refusal, SetUp};
 use crate::words;
 
 /// No file of set-ups is longer, for the replay either.
@@ -52,7 +52,6 @@ pub fn set_up_all(depot: &mut Depot, text: &[u8]) -> Result<(), Wrong> {
             .set_up(line)
             .map_err(|Refusal(n)| wrong(format!("the set-up is refused, R{n}: {}", words::refusal(n))))?;
     }
-    debug_assert!(POSTS <= 32);
     Ok(())
 }
 

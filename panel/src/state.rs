@@ -230,7 +230,7 @@ mod tests {
         posts::set_up_all(&mut depot, b"setup 0 4 5000 1000 500 500").unwrap();
         let mut words = [0; 2];
         depot.batch(&[100, 4, 0x81, 0xc0, 0x35, 1, 1], &mut words).unwrap();
-        depot.batch(&[0x80 | tick % 128, tick / 128, 4, 0, 9], &mut words).unwrap();
+        depot.batch(&[0x80 | (tick % 128), tick / 128, 4, 0, 9], &mut words).unwrap();
         let fresh = Fresh { recorder, written: None, ago: Duration::from_millis(ago) };
         heard(&depot.look_up(0).unwrap(), &fresh, &readings::looks(&depot, 0)).written()
     }
