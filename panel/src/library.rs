@@ -93,12 +93,18 @@ type Look = unsafe extern "C" fn(*const Table, u32, u32, *mut u32, usize, *mut u
 
 impl Depot {
     pub fn set_up(&mut self, s: SetUp) -> Result<(), Refusal> {
-        // the library has no parameter for it yet: 12, "a post limit outside its range"
-        if s.interface != 0 {
-            return Err(Refusal(12));
-        }
         let word = unsafe {
-            rokemaipu_set_up(&mut *self.table, s.post, s.channel, s.voltage, s.charge, s.discharge, s.silence, s.sensor)
+            rokemaipu_set_up(
+                &mut *self.table,
+                s.post,
+                s.channel,
+                s.voltage,
+                s.charge,
+                s.discharge,
+                s.silence,
+                s.sensor,
+                s.interface,
+            )
         };
         accepted(word).map(|_| ())
     }

@@ -7,12 +7,11 @@ from pathlib import Path
 import recorded
 import seen
 from browser import Browser
-from depot import ROOT, Panel, desk
+from depot import Panel, desk
 from found import found
 from words import record
 
 SET_UPS = ['setup 0 4 5000 2000 500 500 0 1', 'setup 1 5 5000 2000 500 500']
-HAS_OLDER = 'ROKEMAIPU_INTERFACE' in (ROOT / 'include/rokemaipu.h').read_text()
 
 
 def status(channel, time, identifier, amps, insulation):
@@ -36,7 +35,6 @@ NIGHT = [
 ]
 
 
-@unittest.skipUnless(HAS_OLDER, 'the library has no posts of document 001 yet')
 class Older(unittest.TestCase):
     maxDiff = None
 

@@ -23,7 +23,7 @@ use message_types::STATUS;
 use message_types::SetpointsMode;
 use older_types::PowerModulesLimits;
 
-// The latest frames that a post keeps: more than a post of either interface has kinds of.
+// The latest frames that a post keeps: as many as the older interface has kinds.
 pub const PLACES: usize = 21;
 
 // ---- what a frame is asked for
