@@ -135,7 +135,7 @@ def setups():
         same(replay(f'{POSTS}setup {line}\nno line\n', log), ('', told), f'setup {line}')
         same(second(f'{POSTS}setup {line}\n', log), ([], f'SETUP R{number}'), f'setup {line}: the second program')
     for line in ('setup', 'setup 1', 'setup 1 4 5000 2000 500', 'setup 1 4 5000 2000 500 500 0 0 0', 'setup 01 4 5000 2000 500 500', ' setup 1 4 5000 2000 500 500', 'tick 2 300', 'setup 1 4 5000 2000 500 500\r'):
-        told = 'replay: a.posts: line 5: no setup POST CHANNEL VOLT CHG DIS W [SENSOR]\n'
+        told = 'replay: a.posts: line 5: no setup POST CHANNEL VOLT CHG DIS W [SENSOR [IFACE]]\n'
         same(replay(f'{POSTS}{line}\n', log), ('', told), f'the line {line!r}')
 
 

@@ -57,7 +57,7 @@ pub fn no_setup(name: &[u8], line: u64) {
     let q = text_pen::put(
         &mut out,
         p,
-        b"no setup POST CHANNEL VOLT CHG DIS W [SENSOR]\n",
+        b"no setup POST CHANNEL VOLT CHG DIS W [SENSOR [IFACE]]\n",
     );
     written(q.at, &out);
 }
