@@ -11,7 +11,6 @@ mod writings; // writings.rt: messages written
 
 use readings_messages::show::text;
 use readings_messages::trips;
-use readings_posts::older;
 use readings_posts::posts;
 
 fn codec() {
@@ -27,5 +26,5 @@ fn codec() {
 fn main() {
     codec();
     posts::all();
-    older::all();
+    readings_posts::older::all();
 }
