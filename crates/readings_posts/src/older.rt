@@ -100,6 +100,7 @@ fn told() {
         b"10.0 A told, then -0.1 A and 0.0 A, which are the default 100.0 A; 50.0 A of discharge\n",
     );
     let mut t = side_by_side();
+    t = frame(t, 4, 0, SESSION, &[2u8, 1, 0, 0, 0, 0, 0, 0]);
     t = frame(t, 4, 0, LIMITS, &[0u8, 0, 100, 0, 0, 0, 0, 0]);
     t = frame(t, 4, 1, STATUS, &[0u8, 0, 100, 0, 65, 65, 1, 255]);
     t = frame(t, 4, 2, STATUS, &[0u8, 0, 101, 0, 65, 65, 1, 255]);
