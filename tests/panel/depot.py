@@ -15,11 +15,17 @@ RUN = os.environ.get('PROGRAMS_RUN', '').split()
 PROGRAMS = ROOT / os.environ.get('PROGRAMS', 'target/bin')
 
 
+def hears():
+    """Ctrl-C: a shell that runs a test in the background ignores it for all that it starts."""
+    signal.signal(signal.SIGINT, signal.SIG_DFL)
+
+
 class Panel:
     """Started, with the address that it prints."""
 
     def __init__(self, posts, log, port=0):
-        self.process = subprocess.Popen([*PANEL, str(posts), str(log), '--port', str(port)], stdout=subprocess.PIPE, stderr=subprocess.PIPE, text=True)
+        self.process = subprocess.Popen([*PANEL, str(posts), str(log), '--port', str(port)], stdout=subprocess.PIPE, stderr=subprocess.PIPE, text=True,
+                                        preexec_fn=hears)
         self.ended = None
         self.address = self.process.stdout.readline().strip()
         self.port = int(self.address.rsplit(':', 1)[-1].strip('/') or 0) if self.address else 0

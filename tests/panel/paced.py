@@ -8,7 +8,7 @@ import unittest
 from pathlib import Path
 
 import events
-from depot import ROOT
+from depot import ROOT, hears
 
 
 class Paced(unittest.TestCase):
@@ -16,7 +16,8 @@ class Paced(unittest.TestCase):
         """F9 stands on post 1 as soon as the recorder's clock has it, and Ctrl-C ends all of it."""
         with tempfile.TemporaryDirectory() as room:
             night = subprocess.Popen([ROOT / 'panel/night', ROOT / 'nights/march.posts', ROOT / 'nights/march.log', '--port', '0'], stdout=subprocess.PIPE,
-                                     stderr=subprocess.PIPE, text=True, start_new_session=True, env={**os.environ, 'TMPDIR': room})
+                                     stderr=subprocess.PIPE, text=True, start_new_session=True, env={**os.environ, 'TMPDIR': room},
+                                     preexec_fn=hears)
             begun = time.monotonic()
             with night.stdout, night.stderr:
                 port = int(night.stdout.readline().strip().rsplit(':', 1)[1].strip('/'))

@@ -9,7 +9,7 @@ import unittest
 from pathlib import Path
 
 import events
-from depot import PANEL, ROOT, Panel
+from depot import PANEL, Panel, ROOT, hears
 from words import record
 
 POSTS, LOG = ROOT / 'nights/march.posts', ROOT / 'nights/march.log'
@@ -21,7 +21,8 @@ class Safe(unittest.TestCase):
         with tempfile.TemporaryDirectory() as room:
             traced = Path(room) / 'traced'
             calls = 'trace=file,socket,bind,connect,write,pwrite64,writev,ftruncate,fallocate,mmap'
-            process = subprocess.Popen(['strace', '-D', '-f', '-e', calls, '-o', traced, *PANEL, POSTS, LOG, '--port', '0'], stdout=subprocess.PIPE, text=True)
+            process = subprocess.Popen(['strace', '-D', '-f', '-e', calls, '-o', traced, *PANEL, POSTS, LOG, '--port', '0'], stdout=subprocess.PIPE, text=True,
+                                       preexec_fn=hears)
             self.addCleanup(process.stdout.close)
             port = int(process.stdout.readline().strip().rsplit(':', 1)[1].strip('/'))
             with events.Events(port) as client:
