@@ -2,6 +2,7 @@
 //   specs/Steps.antt      the accepted steps of all posts, newest first, and 01's answers read afresh over them; which steps a table stands for
 //   specs/Table.antt      each operation's answer and table, for every table
 //   specs/Run.antt        any requests from the empty table
+//   specs/Pages.antt      which messages a post has heard, and what a place keeps
 //   specs/Readings.antt   01's readings from both sides of each edge
 // proofs/Right.antt makes the two one, proofs/Demand.antt has demand 3, proofs/Night.antt its theorems on a night. For every crate that holds a table.
 use refusals::Refusal;
