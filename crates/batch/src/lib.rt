@@ -26,8 +26,9 @@ use rules::Slot;
 use watch_hear::arrival_for;
 use watch_hear::hear;
 use watch_hear::refused_after;
-use watch_places::some_place;
+use watch_places::place_named;
 use watch_rules::Arrival;
+use watch_rules::CHANNELS;
 use watch_rules::Heard;
 use watch_rules::POSTS;
 use watch_rules::Table;
@@ -67,8 +68,13 @@ fn latest_of(t: Table) -> [[Slot; PLACES]; POSTS]
     latest
 }
 
-fn table_of(heads: [Head; POSTS], latest: [[Slot; PLACES]; POSTS], refused: u64) -> Table
-    ensures { λ r. ⌜ r ≡ record { posts = joined heads latest; refused = refused } ⌝ }
+fn table_of(
+    heads: [Head; POSTS],
+    latest: [[Slot; PLACES]; POSTS],
+    index: [u32; CHANNELS],
+    refused: u64,
+) -> Table
+    ensures { λ r. ⌜ r ≡ record { posts = joined heads latest; index = index; refused = refused } ⌝ }
 {
     let h = heads[0];
     let l = latest[0];
@@ -82,7 +88,11 @@ fn table_of(heads: [Head; POSTS], latest: [[Slot; PLACES]; POSTS], refused: u64)
         posts[i] = p;
         i += 1;
     }
-    Table { posts, refused }
+    Table {
+        posts,
+        index,
+        refused,
+    }
 }
 
 // What the record of an entry of the log is to a post with these limits.
@@ -121,15 +131,17 @@ fn feed_all(t: Table, log: &[u8], answers: &mut [u32]) -> Table
 {
     let mut heads = heads_of(t);
     let mut latest = latest_of(t);
+    let index = t.index;
     let mut refused = t.refused;
     let mut at: usize = 0;
     let mut n: usize = 0;
     loop {
         let Found::Record(e) = record_at(log, at) else {
-            return table_of(heads, latest, refused);
+            return table_of(heads, latest, index, refused);
         };
         let channel = e.channel;
-        let i = some_place(t, channel);
+        let c = (channel as usize) % CHANNELS;
+        let i = place_named(index[c]);
         let h = heads[i];
         let r = step(h, log, e);
         let g = r.head;

@@ -47,6 +47,7 @@ fn shown(
         Showing::No => told(word::telling_word(word), s, at, room, out, pen),
         Showing::Record => desk_record::show(table, s, at, out, pen),
         Showing::Refused => desk_record::refused(table, s, at, out, pen),
+        Showing::Index => desk_record::index(table, s, at, out, pen),
         Showing::Read => desk_codec::read(Interface::Newer, s, at, room, out, pen),
         Showing::Change => desk_codec::change(Interface::Newer, s, at, room, out, pen),
         Showing::Write => desk_codec::write(Interface::Newer, s, at, room, out, pen),

@@ -34,6 +34,7 @@ pub enum Showing {
     No,
     Record,
     Refused,
+    Index,
     Read,
     Change,
     Write,
@@ -48,6 +49,9 @@ pub fn showing_word(word: &[u8]) -> Showing {
     }
     if check::same(word, b"refused") {
         return Showing::Refused;
+    }
+    if check::same(word, b"index") {
+        return Showing::Index;
     }
     if check::same(word, b"read") {
         return Showing::Read;

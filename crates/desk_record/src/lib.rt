@@ -1,4 +1,4 @@
-// A post's record as one line, and the table's count of what was refused: the steps `record` and `refused`, for the desk alone.
+// A post's record as one line, the table's count of what was refused, and its index: the steps `record`, `refused` and `index`, for the desk alone.
 use desk_values::message;
 use message_types::PROBES;
 use message_types::Plug;
@@ -21,6 +21,7 @@ use rules::PLACES;
 use rules::Record;
 use rules::SessionPart;
 use text_pen::Pen;
+use watch_rules::CHANNELS;
 use watch_rules::LookedUp;
 use watch_rules::Setting;
 use watch_rules::Table;
@@ -241,4 +242,32 @@ pub fn refused(table: Table, s: &[u8], at: usize, out: &mut [u8], pen: Pen) -> P
     }
     let p = named(out, pen, b"N ", watch::refused(table));
     text_pen::put(out, p, b"\n")
+}
+
+fn put_holder(out: &mut [u8], pen: Pen, name: u32) -> Pen {
+    if name == 0 {
+        return text_pen::put(out, pen, b" -");
+    }
+    named(out, pen, b" ", name - 1)
+}
+
+fn put_index(table: Table, out: &mut [u8], pen: Pen) -> Pen {
+    let mut p = pen;
+    let mut c = 0;
+    while c < CHANNELS {
+        let name = table.index[c];
+        c += 1;
+        p = put_holder(out, p, name);
+    }
+    p
+}
+
+// `index`, and nothing behind it
+pub fn index(table: Table, s: &[u8], at: usize, out: &mut [u8], pen: Pen) -> Pen {
+    if at <= s.len() {
+        return answer::unknown(out, pen);
+    }
+    let p = text_pen::put(out, pen, b"I");
+    let q = put_index(table, out, p);
+    text_pen::put(out, q, b"\n")
 }

@@ -18,7 +18,7 @@ a label signal holds a number without a label\n\
 a bit that no signal covers is 1\n\
 a value has no raw number, or a raw number does not fit its signal\n\
 lent buffer shorter than the message\n\
-post number above 7\n\
+post number above 15\n\
 channel above 31 at set-up\n\
 channel held by another post\n\
 a post limit outside its range\n\

@@ -1,4 +1,4 @@
-// A frame in place: one head is copied out and stepped by value; it is stored back, and the frame in its kind's place.
+// A frame in place: its post is found by the index, one head is copied out and stepped by value; it is stored back, and the frame in its kind's place.
 // Its answer and the table are exactly what `watch::frame` gives.
 // It stands alone, since the compiler builds a step into its entry only where the step has one caller. For C, and through `gateway` for Rattle.
 ghost use mathlib.Core.Path.{_≡_};
@@ -6,7 +6,8 @@ ghost use Rattle.lent_step.specs.Fed.{frameWord};
 use lent_step::frame_on;
 use lent_words::Lent;
 use rules::PLACES;
-use watch_places::some_place;
+use watch_places::place_named;
+use watch_rules::CHANNELS;
 use watch_rules::Table;
 
 #[no_mangle]
@@ -20,7 +21,8 @@ pub extern "C" fn rokemaipu_frame(
 ) -> u32
     ensures { λ r. ⌜ (r ≡ frameWord (now (t .entry)) channel time id extended (now (payload .entry)) .answer) × (now (t .exit) ≡ frameWord (now (t .entry)) channel time id extended (now (payload .entry)) .table) ⌝ }
 {
-    let i = some_place(*t, channel);
+    let c = (channel as usize) % CHANNELS;
+    let i = place_named(t.index[c]);
     let h = t.posts[i].head;
     let n = t.refused;
     let r = frame_on(h, n, channel, time, id, extended, payload);

@@ -4,14 +4,16 @@ ghost use Rattle.lent_step.specs.Fed.{tickWord};
 use lent_step::tick_on;
 use lent_words::Lent;
 use rules::PLACES;
-use watch_places::some_place;
+use watch_places::place_named;
+use watch_rules::CHANNELS;
 use watch_rules::Table;
 
 #[no_mangle]
 pub extern "C" fn rokemaipu_tick(t: &mut Table, channel: u32, time: u32) -> u32
     ensures { λ r. ⌜ (r ≡ tickWord (now (t .entry)) channel time .answer) × (now (t .exit) ≡ tickWord (now (t .entry)) channel time .table) ⌝ }
 {
-    let i = some_place(*t, channel);
+    let c = (channel as usize) % CHANNELS;
+    let i = place_named(t.index[c]);
     let h = t.posts[i].head;
     let n = t.refused;
     let r = tick_on(h, n, channel, time);

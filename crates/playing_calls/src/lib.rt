@@ -46,7 +46,7 @@ fn fed(t: Table, log: &[u8], e: Entry) -> Fed
 
 // The line goes to the front of a buffer that has room for every line; the answer is how many bytes it has.
 fn write(out: &mut [u8], count: u64, post: u32, a: Answer) -> usize
-    requires { ⌜ (lineRoom ≤ length (now out)) × (post ≤ 9) ⌝ }
+    requires { ⌜ (lineRoom ≤ length (now out)) × (post < 100) ⌝ }
     ensures { λ r. ⌜ (r ≡ length (lineOf count post a)) × (now (out .exit) ≡ laid (lineOf count post a) (now (out .entry))) ⌝ }
 {
     let p = playing_line::words(out, count, post, a);

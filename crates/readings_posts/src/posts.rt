@@ -131,7 +131,7 @@ fn channels() {
     t = set_up(t, 0, 4, limits());
     record(t, 0);
     t = tick(t, 4, 5);
-    t = set_up(t, 8, 5, limits());
+    t = set_up(t, 16, 5, limits());
     t = set_up(t, 1, 32, limits());
     t = set_up(t, 1, 5, lowest(0));
     t = set_up(t, 1, 5, lowest(1));

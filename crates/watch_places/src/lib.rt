@@ -2,11 +2,12 @@
 ghost use mathlib.Core.Path.{_≡_};
 ghost use Prim.Native.Nat.{_≤_, _<_};
 ghost use Rattle.rules.specs.After.{stored};
-ghost use Rattle.watch_rules.specs.Table.{postCount, isPost, holds, placeOf, somePlace, putIn};
+ghost use Rattle.watch_rules.specs.Table.{postCount, isPost, holds, placeOf, placeNamed, somePlace, putIn, withEntry};
 use rules::Head;
 use rules::PLACES;
 use rules::Post;
 use rules::Slot;
+use watch_rules::CHANNELS;
 use watch_rules::POSTS;
 use watch_rules::Table;
 
@@ -23,7 +24,7 @@ pub fn holds_channel(h: Head, channel: u32) -> bool
     (h.used as u64) + (h.channel as u64) * 4294967296 == 1 + (channel as u64) * 4294967296
 }
 
-// 01: "A frame or tick goes to the post that holds its channel." POSTS where none does.
+// The post that holds the channel by a search over the posts, which the index is proved equal to. POSTS where none does.
 pub fn place(t: Table, channel: u32) -> usize
     ensures { λ r. ⌜ (r ≡ placeOf (t .posts) channel) × (r ≤ postCount) ⌝ }
 {
@@ -41,12 +42,24 @@ pub fn place(t: Table, channel: u32) -> usize
     }
 }
 
-// The place of the post that holds the channel, and the first where none does: who steps what stands there asks whether it holds it.
-pub fn some_place(t: Table, channel: u32) -> usize
-    ensures { λ r. ⌜ (r ≡ somePlace (t .posts) channel) × (r < postCount) ⌝ }
+// The post that an entry of the index names, and the first where it names none.
+pub fn place_named(name: u32) -> usize
+    ensures { λ r. ⌜ (r ≡ placeNamed name) × (r < postCount) ⌝ }
 {
-    let i = place(t, channel);
+    if name == 0 {
+        return 0;
+    }
+    let i = (name - 1) as usize;
     if i < POSTS { i } else { 0 }
+}
+
+// 01: "A frame or tick goes to the post that holds its channel." The post that the index names, and the first where it names none: who steps what stands
+// there asks whether the number is a channel, and whether the post holds it.
+pub fn some_place(t: Table, channel: u32) -> usize
+    ensures { λ r. ⌜ (r ≡ somePlace t channel) × (r < postCount) ⌝ }
+{
+    let c = (channel as usize) % CHANNELS;
+    place_named(t.index[c])
 }
 
 // The table with a post in a place. A number that is no place leaves it as it was.
@@ -56,6 +69,18 @@ pub fn put(t: Table, at: usize, p: Post) -> Table
     let mut u = t;
     if at < POSTS {
         u.posts[at] = p;
+    }
+    u
+}
+
+// The table with an entry in the index. A number that is no channel leaves it as it was.
+pub fn put_entry(t: Table, channel: u32, name: u32) -> Table
+    ensures { λ r. ⌜ r ≡ withEntry t channel name ⌝ }
+{
+    let c = channel as usize;
+    let mut u = t;
+    if c < CHANNELS {
+        u.index[c] = name;
     }
     u
 }

@@ -11,12 +11,18 @@ use rules::Post;
 use rules::Record;
 use rules::Slot;
 
-pub const POSTS: usize = 8;
+pub const POSTS: usize = 16;
 
+// 01: "channel above 31".
+pub const CHANNELS: usize = 32;
+
+// `index` has for each channel 0 where no post holds it, and one more than the number of the post that does (02, Req 13), so that zeroed memory is the
+// empty table.
 // `refused` counts the frames and ticks that were refused since the table was made, and stays at 4,294,967,295 (02, Req 08).
 #[repr(C)]
 pub struct Table {
     pub posts: [Post; POSTS],
+    pub index: [u32; CHANNELS],
     pub refused: u64,
 }
 

@@ -4,15 +4,19 @@ ghost use mathlib.Core.List.{[]};
 ghost use mathlib.Core.Path.{_≡_};
 ghost use Rattle.rule_limits.specs.Sensor.{plainOf};
 ghost use Rattle.watch_rules.specs.Steps.{Steps, Kept, SetUpRight, ReleaseRight};
-ghost use Rattle.watch_rules.specs.Table.{emptyTable, isOther, setUpOf, releaseOf};
+ghost use Prim.Native.Nat.{_<_};
+ghost use Rattle.watch_rules.specs.Table.{postCount, emptyTable, isOther, unnamed, setUpIn, setUpOf, releaseOf};
 use refusals::Refusal;
 use rule_asks::is_set;
 use rule_limits::Limits;
 use rule_limits::PlainLimits;
 use rule_limits::limits_fit;
+use rules::Head;
 use watch_places::is_post;
 use watch_places::place;
 use watch_places::put;
+use watch_places::put_entry;
+use watch_rules::CHANNELS;
 use watch_rules::POSTS;
 use watch_rules::Setting;
 use watch_rules::Settled;
@@ -26,6 +30,7 @@ pub fn empty() -> Table
     let p = post::free_post();
     Table {
         posts: [p; POSTS],
+        index: [0; CHANNELS],
         refused: 0,
     }
 }
@@ -39,6 +44,29 @@ fn other(at: usize, i: u32) -> bool
     } else {
         false
     }
+}
+
+// The table whose index names no post for the channel that a head held, where it was set up.
+fn forgotten(t: Table, h: Head) -> Table
+    ensures { λ r. ⌜ r ≡ unnamed t h ⌝ }
+{
+    if !is_set(h.used as u64) {
+        return t;
+    }
+    put_entry(t, h.channel, 0)
+}
+
+// The table with a post set up anew: the index names it for its channel, and no longer for the one that it held before.
+fn seated(t: Table, post: u32, channel: u32, limits: PlainLimits) -> Table
+    requires { ⌜ post < postCount ⌝ }
+    ensures { λ r. ⌜ r ≡ setUpIn t post channel limits ⌝ }
+{
+    let i = post as usize;
+    let p = t.posts[i];
+    let h = p.head;
+    let u = put(t, i, post::fresh_post(channel, limits));
+    let v = forgotten(u, h);
+    put_entry(v, channel, post + 1)
 }
 
 // "Set-up gives 9 to 12." The sensor kind comes as a number, and one that is no kind is a limit outside its range.
@@ -70,7 +98,7 @@ pub fn set_up_plain(t: Table, post: u32, channel: u32, limits: PlainLimits) -> S
             answer: Setting::Refused(Refusal::LimitOutside),
         };
     }
-    let u = put(t, post as usize, post::fresh_post(channel, limits));
+    let u = seated(t, post, channel, limits);
     Settled {
         table: u,
         answer: Setting::Done,
@@ -107,8 +135,9 @@ pub fn release(t: Table, post: u32) -> Settled
         };
     }
     let u = put(t, i, post::free_post());
+    let v = forgotten(u, h);
     Settled {
-        table: u,
+        table: v,
         answer: Setting::Done,
     }
 }
