@@ -16,7 +16,7 @@ use Rattle.watch_rules.specs.declared.Table.{Table}
 use Rattle.watch_rules.specs.Table.{postCount, isChannel, holds, placeOf, noPost, postIn, Arriving, refused, feedAt, feedOf}
 use Rattle.watch_rules.specs.Steps.{Steps, Standing, held, standing, holdsIn, holder, answerIn, feed01, InRange, Kept}
 use Rattle.watch_rules.proofs.Standings.{held-on, holder-holds, holder-is}
-use Rattle.watch_rules.proofs.Tables.{place-look}
+use Rattle.watch_rules.proofs.Placed.{place-look}
 use Rattle.watch_rules.proofs.Right.{feed-right}
 use Rattle.plain_words.specs.Words.{refusalWord}
 use Rattle.lent_holder.specs.Holder.{holderWord, holder01}

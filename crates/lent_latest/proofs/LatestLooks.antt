@@ -21,7 +21,7 @@ use Rattle.watch_rules.specs.Table.{postCount, noPost, postIn}
 use Rattle.watch_rules.specs.Steps.{Steps, held, standing, keptPost, Kept}
 use Rattle.watch_rules.specs.Run.{Request, run, accepted}
 use Rattle.watch_rules.specs.Pages.{OnPages, OnOwn, onlyOf}
-use Rattle.watch_rules.proofs.Tables.{post-at}
+use Rattle.watch_rules.proofs.Placed.{post-at}
 use Rattle.watch_rules.proofs.Demand.{run-kept}
 use Rattle.watch_rules.proofs.Pages.{own-pages, latest-of-kind}
 use Rattle.lent_latest.specs.Latest.{ofKindIn, keptOf}

@@ -40,7 +40,7 @@ use Rattle.watch_rules.specs.declared.LookedUp.{LookedUp}
 use Rattle.watch_rules.specs.Table.{postCount, noPost, postIn, lookUpOf}
 use Rattle.watch_rules.specs.Steps.{held, standing, keptPost, findFrom, holder, otherHolds, feed01, setUp01, lookUp01, feedSteps, setUpSteps}
 use Rattle.watch_rules.specs.Run.{Request, setUp, frame, tick, run, accepted}
-use Rattle.watch_rules.proofs.Tables.{post-at}
+use Rattle.watch_rules.proofs.Placed.{post-at}
 use Rattle.watch_rules.proofs.Demand.{run-kept, every-record}
 use Rattle.lent_latest.specs.Latest.{hands, keptOf, nowOf, latestWord, timeAfter, frameAfter}
 use Rattle.lent_latest.proofs.LatestLaws.{latest-refused, latest-shown, some-bytes}

@@ -30,7 +30,7 @@ use Rattle.rules.specs.After.{statusPlace, controlPlace, keptCount, datedIn, pa
 use Rattle.watch_rules.specs.declared.Table.{Table}
 use Rattle.watch_rules.specs.Table.{postCount, noPost, postIn, isPost, lookUpOf}
 use Rattle.watch_rules.specs.Steps.{Steps, held, standing, keptPost, Kept}
-use Rattle.watch_rules.proofs.Tables.{post-at}
+use Rattle.watch_rules.proofs.Placed.{post-at}
 use Rattle.lent_look.proofs.Asked.{set-up}
 use Rattle.plain_words.specs.Words.{Told}
 use Rattle.lent_latest.specs.Latest.{nowOf}

@@ -11,7 +11,7 @@ use Rattle.watch_rules.specs.declared.Setting.{Setting}
 use Rattle.watch_rules.specs.declared.Setting.the-variants as setting
 use Rattle.watch_rules.specs.Table.{placeOf, emptyTable, setUpOf}
 use Rattle.watch_rules.specs.Steps.{Steps, feedSteps, setUpSteps, Kept}
-use Rattle.watch_rules.proofs.Tables.{place-look}
+use Rattle.watch_rules.proofs.Placed.{place-look}
 use Rattle.rules.specs.declared.Post.{Post}
 use Rattle.watch_rules.proofs.Right.{feed-right, setUp-right, empty-kept}
 use Rattle.playing_line.specs.Lines.{lineRoom, lineOf}

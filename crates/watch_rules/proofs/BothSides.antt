@@ -23,9 +23,9 @@ use Rattle.rule_asks.specs.Judgements.{lowersBadly, outside, leaking, badInsula
 use Rattle.rules.specs.declared.Dated.{Dated}
 use Rattle.rules.specs.declared.Dated.the-variants as dated
 use Rattle.rules.specs.After.{sessionAfter, stampIn, agedTo, withFrame, silentIn, lateAfter, anyFindings, unreadyIn, carryingIn, controlFindings, statusFindings, openingFindings, finishedFindings, messageFindings, counted, withCounts, afterTick, afterFrame, postRecord}
-use Rattle.watch_rules.specs.Table.{placeOf, heardOf, oneMore, feedAt, feedOf, emptyTable, isOther, setUpOf, releaseOf, lookUpOf}
+use Rattle.watch_rules.specs.Table.{placeOf, placeNamed, somePlace, placeIn, heardOf, oneMore, feedAt, feedOf, emptyTable, isOther, setUpOf, releaseOf, lookUpOf}
 use Rattle.watch_rules.specs.Run.{Request, runFrom, repliesFrom}
-use Rattle.watch_rules.specs.Readings.{Case, codec, answers, shows, senses, reads-by, in-session, keeps, dates, counts, turns-away, isDated, e8to13}
+use Rattle.watch_rules.specs.Readings.{Case, codec, answers, shows, senses, reads-by, in-session, keeps, dates, counts, turns-away, names, isDated, e8to13}
 
 abbrev latestRun : List Request → ℕ → ℕ → Dated
 latestRun asked post kind = getD (lookUpOf (runFrom emptyTable asked) post .shown .latest) kind (record { message = dated.Nothing }) .message
@@ -42,11 +42,12 @@ Runs (dates asked post kind d) = isDated (latestRun asked post kind) d
 Runs (counts asked post accepted tallies) =
     (lookUpOf (runFrom emptyTable asked) post .shown .accepted ≡ accepted) × (lookUpOf (runFrom emptyTable asked) post .shown .tallies ≡ tallies)
 Runs (turns-away asked n) = runFrom emptyTable asked .refused ≡ n
+Runs (names asked c entry) = getD (runFrom emptyTable asked .index) c 0 ≡ entry
 
 abbrev pub AllRun : List Case → Type 0
 AllRun [] = Unit {0}
 AllRun (c ∷ cs) = Runs c × AllRun cs
 
 pub both-sides : AllRun e8to13
-unfolding placeOf heardOf oneMore counted withCounts feedAt feedOf isOther setUpOf releaseOf lookUpOf postRecord limitsFit sessionAfter stampIn agedTo withFrame silentIn lateAfter anyFindings unreadyIn carryingIn controlFindings statusFindings openingFindings finishedFindings messageFindings afterTick afterFrame lowersBadly outside leaking badInsulation differs messageOf builtOf statusIn parametersIn sessionIn controlIn rows ofKind firstAt covered unlabelled offender strayBelow judgedNumber judgeOn isForeign judgeFor roleOf statusBy openingBy limitsIn limitsBy commandBy placeBy datedAt olderBuilt.messageOf olderBuilt.builtOf wholesOf pad rawsOf getBits leNumber beNumber toSigned
-both-sides = (refl, (refl, (refl, (refl, (refl, (refl, (refl, (refl, (refl, (refl, (refl, ((refl, refl), (refl, (refl, (refl, (refl, ((refl, refl), ((refl, refl), (refl, (refl, (refl, (refl, (refl, (refl, (refl, (refl, (refl, (refl, (refl, (refl, (refl, (refl, (refl, (refl, (refl, (refl, ((refl, refl), ((refl, refl), ((refl, refl), ((refl, refl), (refl, (refl, (refl, (refl, (refl, (refl, (refl, (refl, (refl, (refl, (refl, (refl, (refl, (refl, (refl, (refl, tt))))))))))))))))))))))))))))))))))))))))))))))))))))))))
+unfolding placeOf placeNamed somePlace placeIn heardOf oneMore counted withCounts feedAt feedOf isOther setUpOf releaseOf lookUpOf postRecord limitsFit sessionAfter stampIn agedTo withFrame silentIn lateAfter anyFindings unreadyIn carryingIn controlFindings statusFindings openingFindings finishedFindings messageFindings afterTick afterFrame lowersBadly outside leaking badInsulation differs messageOf builtOf statusIn parametersIn sessionIn controlIn rows ofKind firstAt covered unlabelled offender strayBelow judgedNumber judgeOn isForeign judgeFor roleOf statusBy openingBy limitsIn limitsBy commandBy placeBy datedAt olderBuilt.messageOf olderBuilt.builtOf wholesOf pad rawsOf getBits leNumber beNumber toSigned
+both-sides = (refl, (refl, (refl, (refl, (refl, (refl, (refl, (refl, (refl, (refl, (refl, ((refl, refl), (refl, (refl, (refl, (refl, ((refl, refl), ((refl, refl), (refl, (refl, (refl, (refl, (refl, (refl, (refl, (refl, (refl, (refl, (refl, (refl, (refl, (refl, (refl, (refl, (refl, (refl, (refl, (refl, (refl, (refl, (refl, (refl, (refl, (refl, (refl, (refl, (refl, (refl, (refl, ((refl, refl), ((refl, refl), ((refl, refl), ((refl, refl), (refl, (refl, (refl, (refl, (refl, (refl, (refl, (refl, (refl, (refl, (refl, (refl, (refl, (refl, (refl, (refl, tt)))))))))))))))))))))))))))))))))))))))))))))))))))))))))))))))))))))

@@ -31,7 +31,7 @@ use Rattle.watch_rules.specs.Steps as step
 use Rattle.watch_rules.specs.Steps.{event, Step, Steps, Standing, free, held, standing, holdsIn, holder, otherHolds, answerIn, feed01, setUp01, release01, lookUp01, ifFound, feedSteps, ifDone, setUpSteps, releaseSteps, Apart, InRange, Kept}
 use Rattle.watch_rules.specs.Run.{Request, setUp, release, frame, tick, set, fed, reply, next, run, reply01, steps01, accepted, afterRefusal, isRefusal, concerns, Unheld, arrivesOn, runFrom, repliesFrom, acceptedFrom, replies01From}
 use Rattle.watch_rules.proofs.Standings.{standing-none, standing-setUp, standing-setUp-other, standing-release, standing-release-other, standing-event, standing-event-other, over-setUp, over-release, over-event, held-on, holder-holds, holder-is, others-alike}
-use Rattle.watch_rules.proofs.Tables.{holds-look, post-at}
+use Rattle.watch_rules.proofs.Placed.{holds-look, post-at}
 use Rattle.watch_rules.proofs.Right.{feed-right, setUp-right, release-right, lookUp-right, empty-kept}
 use Rattle.watch_rules.proofs.Refusing.{refused-table, refused-steps}
 

@@ -16,7 +16,7 @@ use Rattle.watch_rules.specs.declared.Table.{Table}
 use Rattle.watch_rules.specs.declared.Answer.{Answer}
 use Rattle.watch_rules.specs.declared.Answer.the-variants.{Findings, Refused}
 use Rattle.watch_rules.specs.declared.Settled.{Settled}
-use Rattle.watch_rules.specs.Table.{postCount, isChannel, placeOf, postIn, Arriving, framing, ticking, oneMore, refusedAfter, feedAt, feedOf, isOther, isPost, setUpOf, releaseOf}
+use Rattle.watch_rules.specs.Table.{postCount, isChannel, placeOf, placeIn, postIn, Arriving, framing, ticking, oneMore, refusedAfter, feedAt, feedOf, isOther, isPost, setUpOf, releaseOf}
 use Rattle.watch_rules.specs.Run.{Request, setUp, release, frame, tick, fed, reply, next, run, reply01, accepted, isRefusal, isArrival, handedIn, refusedEver, acceptedEver}
 use Rattle.watch_rules.proofs.Demand.{every-answer}
 
@@ -25,9 +25,9 @@ use Rattle.watch_rules.proofs.Demand.{every-answer}
 module _ (t : Table) where
   fed-counts : (c time : ℕ) (a : Arriving) → feedOf t c time a .table .refused ≡ refusedAfter (t .refused) (feedOf t c time a .answer)
   unfolding feedOf feedAt
-  fed-counts c time a = go (isChannel c && ltb (placeOf (t .posts) c) postCount) refl
+  fed-counts c time a = go (isChannel c && ltb (placeIn t c) postCount) refl
     where
-      go : (b : Bool) → (isChannel c && ltb (placeOf (t .posts) c) postCount) ≡ b → feedOf t c time a .table .refused ≡ refusedAfter (t .refused) (feedOf t c time a .answer)
+      go : (b : Bool) → (isChannel c && ltb (placeIn t c) postCount) ≡ b → feedOf t c time a .table .refused ≡ refusedAfter (t .refused) (feedOf t c time a .answer)
       go true e = rw e
       go false e = rw e
 

@@ -1,5 +1,7 @@
 pub mod BothSides
 pub mod Standings
+pub mod Placed
+pub mod Indexed
 pub mod Hears
 pub mod Tables
 pub mod Each
@@ -13,4 +15,5 @@ pub mod Pages
 pub mod SideBySide
 pub mod Handed
 pub mod Full
+pub mod Index
 pub mod Night

@@ -38,7 +38,7 @@ use Rattle.watch_rules.specs.Run.{Request, setUp, release, frame, tick, 
 use Rattle.watch_rules.proofs.Standings.{holder-is}
 use Rattle.watch_rules.proofs.Demand.{run-kept, every-answer, every-record, one-holder, one-place, own-tick, own-frame, own-unread, refused-nothing, others-record, nobody-holds, alike-record, alike-release, alike-arrival, alike-setUp, alike-channels, counted-setUp, counted-release, counted-tick, counted-frame}
 use Rattle.watch_rules.proofs.Own.{own-record, own-released, own-arrival}
-use Rattle.watch_rules.proofs.Tables.{post-at}
+use Rattle.watch_rules.proofs.Placed.{post-at}
 
 abbrev limits : PlainLimits
 limits = record { voltage = 5000; charge = 1000; discharge = 500; silence = 500; sensor = 0; interface = 0 }
@@ -66,10 +66,10 @@ first = ltb-true 0 postCount refl
 -- what the premises ask of the night, and what 01's rules give there, by computing
 computed : (standing 0 (accepted night) ≡ held 4 limits heard) × (standing 0 (accepted alone) ≡ held 4 limits heard) × (holdsIn (standing 1 (accepted night)) 4 ≡ false)
     × (earlierIn heard 501 ≡ false) × (findings01 limits heard (history.tick 501) ≡ 1) × (findings01 limits heard (history.tick 500) ≡ 0) × (earlierIn heard 500 ≡ false)
-    × (judgeFor Newer 0x6b001 true (2 ∷ []) ≡ judged.Refused TooShort) × (setUp01 (accepted night) 2 4 limits ≡ setting.Refused ChannelTaken) × (holder (accepted night) 5 ≡ 8)
+    × (judgeFor Newer 0x6b001 true (2 ∷ []) ≡ judged.Refused TooShort) × (setUp01 (accepted night) 2 4 limits ≡ setting.Refused ChannelTaken) × (holder (accepted night) 5 ≡ postCount)
     × (judgeFor Newer 0x63000 true status ≡ judged.Frame 0 allowed) × (findings01 limits heard (history.frame 501 0 allowed) ≡ 1)
     × (otherHolds (accepted night) 2 4 0 postCount ≡ otherHolds (accepted alone) 2 4 0 postCount) × (lookUp01 (accepted night) 0 ≡ record { answer = setting.Done; shown = recordOf 4 limits heard })
-    × (holder (accepted alone) 5 ≡ 8) × (setUp01 (accepted night) 3 5 limits ≡ setting.Done) × (release01 (accepted night) 1 ≡ setting.Done) × (ownOf 0 (accepted night) ≡ ownOf 0 (accepted alone))
+    × (holder (accepted alone) 5 ≡ postCount) × (setUp01 (accepted night) 3 5 limits ≡ setting.Done) × (release01 (accepted night) 1 ≡ setting.Done) × (ownOf 0 (accepted night) ≡ ownOf 0 (accepted alone))
 unfolding standing findFrom holder otherHolds feed01 setUp01 release01 lookUp01 feedSteps setUpSteps releaseSteps limitsFit accepted sinceFinished opening inSession earlierIn lowersBadly outside leaking badInsulation differs sessionStatus sessionControl limitOf f1 f2 f3 f4 f5 f6 f7 f8 f9 f10 f11 findings01 rows ofKind firstAt covered unlabelled strayBelow judgedNumber judgeOn isForeign judgeFor roleOf statusBy openingBy limitsBy commandBy wholesOf pad rawsOf getBits leNumber toSigned statusIn parametersIn sessionIn controlIn
 computed = (refl, refl, refl, refl, refl, refl, refl, refl, refl, refl, refl, refl, refl, refl, refl, refl, refl, refl)
 
@@ -77,13 +77,13 @@ abbrev own : standing 0 (accepted night) ≡ held 4 limits heard
 own = computed .0
 
 -- a channel that the search does not find
-unheld-in : (rs : List Request) (c : ℕ) → holder (accepted rs) c ≡ 8 → Unheld (accepted rs) c
+unheld-in : (rs : List Request) (c : ℕ) → holder (accepted rs) c ≡ postCount → Unheld (accepted rs) c
 unheld-in rs c none i h = go (holdsIn (standing i (accepted rs)) c) refl
   where
     go : (b : Bool) → holdsIn (standing i (accepted rs)) c ≡ b → b ≡ false
     go false e = refl
     go true e =
-        let eight : 8 ≡ i = sym none ∙ holder-is (accepted rs) (one-holder rs) i c h e in
+        let past : postCount ≡ i = sym none ∙ holder-is (accepted rs) (one-holder rs) i c h e in
         absurd (let z : ⊥ = omega arith in z)
 
 unheld : Unheld (accepted night) 5

@@ -21,7 +21,7 @@ use Rattle.watch_rules.specs.declared.Setting.the-variants as setting
 use Rattle.watch_rules.specs.declared.Settled.{Settled}
 use Rattle.watch_rules.specs.declared.Arrival.{Arrival}
 use Rattle.watch_rules.specs.declared.Arrival.the-variants.{Tick, Frame, Unread}
-use Rattle.watch_rules.specs.Table.{postCount, isChannel, holds, placeOf, noPost, postIn, Arriving, framing, ticking, turnedAway, judgedOf, heardOf, oneMore, oneRefused, fedBy, feedAt, feedOf, isOther, isPost, setUpOf, releaseOf}
+use Rattle.watch_rules.specs.Table.{postCount, isChannel, holds, placeOf, placeIn, noPost, postIn, Arriving, framing, ticking, turnedAway, judgedOf, heardOf, oneMore, oneRefused, fedBy, feedAt, feedOf, isOther, isPost, setUpOf, releaseOf}
 use Rattle.rule_limits.specs.Limits.{limitsFit}
 use Rattle.watch_rules.specs.Steps.{Step, Steps, ifFound, ifDone, feed01, setUp01, release01, feedSteps, setUpSteps, releaseSteps}
 use Rattle.watch_rules.specs.Run.{Request, setUp, release, frame, tick, set, fed, reply, next, reply01, steps01, afterRefusal, isRefusal}
@@ -42,7 +42,7 @@ module _ (t : Table) where
   module _ (i : ℕ) where
     -- what is turned away is stored back as it was
     pub put-same : (w : Refusal) → fedBy t i (turnedAway (postIn t i .head) w) .table ≡ oneRefused t
-    put-same w = ap (λ (l : List Post). record { posts = l; refused = oneMore (t .refused) }) (set-getD (t .posts) i noPost)
+    put-same w = ap (λ (l : List Post). record { posts = l; index = t .index; refused = oneMore (t .refused) }) (set-getD (t .posts) i noPost)
 
     full-stays : (r : Heard) → FedStays (fedBy t i r) → FedStays (fedBy t i (cond (isFullIn (postIn t i .head)) (turnedAway (postIn t i .head) CountFull) r))
     full-stays r stays = either (λ (h : Heard). FedStays (fedBy t i h)) (isFullIn (postIn t i .head)) (λ q. put-same CountFull) stays
@@ -61,7 +61,7 @@ module _ (t : Table) where
 
   feed-stays : (c time : ℕ) (a : Arriving) → FedStays (feedOf t c time a)
   unfolding feedOf
-  feed-stays c time a = either FedStays (isChannel c && ltb (placeOf (t .posts) c) postCount) (feedAt-stays (placeOf (t .posts) c) c time a) (λ q. refl)
+  feed-stays c time a = either FedStays (isChannel c && ltb (placeIn t c) postCount) (feedAt-stays (placeIn t c) c time a) (λ q. refl)
 
   -- ---- set-ups and releases
 

@@ -123,9 +123,28 @@ module _ (p : ℕ → Bool) where
       go true e rest = low
       go false e rest = let ne : k ≡ j → ⊥ = λ r. true≢false (sym q ∙ ap p (sym r) ∙ e) in rest (omega arith) (omega arith) q
 
+  find-most : (k n : ℕ) → findFrom p k n ≤ k + n
+  unfolding findFrom
+  find-most k zero = omega arith
+  find-most k (suc n) = go (p k) (find-most (suc k) n)
+    where
+      go : (b : Bool) → findFrom p (suc k) n ≤ suc k + n → cond b k (findFrom p (suc k) n) ≤ k + suc n
+      go true rest = omega arith
+      go false rest = omega arith
+
+pub find-same : (p q : ℕ → Bool) (k n : ℕ) → ((i : ℕ) → k ≤ i → i < k + n → p i ≡ q i) → findFrom p k n ≡ findFrom q k n
+unfolding findFrom
+find-same p q k zero same = refl
+find-same p q k (suc n) same =
+    rw (same k (omega arith) (omega arith), find-same p q (suc k) n (λ i low high. same i (omega arith) (omega arith)))
+
 -- ---- who holds a channel
 
 module _ (s : Steps) (c : ℕ) where
+  pub holder-most : holder s c ≤ postCount
+  unfolding holder
+  holder-most = find-most (λ i. holdsIn (standing i s) c) 0 postCount
+
   pub holder-holds : holder s c < postCount → holdsIn (standing (holder s c) s) c ≡ true
   unfolding holder
   holder-holds h = find-here (λ i. holdsIn (standing i s) c) 0 postCount h
@@ -133,6 +152,20 @@ module _ (s : Steps) (c : ℕ) where
   pub holder-first : (j : ℕ) → j < postCount → holdsIn (standing j s) c ≡ true → holder s c ≤ j
   unfolding holder
   holder-first j h q = find-first (λ i. holdsIn (standing i s) c) 0 postCount j (omega arith) h q
+
+  pub holder-none : ((j : ℕ) → j < postCount → holdsIn (standing j s) c ≡ false) → holder s c ≡ postCount
+  holder-none nobody = go (ltb (holder s c) postCount) refl
+    where
+      go : (b : Bool) → ltb (holder s c) postCount ≡ b → holder s c ≡ postCount
+      go true e =
+          let h : holder s c < postCount = ltb-true (holder s c) postCount e in
+          absurd (true≢false (sym (holder-holds h) ∙ nobody (holder s c) h))
+      go false e = omega (arith, ltb-false (holder s c) postCount e, holder-most)
+
+-- the same posts hold it after both
+pub holder-alike : (s z : Steps) (c : ℕ) → ((j : ℕ) → j < postCount → holdsIn (standing j z) c ≡ holdsIn (standing j s) c) → holder z c ≡ holder s c
+unfolding holder
+holder-alike s z c same = find-same (λ i. holdsIn (standing i z) c) (λ i. holdsIn (standing i s) c) 0 postCount (λ i low high. same i high)
 
 -- ---- whether another post holds it
 

@@ -1,9 +1,8 @@
 -- Each operation on a table with the posts that accepted steps leave is looking back over them:
 -- its answer is 01's, and its posts are those that the steps leave with one more, or as they were.
-use Prim.Native.Nat.{ℕ, zero, suc, _+_, _<_}
-use native.Mathlib.Nat.{zero-add}
+use Prim.Native.Nat.{ℕ, _<_}
 use native.Mathlib.Omega.{arith}
-use mathlib.Core.Path.{_≡_, refl, ap, sym, subst, _∙_, fun-ext}
+use mathlib.Core.Path.{_≡_, refl, ap, sym, subst, _∙_}
 use mathlib.Core.List.{List, [], _∷_, map}
 use mathlib.Core.Bool.{Bool, true, false, cond}
 use lib.Dec.{eqb, ltb}
@@ -18,8 +17,8 @@ use Rattle.rules.specs.History.{Event, History, countFrom}
 use Rattle.rules.specs.Times.{Unrolled}
 use Rattle.rules.specs.Record.{isSet, postOf}
 use Rattle.rules.specs.After.{stored, freePost, freshPost, postRecord}
-use Rattle.rules.proofs.Counted.{count-at, count-same, count-set}
-use Rattle.rules.proofs.Look.{used-look, channel-look, limits-look, fresh-look, record-look}
+use Rattle.rules.proofs.Counted.{count-same, count-set}
+use Rattle.rules.proofs.Look.{used-look, limits-look, fresh-look, record-look}
 use Rattle.watch_rules.specs.declared.Table.{Table}
 use Rattle.watch_rules.specs.declared.Answer.{Answer}
 use Rattle.watch_rules.specs.declared.Answer.the-variants.{Findings, Refused}
@@ -28,45 +27,18 @@ use Rattle.watch_rules.specs.declared.Heard.{Heard}
 use Rattle.watch_rules.specs.declared.Setting.{Setting}
 use Rattle.watch_rules.specs.declared.Setting.the-variants as setting
 use Rattle.watch_rules.specs.declared.Settled.{Settled}
-use Rattle.watch_rules.specs.Table.{postCount, isChannel, holds, placeOf, noPost, postIn, Arriving, withPost, feedAt, feedOf, emptyTable, isOther, isPost, setUpOf, releaseOf, notFound, lookUpOf}
-use Rattle.watch_rules.specs.Steps.{setUp, release, event, Steps, Standing, free, held, standing, holdsIn, findFrom, holder, otherHolds, answerIn, feed01, setUp01, isHeld, release01, shownIn, lookUp01, eventIn, eventOn, grown, Hears01, ifFound, feedSteps, setUpSteps, releaseSteps, keptPost, postsOf, Apart, InTime}
+use Rattle.watch_rules.specs.Table.{postCount, isChannel, placeOf, placeIn, noPost, postIn, Arriving, withPost, feedAt, feedOf, emptyTable, isOther, isPost, setUpOf, releaseOf, notFound, lookUpOf}
+use Rattle.watch_rules.specs.Steps.{setUp, release, event, Steps, Standing, free, held, standing, holdsIn, holder, otherHolds, answerIn, feed01, setUp01, isHeld, release01, shownIn, lookUp01, eventIn, eventOn, grown, Hears01, ifFound, feedSteps, setUpSteps, releaseSteps, keptPost, postsOf, Apart, InTime, Indexed}
+use Rattle.watch_rules.proofs.Placed.{used-standing, post-at, place-look}
+use Rattle.watch_rules.proofs.Indexed.{place-in}
 use Rattle.watch_rules.proofs.Hears.{hear-look}
 use Rattle.watch_rules.proofs.Standings.{standing-setUp, standing-setUp-other, standing-release, standing-release-other, standing-event, standing-event-other, held-on, holder-holds, alone, other-look}
 
 -- ---- the posts of the table
 
-pub holds-look : (x : Standing) (c : ℕ) → holds (keptPost x .head) c ≡ holdsIn x c
-holds-look free c = refl
-holds-look (held d lim h) c = rw (used-look d lim h, channel-look d lim h)
-
-pub used-standing : (x : Standing) → isSet (keptPost x .head .used) ≡ isHeld x
-used-standing free = refl
-used-standing (held d lim h) = rw (used-look d lim h)
-
--- the search over a list by numbers is the search over the numbers
-place-count : (f : ℕ → Post) (c k n : ℕ) → k + placeOf (map f (countFrom k n)) c ≡ findFrom (λ i. holds (f i .head) c) k n
-unfolding placeOf findFrom
-place-count f c k zero = omega arith
-place-count f c k (suc n) = go (holds (f k .head) c) (place-count f c (suc k) n)
-  where
-    go : (b : Bool) → suc k + placeOf (map f (countFrom (suc k) n)) c ≡ findFrom (λ i. holds (f i .head) c) (suc k) n
-        → k + cond b 0 (suc (placeOf (map f (countFrom (suc k) n)) c)) ≡ cond b k (findFrom (λ i. holds (f i .head) c) (suc k) n)
-    go true rest = omega arith
-    go false rest = let z : k + suc (placeOf (map f (countFrom (suc k) n)) c) ≡ suc k + placeOf (map f (countFrom (suc k) n)) c = omega arith in z ∙ rest
-
 module _ (s : Steps) where
   abbrev keptAt : ℕ → Post
   keptAt i = keptPost (standing i s)
-
-  pub post-at : (i : ℕ) → i < postCount → getD (postsOf s) i noPost ≡ keptPost (standing i s)
-  unfolding postsOf
-  post-at i h = count-at keptAt noPost i 0 postCount i (omega arith) h
-
-  pub place-look : (c : ℕ) → placeOf (postsOf s) c ≡ holder s c
-  unfolding postsOf holder
-  place-look c =
-      sym (zero-add _) ∙ place-count keptAt c 0 postCount
-      ∙ ap (λ (p : ℕ → Bool). findFrom p 0 postCount) (fun-ext (λ i. holds-look (standing i s) c))
 
   -- storing at a place, where the steps with one more leave the other posts as they were
   posts-put : (z : Steps) (i : ℕ) (p : Post) → keptPost (standing i z) ≡ p → ((j : ℕ) → j < postCount → (j ≡ i → ⊥) → standing j z ≡ standing j s)
@@ -82,7 +54,7 @@ module _ (s : Steps) where
 
   -- storing what stands there
   posts-same : (i : ℕ) → i < postCount → set (postsOf s) i (keptPost (standing i s)) ≡ postsOf s
-  posts-same i h = rw (← (post-at i h)) (set-getD (postsOf s) i noPost)
+  posts-same i h = rw (← (post-at s i h)) (set-getD (postsOf s) i noPost)
 
 -- ---- frames, ticks and set-ups on a table with these posts, where no channel is held twice
 
@@ -125,20 +97,20 @@ module _ (t : Table) (s : Steps) (apart : Apart s) (same : t .posts ≡ postsOf 
             let answer : r .answer ≡ answerIn (held c lim h) time a = heard .answer ∙ rw (channel, eq-eqb c c refl) in
             (answer, ap (set (t .posts) i) (heard .post) ∙ posts-grown (eventIn h time (a lim)) (r .answer) ∙ ap (λ (w : Answer). postsOf (ifFound w (event c (eventIn h time (a lim))) s)) answer)
 
-  pub feed-look : ((i : ℕ) → i < postCount → InTime (standing i s)) → (c time : ℕ) (a : Arriving) → Fed01 (feedSteps s c time a) (feed01 s c time a) (feedOf t c time a)
+  pub feed-look : ((i : ℕ) → i < postCount → InTime (standing i s)) → Indexed (t .index) s → (c time : ℕ) (a : Arriving) → Fed01 (feedSteps s c time a) (feed01 s c time a) (feedOf t c time a)
   unfolding feedOf feed01 feedSteps
-  feed-look times c time a = go (isChannel c) (ltb (holder s c) postCount) refl refl
+  feed-look times true-to c time a = go (isChannel c) (ltb (holder s c) postCount) refl refl
     where
-      place : placeOf (t .posts) c ≡ holder s c
-      place = ap (λ (ps : List Post). placeOf ps c) same ∙ place-look s c
+      place : isChannel c ≡ true → placeIn t c ≡ holder s c
+      place = place-in t s same true-to c
 
       go : (p q : Bool) → isChannel c ≡ p → ltb (holder s c) postCount ≡ q → Fed01 (feedSteps s c time a) (feed01 s c time a) (feedOf t c time a)
       go false q e f = rw e (refl, same)
-      go true false e f = rw (e, place, f) (refl, same)
+      go true false e f = rw (e, place e, f) (refl, same)
       go true true e f =
           let h : holder s c < postCount = ltb-true (holder s c) postCount f in
           let o = held-on (standing (holder s c) s) c (holder-holds s c h) in
-          rw (e, place, f, o .2) (heard-look (holder s c) c (o .0) (o .1) h (o .2) time a (subst InTime (o .2) (times (holder s c) h)) e)
+          rw (e, place e, f, o .2) (heard-look (holder s c) c (o .0) (o .1) h (o .2) time a (subst InTime (o .2) (times (holder s c) h)) e)
 
   posts-setUp : (i c : ℕ) (lim : PlainLimits) → set (t .posts) i (freshPost c lim) ≡ postsOf (setUp i c lim ∷ s)
   posts-setUp i c lim =
@@ -147,20 +119,20 @@ module _ (t : Table) (s : Steps) (apart : Apart s) (same : t .posts ≡ postsOf 
       (ap keptPost (standing-setUp s i c lim) ∙ sym (fresh-look c lim))
       (λ j hj ne. standing-setUp-other s i c lim j (ne-eqb i j (λ e. ne (sym e))))
 
+  pub other-place : (i c : ℕ) → isOther (placeOf (t .posts) c) i ≡ otherHolds s i c 0 postCount
+  other-place i c = ap (λ (ps : List Post). isOther (placeOf ps c) i) same ∙ ap (λ (k : ℕ). isOther k i) (place-look s c) ∙ other-look s apart i c
+
   pub setUp-look : (i c : ℕ) (lim : PlainLimits) → Set01 (setUpSteps s i c lim) (setUp01 s i c lim) (setUpOf t i c lim)
   unfolding setUpOf setUp01 setUpSteps
   setUp-look i c lim = go (isPost i) (isChannel c) (otherHolds s i c 0 postCount) (limitsFit lim) refl refl refl refl
     where
-      other : isOther (placeOf (t .posts) c) i ≡ otherHolds s i c 0 postCount
-      other = ap (λ (ps : List Post). isOther (placeOf ps c) i) same ∙ ap (λ (k : ℕ). isOther k i) (place-look s c) ∙ other-look s apart i c
-
       go : (p q o f : Bool) → isPost i ≡ p → isChannel c ≡ q → otherHolds s i c 0 postCount ≡ o → limitsFit lim ≡ f
           → Set01 (setUpSteps s i c lim) (setUp01 s i c lim) (setUpOf t i c lim)
       go false q o f a b d e = rw a (refl, same)
       go true false o f a b d e = rw (a, b) (refl, same)
-      go true true true f a b d e = rw (a, b, other, d) (refl, same)
-      go true true false false a b d e = rw (a, b, other, d, e) (refl, same)
-      go true true false true a b d e = rw (a, b, other, d, e) (refl, posts-setUp i c lim)
+      go true true true f a b d e = rw (a, b, other-place i c, d) (refl, same)
+      go true true false false a b d e = rw (a, b, other-place i c, d, e) (refl, same)
+      go true true false true a b d e = rw (a, b, other-place i c, d, e) (refl, posts-setUp i c lim)
 
 -- ---- release, look-up, and the table to start with
 
@@ -172,10 +144,10 @@ module _ (t : Table) (s : Steps) (same : t .posts ≡ postsOf s) where
       (ap keptPost (standing-release s i))
       (λ j hj ne. standing-release-other s i j (ne-eqb i j (λ e. ne (sym e))))
 
-  at : (i : ℕ) → i < postCount → postIn t i ≡ keptPost (standing i s)
+  pub at : (i : ℕ) → i < postCount → postIn t i ≡ keptPost (standing i s)
   at i h = ap (λ (ps : List Post). getD ps i noPost) same ∙ post-at s i h
 
-  used-at : (i : ℕ) → i < postCount → isSet (postIn t i .head .used) ≡ isHeld (standing i s)
+  pub used-at : (i : ℕ) → i < postCount → isSet (postIn t i .head .used) ≡ isHeld (standing i s)
   used-at i h = ap (λ (p : Post). isSet (p .head .used)) (at i h) ∙ used-standing (standing i s)
 
   pub release-look : (i : ℕ) → Set01 (releaseSteps s i) (release01 s i) (releaseOf t i)

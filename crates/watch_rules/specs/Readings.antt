@@ -1,4 +1,4 @@
--- 01, "Readings from both sides of each edge": E1* to E13*, and 02, Req 02 to 04, 08, 09 and 11: one table under one statement, closed by computing the
+-- 01, "Readings from both sides of each edge": E1* to E13*, and 02, Req 02 to 04, 08, 09, 11 and 13: one table under one statement, closed by computing the
 -- definitions. What the watch answers is read by looking back.
 use Prim.Native.Nat.{ℕ}
 use mathlib.Core.Path.{_≡_, refl}
@@ -51,14 +51,14 @@ use Rattle.watch_rules.specs.declared.Answer.the-variants.{Findings, Ref
 use Rattle.watch_rules.specs.declared.Setting.the-variants as setting
 use Rattle.watch_rules.specs.declared.LookedUp.{LookedUp}
 use Rattle.rule_limits.specs.Limits.{limitsFit}
-use Rattle.watch_rules.specs.Table.{notFound}
+use Rattle.watch_rules.specs.Table.{entryOf, notFound}
 use Rattle.watch_rules.specs.Steps.{standing, findFrom, holder, otherHolds, feed01, setUp01, release01, lookUp01, feedSteps, setUpSteps, releaseSteps}
 use Rattle.watch_rules.specs.Run.{Request, setUp, release, frame, tick, Reply, set, fed, accepted, refusedEver, acceptedFrom, replies01From}
 
 -- a reading of frames and messages (E1 to E7); requests to the empty table in order of arrival, with their replies;
 -- such requests, and a post's record after them, or the sensor kind or the interface in it, or its latest message in a place, or that one's time and age,
 -- or its session's part, or its counts;
--- and how many of them were refused
+-- how many of them were refused; and the index's entry for a channel after them
 pub data Case : Type 0 where
   codec : messages.Case → Case
   answers : List Request → List Reply → Case
@@ -70,6 +70,7 @@ pub data Case : Type 0 where
   dates : List Request → ℕ → ℕ → ℕ × ℕ → Case
   counts : List Request → ℕ → ℕ → List ℕ → Case
   turns-away : List Request → ℕ → Case
+  names : List Request → ℕ → ℕ → Case
 
 abbrev latestShown : List Request → ℕ → ℕ → Dated
 latestShown asked post kind = getD (lookUp01 (acceptedFrom [] asked) post .shown .latest) kind (record { message = dated.Nothing }) .message
@@ -91,6 +92,7 @@ Holds (dates asked post kind d) = isDated (latestShown asked post kind) d
 Holds (counts asked post accepted tallies) =
     (lookUp01 (acceptedFrom [] asked) post .shown .accepted ≡ accepted) × (lookUp01 (acceptedFrom [] asked) post .shown .tallies ≡ tallies)
 Holds (turns-away asked n) = refusedEver (reverse asked) ≡ n
+Holds (names asked c entry) = entryOf (holder (acceptedFrom [] asked) c) ≡ entry
 
 abbrev pub All : List Case → Type 0
 All [] = Unit {0}
@@ -227,7 +229,24 @@ e8to13 =
     -- 01: "Release frees the channel and drops the record"; 14 for a post that is not set up
     ∷ answers (set-up ∷ release 0 ∷ tick 4 6 ∷ release 0 ∷ setUp 1 4 limits ∷ []) (done ∷ done ∷ fed (Refused ChannelFree) ∷ set (setting.Refused NotSetUp) ∷ done ∷ [])
     ∷ shows (set-up ∷ release 0 ∷ []) 0 (notFound NotSetUp)
-    ∷ shows (set-up ∷ []) 8 (notFound NoSuchPost)
+    -- 02, Req 13: 9 begins at 16 in set-up, release and look-up; 8 and 15 are posts
+    ∷ answers (setUp 16 4 limits ∷ setUp 15 4 limits ∷ setUp 8 5 limits ∷ tick 4 1 ∷ tick 5 1 ∷ release 16 ∷ release 15 ∷ release 15 ∷ [])
+    (set (setting.Refused NoSuchPost) ∷ done ∷ done ∷ found 0 ∷ found 0 ∷ set (setting.Refused NoSuchPost) ∷ done ∷ set (setting.Refused NotSetUp) ∷ [])
+    ∷ shows (set-up ∷ []) 16 (notFound NoSuchPost)
+    ∷ shows (set-up ∷ []) 15 (notFound NotSetUp)
+    ∷ shows (setUp 15 4 limits ∷ []) 15 (record { answer = setting.Done; shown = emptyRecord })
+    -- the index names the post that holds a channel; a second set-up on another channel and a release take the name away, a refused set-up does not,
+    -- and the channel can be held by another post
+    ∷ names (set-up ∷ setUp 15 9 limits ∷ []) 4 1
+    ∷ names (set-up ∷ setUp 15 9 limits ∷ []) 9 16
+    ∷ names (set-up ∷ setUp 15 9 limits ∷ []) 5 0
+    ∷ names (set-up ∷ setUp 0 31 limits ∷ []) 4 0
+    ∷ names (set-up ∷ setUp 0 31 limits ∷ []) 31 1
+    ∷ names (set-up ∷ set-up ∷ setUp 1 4 limits ∷ setUp 0 5 (limitsWith 2) ∷ []) 4 1
+    ∷ names (set-up ∷ setUp 0 5 limits ∷ setUp 1 4 limits ∷ []) 4 2
+    ∷ names (set-up ∷ release 0 ∷ []) 4 0
+    ∷ names (set-up ∷ release 0 ∷ setUp 3 4 limits ∷ tick 4 7 ∷ tick 5 7 ∷ []) 4 4
+    ∷ answers (set-up ∷ setUp 0 5 limits ∷ tick 4 1 ∷ tick 5 1 ∷ setUp 1 4 limits ∷ tick 4 0 ∷ []) (done ∷ done ∷ fed (Refused ChannelFree) ∷ found 0 ∷ done ∷ found 0 ∷ [])
     -- 02, Req 02: the watch hands the start bit on, "lowest start first"; a byte too few is 4, one too many 15
     ∷ answers (set-up ∷ frame 4 0 0x6b001 true (8 ∷ 5 ∷ []) ∷ frame 4 0 0x6b001 true (2 ∷ 5 ∷ []) ∷ frame 4 0 0x6b001 true (8 ∷ []) ∷ frame 4 0 0x6b001 true (8 ∷ 5 ∷ 0 ∷ []) ∷ [])
     (done ∷ fed (Refused (NoLabel 0)) ∷ fed (Refused (NoLabel 8)) ∷ fed (Refused TooShort) ∷ fed (Refused TooLong) ∷ [])
@@ -355,4 +374,4 @@ joined (c ∷ cs) rest a b = (a .0, joined cs rest (a .1) b)
 
 pub readings : All table
 unfolding standing findFrom holder otherHolds feed01 setUp01 release01 lookUp01 feedSteps setUpSteps releaseSteps limitsFit sinceFinished opening inSession earlierIn lowersBadly outside leaking badInsulation differs sessionStatus sessionControl limitOf f1 f2 f3 f4 f5 f6 f7 f8 f9 f10 f11 findings01 recordAsOf messageOf builtOf statusIn parametersIn sessionIn controlIn rows ofKind firstAt covered unlabelled offender strayBelow judgedNumber judgeOn isForeign judgeFor roleOf statusBy openingBy limitsIn limitsBy commandBy placeBy datedAt olderBuilt.messageOf olderBuilt.builtOf wholesOf pad rawsOf getBits leNumber beNumber toSigned accepted talliesOf
-readings = joined messages.table e8to13 messages.readings (refl, (refl, (refl, (refl, (refl, (refl, (refl, (refl, (refl, (refl, (refl, ((refl, refl), (refl, (refl, (refl, (refl, ((refl, refl), ((refl, refl), (refl, (refl, (refl, (refl, (refl, (refl, (refl, (refl, (refl, (refl, (refl, (refl, (refl, (refl, (refl, (refl, (refl, (refl, ((refl, refl), ((refl, refl), ((refl, refl), ((refl, refl), (refl, (refl, (refl, (refl, (refl, (refl, (refl, (refl, (refl, (refl, (refl, (refl, (refl, (refl, (refl, (refl, tt))))))))))))))))))))))))))))))))))))))))))))))))))))))))
+readings = joined messages.table e8to13 messages.readings (refl, (refl, (refl, (refl, (refl, (refl, (refl, (refl, (refl, (refl, (refl, ((refl, refl), (refl, (refl, (refl, (refl, ((refl, refl), ((refl, refl), (refl, (refl, (refl, (refl, (refl, (refl, (refl, (refl, (refl, (refl, (refl, (refl, (refl, (refl, (refl, (refl, (refl, (refl, (refl, (refl, (refl, (refl, (refl, (refl, (refl, (refl, (refl, (refl, (refl, (refl, (refl, ((refl, refl), ((refl, refl), ((refl, refl), ((refl, refl), (refl, (refl, (refl, (refl, (refl, (refl, (refl, (refl, (refl, (refl, (refl, (refl, (refl, (refl, (refl, (refl, tt)))))))))))))))))))))))))))))))))))))))))))))))))))))))))))))))))))))

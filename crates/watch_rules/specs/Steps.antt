@@ -5,6 +5,7 @@ use mathlib.Core.List.{List, [], _∷_, map}
 use mathlib.Core.Bool.{Bool, true, false, cond, not, _&&_}
 use mathlib.Core.Option.{Option, none, some}
 use lib.Dec.{ltb, eqb}
+use lib.ListN.{length, getD}
 use Rattle.refusals.specs.declared.Refusal.the-variants.{ChannelFree, Earlier, NoSuchPost, NoSuchChannel, ChannelTaken, LimitOutside, NotSetUp, CountFull}
 use Rattle.rule_limits.specs.declared.PlainLimits.{PlainLimits}
 use Rattle.rules.specs.declared.Head.{Head}
@@ -26,7 +27,7 @@ use Rattle.watch_rules.specs.declared.Settled.{Settled}
 use Rattle.watch_rules.specs.declared.LookedUp.{LookedUp}
 use Rattle.watch_rules.specs.declared.Arrival.{Arrival}
 use Rattle.watch_rules.specs.declared.Arrival.the-variants.{Tick, Frame, Unread}
-use Rattle.watch_rules.specs.Table.{postCount, isChannel, Arriving, isPost, notFound}
+use Rattle.watch_rules.specs.Table.{postCount, channelCount, isChannel, entryOf, Arriving, isPost, notFound}
 use Rattle.rule_limits.specs.Limits.{limitsFit}
 
 -- ---- accepted steps
@@ -190,12 +191,17 @@ abbrev pub InTime : Standing → Type 0
 InTime free = Unit {0}
 InTime (held c lim h) = Unrolled h
 
+-- 02, Req 13: the index has a place for each channel, with the entry of the post that holds it
+unfoldable pub Indexed : List ℕ → Steps → Type 0
+Indexed xs s = (length xs ≡ channelCount) × ((c : ℕ) → c < channelCount → getD xs c 0 ≡ entryOf (holder s c))
+
 -- the table t stands for the accepted steps s
 pub record Kept (t : Table) (s : Steps) : Type 0 where
   pub apart : Apart s
   pub ranges : (i : ℕ) → i < postCount → InRange (standing i s)
   pub times : (i : ℕ) → i < postCount → InTime (standing i s)
   pub posts : t .posts ≡ postsOf s
+  pub index : Indexed (t .index) s
 
 -- ---- a post hears right
 

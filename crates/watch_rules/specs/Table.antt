@@ -1,5 +1,5 @@
 -- Each operation's answer and table, for every table. What they are for a table that accepted steps left stands in Steps.
-use Prim.Native.Nat.{ℕ, suc, _+_}
+use Prim.Native.Nat.{ℕ, suc, _+_, _-_, _%_}
 use mathlib.Core.List.{List, [], _∷_}
 use mathlib.Core.Bool.{Bool, cond, not, _&&_}
 use lib.Dec.{ltb, leb, eqb}
@@ -31,14 +31,18 @@ use Rattle.watch_rules.specs.declared.LookedUp.{LookedUp}
 use Rattle.watch_rules.specs.declared.Arrival.{Arrival}
 use Rattle.watch_rules.specs.declared.Arrival.the-variants.{Tick, Frame, Unread}
 
+-- 02, Req 13: "sixteen posts": 9 begins at 16
 abbrev pub postCount : ℕ
-postCount = 8
+postCount = 16
+
+abbrev pub channelCount : ℕ
+channelCount = 32
 
 -- 01: "channel above 31"
 abbrev pub isChannel : ℕ → Bool
 isChannel c = leb c 31
 
--- ---- who holds a channel
+-- ---- who holds a channel, by a search over the posts; the index is proved equal to it (proofs/Index.antt)
 
 abbrev pub holds : Head → ℕ → Bool
 holds p c = isSet (p .used) && eqb (p .channel) c
@@ -49,7 +53,7 @@ placeOf [] c = 0
 placeOf (p ∷ ps) c = cond (holds (p .head) c) 0 (suc (placeOf ps c))
 
 abbrev pub putIn : Table → ℕ → Post → Table
-putIn t i p = record { posts = set (t .posts) i p; refused = t .refused }
+putIn t i p = record { posts = set (t .posts) i p; index = t .index; refused = t .refused }
 
 -- what `getD` answers past the posts: no numbers, no elements
 abbrev pub noSession : Session
@@ -63,6 +67,30 @@ noPost = record { head = noHead; latest = [] }
 
 abbrev pub postIn : Table → ℕ → Post
 postIn t i = getD (t .posts) i noPost
+
+-- ---- the channel index (02, Req 13): a number for each channel, one more than that of the post that holds it, and 0 where none does
+
+abbrev pub entryOf : ℕ → ℕ
+entryOf i = cond (ltb i postCount) (suc i) 0
+
+-- the post that an entry names, and the first where it names none
+unfoldable pub placeNamed : ℕ → ℕ
+placeNamed x = cond (ltb (x - 1) postCount) (x - 1) 0
+
+-- where what comes on a channel is heard: a place of the table in any case, also of a number that is no channel, which is asked there
+unfoldable pub somePlace : Table → ℕ → ℕ
+somePlace t c = placeNamed (getD (t .index) (c % channelCount) 0)
+
+-- that place, where its post holds the channel, whatever the index says, and else the number of posts
+unfoldable pub placeIn : Table → ℕ → ℕ
+placeIn t c = cond (holds (postIn t (somePlace t c) .head) c) (somePlace t c) postCount
+
+abbrev pub withEntry : Table → ℕ → ℕ → Table
+withEntry t c x = record { posts = t .posts; index = set (t .index) c x; refused = t .refused }
+
+-- no post is named for the channel that a head held
+abbrev pub unnamed : Table → Head → Table
+unnamed t p = record { posts = t .posts; index = cond (isSet (p .used)) (set (t .index) (p .channel) 0) (t .index); refused = t .refused }
 
 -- ---- frames and ticks
 
@@ -116,35 +144,30 @@ refusedAfter n (Refused w) = oneMore n
 
 -- what a refused frame or tick leaves: "that count is now the only thing a refused one changes"
 abbrev pub oneRefused : Table → Table
-oneRefused t = record { posts = t .posts; refused = oneMore (t .refused) }
+oneRefused t = record { posts = t .posts; index = t .index; refused = oneMore (t .refused) }
 
 abbrev pub refused : Table → Refusal → Fed
 refused t w = record { table = oneRefused t; answer = Refused w }
 
 abbrev pub withPost : Table → ℕ → Post → Answer → Table
-withPost t i p w = record { posts = set (t .posts) i p; refused = refusedAfter (t .refused) w }
+withPost t i p w = record { posts = set (t .posts) i p; index = t .index; refused = refusedAfter (t .refused) w }
 
 -- the table with what the post at i heard
 abbrev pub fedBy : Table → ℕ → Heard → Fed
 fedBy t i r = record { table = withPost t i (stored (postIn t i) (r .head) (r .at) (r .slot)) (r .answer); answer = r .answer }
 
--- what comes to the post at i
+-- what comes to the post at i; what comes to `somePlace` is `feedOf` (`feed-same`, proofs/Same.antt)
 unfoldable pub feedAt : Table → ℕ → ℕ → ℕ → Arriving → Fed
 feedAt t i c time a = fedBy t i (heardOf (postIn t i .head) c time (a (postIn t i .head .limits)))
 
 unfoldable pub feedOf : Table → ℕ → ℕ → Arriving → Fed
 feedOf t c time a =
-    cond (isChannel c && ltb (placeOf (t .posts) c) postCount) (feedAt t (placeOf (t .posts) c) c time a) (refused t ChannelFree)
-
--- Inner step: the place of the post that holds the channel, and 0 where none does: a place of the table in any case.
--- What comes to it is `feedOf` (`feed-same`, proofs/Same.antt).
-unfoldable pub somePlace : List Post → ℕ → ℕ
-somePlace ps c = cond (ltb (placeOf ps c) postCount) (placeOf ps c) 0
+    cond (isChannel c && ltb (placeIn t c) postCount) (feedAt t (placeIn t c) c time a) (refused t ChannelFree)
 
 -- ---- set-up, release, look-up
 
 abbrev pub emptyTable : Table
-emptyTable = record { posts = replicate postCount freePost; refused = 0 }
+emptyTable = record { posts = replicate postCount freePost; index = replicate channelCount 0; refused = 0 }
 
 -- a place of the table, and another than i
 unfoldable pub isOther : ℕ → ℕ → Bool
@@ -159,12 +182,20 @@ unsettled t w = record { table = t; answer = setting.Refused w }
 abbrev pub settled : Table → Settled
 settled t = record { table = t; answer = setting.Done }
 
+-- the post i with what it was set up with: the index names it for its channel, and no post for the channel that it held before
+abbrev pub seat : Table → ℕ → ℕ → Post → Table
+seat t i c p = withEntry (unnamed (putIn t i p) (postIn t i .head)) c (suc i)
+
+-- the post i as it was before any set-up
+abbrev pub unseat : Table → ℕ → Table
+unseat t i = unnamed (putIn t i freePost) (postIn t i .head)
+
 unfoldable pub setUpOf : Table → ℕ → ℕ → PlainLimits → Settled
 setUpOf t i c lim =
     cond (isPost i)
     (cond (isChannel c)
     (cond (isOther (placeOf (t .posts) c) i) (unsettled t ChannelTaken)
-    (cond (limitsFit lim) (settled (putIn t i (freshPost c lim)))
+    (cond (limitsFit lim) (settled (seat t i c (freshPost c lim)))
     (unsettled t LimitOutside)))
     (unsettled t NoSuchChannel))
     (unsettled t NoSuchPost)
@@ -172,7 +203,7 @@ setUpOf t i c lim =
 unfoldable pub releaseOf : Table → ℕ → Settled
 releaseOf t i =
     cond (isPost i)
-    (cond (isSet (postIn t i .head .used)) (settled (putIn t i freePost)) (unsettled t NotSetUp))
+    (cond (isSet (postIn t i .head .used)) (settled (unseat t i)) (unsettled t NotSetUp))
     (unsettled t NoSuchPost)
 
 abbrev pub noRecord : Record

@@ -3,9 +3,10 @@
 ghost use mathlib.Core.List.{[]};
 ghost use mathlib.Core.Path.{_≡_};
 ghost use Rattle.rule_limits.specs.Sensor.{plainOf};
+ghost use Rattle.rules.specs.After.{freshPost};
 ghost use Rattle.watch_rules.specs.Steps.{Steps, Kept, SetUpRight, ReleaseRight};
 ghost use Prim.Native.Nat.{_<_};
-ghost use Rattle.watch_rules.specs.Table.{postCount, emptyTable, isOther, unnamed, setUpIn, setUpOf, releaseOf};
+ghost use Rattle.watch_rules.specs.Table.{postCount, emptyTable, isOther, unnamed, seat, setUpOf, releaseOf};
 use refusals::Refusal;
 use rule_asks::is_set;
 use rule_limits::Limits;
@@ -59,7 +60,7 @@ fn forgotten(t: Table, h: Head) -> Table
 // The table with a post set up anew: the index names it for its channel, and no longer for the one that it held before.
 fn seated(t: Table, post: u32, channel: u32, limits: PlainLimits) -> Table
     requires { ⌜ post < postCount ⌝ }
-    ensures { λ r. ⌜ r ≡ setUpIn t post channel limits ⌝ }
+    ensures { λ r. ⌜ r ≡ seat t post channel (freshPost channel limits) ⌝ }
 {
     let i = post as usize;
     let p = t.posts[i];
