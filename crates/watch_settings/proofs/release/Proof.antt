@@ -42,18 +42,22 @@ free-post-requires c κs = search needs
 put-requires : tie.Need-put-requires
 put-requires c κs = search needs
 
+forgotten-requires : tie.Need-forgotten-requires
+forgotten-requires c κs = search needs
+
 returns-3 : tie.Need-returns-3
 unfolding releaseOf
 returns-3 c =
-    let used = c .before .before in
+    let used = c .before .before .before in
     let post = used .before .before .before .before .before in
     let a = post .before .before .args in
     released-both (a .t1) (a .post)
     (rw (
+      c .forgotten .ensures,
+      c .before .put .ensures,
+      c .before .before .free-post .ensures,
       sym (post .before .is-post .ensures) ∙ not-false _ (post .if1 .left),
       sym (used .before .is-set .ensures) ∙ not-false _ (used .if2 .left),
-      ← c .before .free-post .ensures,
-      ← c .put .ensures,
     ))
 
 pub release-spec : {M : Type 1} → statement M
@@ -69,4 +73,5 @@ release-spec =
     returns-2
     free-post-requires
     put-requires
+    forgotten-requires
     returns-3)

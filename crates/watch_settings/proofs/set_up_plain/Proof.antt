@@ -1,6 +1,6 @@
 -- `watch_settings::set_up_plain` meets its contract: the tests fall in the order of 01's refusals, and the post is stored where all pass.
 use mathlib.Core.Path.{sym, _∙_}
-use borrow.Author.Tests.{not-true, not-false, le-leb, lt-leb}
+use borrow.Author.Tests.{ltb-true, not-true, not-false, le-leb, lt-leb}
 use borrow.Author.Needs.{needs}
 use Rattle.watch_rules.specs.Table.{setUpOf}
 use Rattle.watch_rules.proofs.Promises.{set-both}
@@ -62,16 +62,15 @@ returns-4 c =
       sym (c .before .limits-fit .ensures) ∙ not-true _ (c .if4 .taken),
     ))
 
-fresh-post-requires : tie.Need-fresh-post-requires
-fresh-post-requires c κs = search needs
-
-put-requires : tie.Need-put-requires
-put-requires c κs = search needs
+seated-requires : tie.Need-seated-requires
+seated-requires c κs =
+    let post = c .before .before .before .before .before .before in
+    ltb-true _ _ (sym (post .before .is-post .ensures) ∙ not-false _ (post .if1 .left))
 
 returns-5 : tie.Need-returns-5
 unfolding setUpOf
 returns-5 c =
-    let fit = c .before .before in
+    let fit = c .before in
     let free = fit .before .before in
     let on = free .before .before .before in
     let post = on .before in
@@ -83,8 +82,7 @@ returns-5 c =
       ← free .before .before .place .ensures .0,
       sym (free .before .other .ensures) ∙ free .if3 .left,
       sym (fit .before .limits-fit .ensures) ∙ not-false _ (fit .if4 .left),
-      ← c .before .fresh-post .ensures,
-      ← c .put .ensures,
+      c .seated .ensures,
     ))
 
 pub set-up-plain-spec : {M : Type 1} → statement M
@@ -99,6 +97,5 @@ set-up-plain-spec =
     returns-3
     limits-fit-requires
     returns-4
-    fresh-post-requires
-    put-requires
+    seated-requires
     returns-5)
