@@ -11,7 +11,7 @@ use Rattle.lent_step.specs.One.{frameOn, tickOn, lentAt}
 
 module _ (t : Table) (c time : ℕ) where
   abbrev place : ℕ
-  place = somePlace (t .posts) c
+  place = somePlace t c
 
   pub frame-same : (m : ℕ) (x : Bool) (bs : List ℕ) → lentAt t place (frameOn (postIn t place .head) (t .refused) c time m x bs) ≡ frameWord t c time m x bs
   unfolding frameWord feedAt

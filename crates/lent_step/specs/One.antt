@@ -30,4 +30,4 @@ abbrev pub storedBy : Post → Worded → Post
 storedBy p r = stored p (r .head) (r .at) (r .slot)
 
 abbrev pub lentAt : Table → ℕ → Worded → Lent
-lentAt t i r = record { table = record { posts = set (t .posts) i (storedBy (postIn t i) r); refused = r .refused }; answer = r .answer }
+lentAt t i r = record { table = record { posts = set (t .posts) i (storedBy (postIn t i) r); index = t .index; refused = r .refused }; answer = r .answer }

@@ -17,16 +17,10 @@ use Rattle.watch_rules.specs.Table.{postCount, isChannel, Arriving, framing, ti
 use Rattle.watch_rules.specs.Steps as step
 use Rattle.watch_rules.specs.Steps.{event, Steps, Standing, free, held, standing, holdsIn, findFrom, holder, answerIn, feed01, setUp01, isHeld, release01, shownIn, lookUp01, eventIn, eventOn, ifFound, feedSteps, ifDone, setUpSteps, releaseSteps, Apart, InTime}
 use Rattle.watch_rules.specs.Run.{Request, setUp, release, frame, tick, set, fed, reply01, steps01}
-use Rattle.watch_rules.proofs.Standings.{standing-setUp, standing-setUp-other, standing-release, standing-release-other, standing-event, standing-event-other, held-on, holder-holds, others-alike, alone}
+use Rattle.watch_rules.proofs.Standings.{standing-setUp, standing-setUp-other, standing-release, standing-release-other, standing-event, standing-event-other, held-on, holder-holds, others-alike, find-same, alone}
 use Rattle.watch_clock.specs.Moved.{onClock, moved, movedStanding, movedRequest, stillShown}
 use Rattle.watch_clock.proofs.Moved.{movedEvent, record-moved}
 use Rattle.watch_clock.proofs.MovedAnswer.{event-moved, answer-moved}
-
-find-same : (p q : ℕ → Bool) (k n : ℕ) → ((i : ℕ) → k ≤ i → i < k + n → p i ≡ q i) → findFrom p k n ≡ findFrom q k n
-unfolding findFrom
-find-same p q k zero same = refl
-find-same p q k (suc n) same =
-    rw (same k (omega arith) (omega arith), find-same p q (suc k) n (λ i low high. same i (omega arith) (omega arith)))
 
 module _ (by : ℕ → ℕ) where
   holds-moved : (x : Standing) (c : ℕ) → holdsIn (movedStanding by x) c ≡ holdsIn x c
