@@ -1,7 +1,7 @@
 -- What a walk that reads and stores parts of one post of a lent table needs:
 -- the machine values of posts, heads and slots, how many there are, and that a table with another post is a table.
 --     post-of x us         the machine value of a post, of its head's and its slots'
---     table-of us n        the machine value of a table, of its posts' and its count's: the one place that says how a table lies
+--     table-of us xs n     the machine value of a table, of its posts', its index's and its count's: the one place that says how a table lies
 --     head-stored, slot-stored, slot-left      the posts' machine values after the store of a head, and then of a slot, or of none
 --     Known w r v          what a walk has of the step's result r at the machine value v, where the step ensures that it is w
 -- Assumes nothing.
@@ -18,6 +18,8 @@ use denote.RattleType.{RattleType}
 use denote.Array.{arrayVal, Array}
 use denote.Builtin.{u32, u64}
 use denote.Laws.{Is}
+use denote.Plain.{uint-tells}
+use denote.Struct.Field.{u32-field}
 use denote.Struct.Laws as LL
 use Rattle.rules.specs.declared.Slot.{Slot}
 use Rattle.rules.specs.declared.Head.{Head}
@@ -31,7 +33,7 @@ use Rattle.rules.proofs.Head.Laws as D′
 use Rattle.rules.proofs.Post as P
 use Rattle.rules.proofs.Post.Laws as P′
 use Rattle.watch_rules.specs.declared.Table.{Table}
-use Rattle.watch_rules.specs.Table.{postCount, noPost}
+use Rattle.watch_rules.specs.Table.{postCount, channelCount, noPost}
 use Rattle.watch_rules.proofs.Table as T
 use Rattle.watch_rules.proofs.Table.Laws as T′
 use Rattle.lent_step.specs.declared.Worded.{Worded}
@@ -54,8 +56,8 @@ post-val = LL.val P.the-type P′.the-laws
 abbrev pub post-of : Val → List Val → Val
 post-of x us = vstruct (vcons x (vcons (vstruct (ofList us)) vnil))
 
-abbrev pub table-of : List Val → ℕ → Val
-table-of us n = vstruct (vcons (vstruct (ofList us)) (vcons (vint w64 n) vnil))
+abbrev pub table-of : List Val → List Val → ℕ → Val
+table-of us xs n = vstruct (vcons (vstruct (ofList us)) (vcons (vstruct (ofList xs)) (vcons (vint w64 n) vnil)))
 
 -- a post and a slot as an array holds them: type, machine value, and the machine values of an array's
 abbrev PF : RattleType
@@ -75,6 +77,13 @@ us-of ps = map p-val (map (P.the-type .to) ps)
 
 abbrev pub ss-of : List Slot → List Val
 ss-of l = map s-val (map (S.the-type .to) l)
+
+-- the entries of an index
+abbrev pub xs-of : List ℕ → List Val
+xs-of xs = map (vint w32) (map (u32-field .into) xs)
+
+pub xs-at : (xs : List ℕ) (k : ℕ) → getD (xs-of xs) k (vint w32 0) ≡ vint w32 (getD xs k 0)
+xs-at xs k = List·getD-map (vint w32) (map (u32-field .into) xs) k 0 ∙ ap (vint w32) (List·getD-map (u32-field .into) xs k 0)
 
 us-set : (ps : List Post) (i : ℕ) (p : Post) → set (us-of ps) i (post-val p) ≡ us-of (set ps i p)
 us-set ps i p = map-set p-val (map (P.the-type .to) ps) i (P.the-type .to p) ∙ ap (map p-val) (map-set (P.the-type .to) ps i p)
@@ -132,17 +141,30 @@ module _ (h : Table) (was : Is T.the-row h (table-val h ∷ [])) where
   us-long = length-map ds p-val ∙ array-long PF postCount ds dvs posts-are
 
   pub count-is : Is u64 (h .refused) (vint w64 (h .refused) ∷ [])
-  count-is = LL.owed T.the-type T′.the-laws h _ was .1 .0
+  count-is = LL.owed T.the-type T′.the-laws h _ was .1 .1 .0
+
+  index-is : Is (Array u32 channelCount) (map (u32-field .into) (h .index)) (arrayVal (xs-of (h .index)) ∷ [])
+  index-is = LL.owed T.the-type T′.the-laws h _ was .1 .0
+
+  pub xs-long : length (xs-of (h .index)) ≡ channelCount
+  xs-long = length-map (map (u32-field .into) (h .index)) (vint w32) ∙ array-long u32 channelCount (map (u32-field .into) (h .index)) _ index-is
+
+  pub xs-within : (k : ℕ) → k < channelCount → k < length (xs-of (h .index))
+  xs-within k l = subst (λ (m : ℕ). k < m) (sym xs-long) l
+
+  pub entry-fits : (k : ℕ) → k < channelCount → getD (h .index) k 0 < 2 ^ 32
+  entry-fits k l = subst (λ (y : ℕ). y < 2 ^ 32) (List·getD-map (u32-field .into) (h .index) k 0)
+      (array-at u32 (vint w32) (uint-tells w32) channelCount (map (u32-field .into) (h .index)) _ index-is k 0 l .1)
 
   -- the table with another post, and another count
   abbrev pub tableWith : ℕ → Post → ℕ → Table
-  tableWith i p n = record { posts = set (h .posts) i p; refused = n }
+  tableWith i p n = record { posts = set (h .posts) i p; index = h .index; refused = n }
 
   pub table-set : (i : ℕ) (p : Post) (n : ℕ) → Is P.the-row p (post-val p ∷ []) → Is u64 n (vint w64 n ∷ []) → Is T.the-row (tableWith i p n) (table-val (tableWith i p n) ∷ [])
   table-set i p n is count = LL.owes T.the-type T′.the-laws (tableWith i p n) (
     subst (λ (xs : List (PF .Denot)). Is (Array PF postCount) xs (arrayVal (map p-val xs) ∷ [])) (map-set (P.the-type .to) (h .posts) i p)
         (array-set PF p-val (LL.tuple-tells P.the-type P′.the-laws) postCount ds dvs posts-are i (P.the-type .to p) is),
-    (count, tt),
+    (index-is, (count, tt)),
   )
 
   module _ (i : ℕ) (l : i < postCount) where
