@@ -4,19 +4,18 @@ use native.Mathlib.Omega.{arith}
 use mathlib.Core.Path.{_≡_, refl, ap, sym, _∙_}
 use mathlib.Core.Bool.{true}
 use mathlib.Core.List.{List, [], _∷_}
-use lib.ListN.{length}
+use lib.ListN.{getD}
 use borrow.Author.Tests.{ltb-true}
 use Rattle.refusals.specs.declared.Refusal.the-variants.{ChannelFree}
 use Rattle.rule_limits.specs.declared.PlainLimits.{PlainLimits}
 use Rattle.rule_limits.specs.Limits.{limitsFit}
-use Rattle.rules.specs.declared.Post.{Post}
-use Rattle.watch_rules.specs.Table.{postCount, isChannel, holds, postIn, Arriving, refused, feedAt, feedOf, ticking}
-use Rattle.watch_rules.specs.Steps.{held, standing, findFrom, holder, otherHolds, answerIn, setUp01, setUpSteps, postsOf}
+use Rattle.watch_rules.specs.Table.{postCount, isChannel, holds, placeOf, postIn, Arriving, refused, feedAt, feedOf, ticking, isOther, setUpOf}
+use Rattle.watch_rules.specs.Steps.{held, standing, findFrom, holder, otherHolds, answerIn, setUp01, setUpSteps}
 use Rattle.watch_rules.specs.Run.{Request, setUp, run, accepted}
 use Rattle.watch_rules.proofs.Demand.{run-kept}
 use Rattle.plain_words.specs.Words.{refusalWord}
 use Rattle.lent_holder.specs.Holder.{holderWord, holder01}
-use Rattle.lent_holder.proofs.HolderLaws.{some-holder, first-holder, no-holder, goes-to, goes-nowhere, holder-right, holder-stands, stands-on, answers}
+use Rattle.lent_holder.proofs.HolderLaws.{some-holder, named-holder, no-holder, goes-to, goes-nowhere, holder-right, holder-stands, stands-on, answers}
 
 abbrev limits : PlainLimits
 limits = record { voltage = 5000; charge = 1000; discharge = 500; silence = 500; sensor = 0; interface = 0 }
@@ -24,9 +23,9 @@ limits = record { voltage = 5000; charge = 1000; discharge = 500; silence = 500;
 abbrev night : List Request
 night = setUp 0 9 limits ∷ setUp 3 4 limits ∷ []
 
-computed : (standing 3 (accepted night) ≡ held 4 limits []) × (holder01 (accepted night) 5 ≡ refusalWord ChannelFree) × (length (postsOf (accepted night)) ≡ postCount)
-unfolding standing findFrom holder otherHolds setUp01 setUpSteps limitsFit accepted holder01 postsOf
-computed = (refl, refl, refl)
+computed : (standing 3 (accepted night) ≡ held 4 limits []) × (holder01 (accepted night) 5 ≡ refusalWord ChannelFree)
+unfolding standing findFrom holder otherHolds setUp01 setUpSteps limitsFit accepted holder01
+computed = (refl, refl)
 
 third : 3 < postCount
 third = ltb-true 3 postCount refl
@@ -38,14 +37,16 @@ post-3 = holder-stands (run night) (accepted night) (run-kept night) 4 3 limits 
 small : holderWord (run night) 4 < 65536
 small = rw post-3 (omega arith)
 
--- and it holds the channel in the table, the first that does
+-- and it holds the channel in the table, and is the one that the index names
 pub holds-4 : holds (postIn (run night) 3 .head) 4 ≡ true
-holds-4 =
-    let whole : length (run night .posts) ≡ postCount = ap (λ (ps : List Post). length ps) (run-kept night .posts) ∙ computed .2 in
-    rw post-3 at (some-holder (run night) 4 whole small .2)
+holds-4 = rw post-3 at (some-holder (run night) 4 small .2)
 
-pub first-4 : holderWord (run night) 4 ≤ 3
-first-4 = first-holder (run night) 4 3 third refl holds-4
+named : getD (run night .index) 4 0 ≡ 4
+unfolding run setUpOf isOther placeOf limitsFit
+named = refl
+
+pub named-4 : holderWord (run night) 4 ≡ 3
+named-4 = named-holder (run night) 4 3 third refl named holds-4
 
 -- a tick on channel 4 goes to it, and is answered by 01's rules over its own history
 pub tick-4 : feedOf (run night) 4 100 ticking ≡ feedAt (run night) 3 4 100 ticking

@@ -4,13 +4,13 @@ use mathlib.Core.Bool.{cond, _&&_}
 use lib.Dec.{ltb}
 use Rattle.refusals.specs.declared.Refusal.the-variants.{ChannelFree}
 use Rattle.watch_rules.specs.declared.Table.{Table}
-use Rattle.watch_rules.specs.Table.{postCount, isChannel, placeOf}
+use Rattle.watch_rules.specs.Table.{postCount, isChannel, placeIn}
 use Rattle.watch_rules.specs.Steps.{Steps, holder}
 use Rattle.plain_words.specs.Words.{refusalWord}
 
--- for every table
+-- for every table, by its index (02, Req 13): the post that it names, where that post holds the channel
 unfoldable pub holderWord : Table → ℕ → ℕ
-holderWord t c = cond (isChannel c && ltb (placeOf (t .posts) c) postCount) (placeOf (t .posts) c) (refusalWord ChannelFree)
+holderWord t c = cond (isChannel c && ltb (placeIn t c) postCount) (placeIn t c) (refusalWord ChannelFree)
 
 -- over accepted steps
 unfoldable pub holder01 : Steps → ℕ → ℕ

@@ -3,7 +3,7 @@
 use Prim.Native.Nat.{ℕ, _+_, _*_, _^_}
 use Rattle.rules.specs.Record.{placeCount}
 use Rattle.rules.specs.After.{keptCount, countCount}
-use Rattle.watch_rules.specs.Table.{postCount}
+use Rattle.watch_rules.specs.Table.{postCount, channelCount}
 
 -- a slot is known or not and a kind, a time, and a payload number; a session is three words, and what it keeps
 abbrev pub slotBytes : ℕ
@@ -22,13 +22,16 @@ headBytes = 8 + 24 + 8 + 8 + 2 * slotBytes + sessionBytes + countCount * countBy
 abbrev pub postBytes : ℕ
 postBytes = headBytes + placeCount * slotBytes
 
--- the posts, and the count of what was refused
+abbrev pub entryBytes : ℕ
+entryBytes = 4
+
+-- the posts, the index, and the count of what was refused
 abbrev pub tableBytes : ℕ
-tableBytes = postCount * postBytes + 8
+tableBytes = postCount * postBytes + channelCount * entryBytes + 8
 
 -- another one wherever a place of the table means something else
 abbrev pub layoutNumber : ℕ
-layoutNumber = 4
+layoutNumber = 5
 
 abbrev pub layoutWord : ℕ
 layoutWord = tableBytes + postCount * 2 ^ 32 + placeCount * 2 ^ 40 + layoutNumber * 2 ^ 48
