@@ -1,4 +1,4 @@
--- The posts of a table in two lists, the count of what it refused beside them, and a record fed to them: it is the single call.
+-- The posts of a table in two lists, its index and the count of what it refused beside them, and a record fed to them: it is the single call.
 use Prim.Native.Nat.{ℕ, zero, suc, _≤_, _<_}
 use native.Mathlib.Omega.{arith}
 use mathlib.Core.Path.{_≡_, refl, ap, sym, _∙_}
@@ -84,10 +84,6 @@ heard-holds h c time d a =
     (either (λ (r : Heard). holds (r .head) d ≡ holds h d) (isEarly h time) refl (judged-holds h time d a))
     refl
 
-record-holds : (h : Head) (r : Rec) (d : ℕ) → holds (heardBy h r .head) d ≡ holds h d
-record-holds h (tick time c) d = heard-holds h c time d Tick
-record-holds h (frame time c x m bs) d = heard-holds h c time d (arrivalFor (h .limits) m x bs)
-
 -- ---- the record of an entry
 
 pub heard-entry : (h : Head) (s : List ℕ) (e : Entry) → heardOf h (e .channel) (e .time) (arrivalIn (h .limits) (recOf s e)) ≡ heardBy h (recOf s e)
@@ -105,9 +101,9 @@ abbrev pub channelOf : Rec → ℕ
 channelOf (tick time c) = c
 channelOf (frame time c x m bs) = c
 
-module _ (hs : List Head) (ls : List (List Slot)) (n i : ℕ) (low : i < length hs) (row : i < length ls) where
+module _ (hs : List Head) (ls : List (List Slot)) (x : List ℕ) (n i : ℕ) (low : i < length hs) (row : i < length ls) where
   abbrev table : Table
-  table = record { posts = joined hs ls; refused = n }
+  table = record { posts = joined hs ls; index = x; refused = n }
 
   -- the two lists with what the post at i heard, and the count
   abbrev pub headsBy : Heard → List Head
@@ -117,26 +113,18 @@ module _ (hs : List Head) (ls : List (List Slot)) (n i : ℕ) (low : i < length 
   latestBy w = set ls i (keepIn (getD ls i []) (w .at) (w .slot))
 
   abbrev pub lentBack : Heard → Lent
-  lentBack w = record { table = record { posts = joined (headsBy w) (latestBy w); refused = refusedAfter n (w .answer) }; answer = answerWord (w .answer) }
+  lentBack w = record { table = record { posts = joined (headsBy w) (latestBy w); index = x; refused = refusedAfter n (w .answer) }; answer = answerWord (w .answer) }
 
   stored-back : (f : Head → Heard) → lentAt table i (wordedBy n (f (postIn table i .head))) ≡ lentBack (f (getD hs i noHead))
   stored-back f =
       let w = f (getD hs i noHead) in
-      rw (joined-at hs ls i low row) (ap (λ (ps : List Post). record { table = record { posts = ps; refused = refusedAfter n (w .answer) }; answer = answerWord (w .answer) }) (sym (joined-set hs ls i (w .head) (keepIn (getD ls i []) (w .at) (w .slot)))))
+      rw (joined-at hs ls i low row) (ap (λ (ps : List Post). record { table = record { posts = ps; index = x; refused = refusedAfter n (w .answer) }; answer = answerWord (w .answer) }) (sym (joined-set hs ls i (w .head) (keepIn (getD ls i []) (w .at) (w .slot)))))
 
-  pub called-same : (r : Rec) → i ≡ somePlace (joined hs ls) (channelOf r) → calledWith table r ≡ lentBack (heardBy (getD hs i noHead) r)
+  pub called-same : (r : Rec) → i ≡ somePlace table (channelOf r) → calledWith table r ≡ lentBack (heardBy (getD hs i noHead) r)
   called-same (tick time c) e =
       sym (tick-same table c time) ∙ ap (λ (j : ℕ). lentAt table j (wordedBy n (heardBy (postIn table j .head) (tick time c)))) (sym e) ∙ stored-back (λ h. heardBy h (tick time c))
-  called-same (frame time c x m bs) e =
-      sym (frame-same table c time m x bs) ∙ ap (λ (j : ℕ). lentAt table j (wordedBy n (heardBy (postIn table j .head) (frame time c x m bs)))) (sym e) ∙ stored-back (λ h. heardBy h (frame time c x m bs))
-
-  pub places-same : (r : Rec) (c : ℕ) → somePlace (joined (headsBy (heardBy (getD hs i noHead) r)) (latestBy (heardBy (getD hs i noHead) r))) c ≡ somePlace (joined hs ls) c
-  unfolding somePlace
-  places-same r c =
-      let w = heardBy (getD hs i noHead) r in
-      ap (λ (n : ℕ). cond (ltb n postCount) n 0)
-      (ap (λ (ps : List Post). placeOf ps c) (joined-set hs ls i (w .head) (keepIn (getD ls i []) (w .at) (w .slot)))
-      ∙ place-set (joined hs ls) i _ c (record-holds (getD hs i noHead) r c ∙ ap (λ (p : Post). holds (p .head) c) (sym (joined-at hs ls i low row))))
+  called-same (frame time c e m bs) at =
+      sym (frame-same table c time m e bs) ∙ ap (λ (j : ℕ). lentAt table j (wordedBy n (heardBy (postIn table j .head) (frame time c e m bs)))) (sym at) ∙ stored-back (λ h. heardBy h (frame time c e m bs))
 
   pub latest-kept : (w : Heard) → w .at < placeCount → latestBy w ≡ set ls i (set (getD ls i []) (w .at) (w .slot))
   latest-kept w h = rw (lt-ltb (w .at) placeCount h)

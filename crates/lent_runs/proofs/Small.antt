@@ -34,7 +34,7 @@ use Rattle.watch_rules.specs.declared.Fed.{Fed}
 use Rattle.watch_rules.specs.declared.Heard.{Heard}
 use Rattle.watch_rules.specs.declared.Arrival.{Arrival}
 use Rattle.watch_rules.specs.declared.Arrival.the-variants.{Tick, Frame, Unread}
-use Rattle.watch_rules.specs.Table.{postCount, isChannel, holds, placeOf, postIn, arrivalOf, Arriving, framing, ticking, judgedOf, heardOf, feedAt, feedOf, isOther, isPost, setUpOf, releaseOf}
+use Rattle.watch_rules.specs.Table.{postCount, isChannel, holds, placeOf, placeIn, postIn, arrivalOf, Arriving, framing, ticking, judgedOf, heardOf, feedAt, feedOf, isOther, isPost, setUpOf, releaseOf}
 use Rattle.watch_rules.specs.Run.{Request, setUp, release, frame, tick, reply}
 use Rattle.plain_words.specs.Words.{Within}
 use Rattle.plain_words.proofs.WordLaws.{either}
@@ -143,8 +143,8 @@ feed-says : (P : Answer → Type 0) (t : Table) (c time : ℕ) (a : Arriving) �
     → ((p : Head) → P (judgedOf p time (a (p .limits)) .answer)) → P (feedOf t c time a .answer)
 unfolding feedOf feedAt heardOf
 feed-says P t c time a free early heard =
-    let p = postIn t (placeOf (t .posts) c) .head in
-    either (λ (r : Fed). P (r .answer)) (isChannel c && ltb (placeOf (t .posts) c) postCount)
+    let p = postIn t (placeIn t c) .head in
+    either (λ (r : Fed). P (r .answer)) (isChannel c && ltb (placeIn t c) postCount)
     (either (λ (r : Heard). P (r .answer)) (isChannel c && holds p c)
     (either (λ (r : Heard). P (r .answer)) (isEarly p time) early (heard p))
     free)

@@ -4,7 +4,7 @@ use mathlib.Core.Path.{_≡_, refl}
 use mathlib.Core.List.{[]}
 use native.Mathlib.Omega.{arith}
 use Rattle.watch_rules.specs.declared.Table.{Table}
-use Rattle.watch_rules.specs.Table.{placeOf, oneRefused, feedOf}
+use Rattle.watch_rules.specs.Table.{placeNamed, somePlace, placeIn, oneRefused, feedOf}
 use Rattle.watch_rules.specs.Steps.{standing, findFrom, holder, feed01}
 use Rattle.watch_rules.specs.Run.{tick, accepted}
 use Rattle.plain_words.specs.Words.{numberIn}
@@ -15,7 +15,7 @@ use Rattle.lent_runs.proofs.Lents.{lent-refused, refused-left, answer-t
 
 module _ (t : Table) where
   word-is : lentBy (lentRun t []) (tick 4 0) .answer ≡ 65537
-  unfolding lentRun startOf tickWord feedOf placeOf
+  unfolding lentRun startOf tickWord feedOf placeIn somePlace placeNamed
   word-is = refl
 
   pub started-told : numberIn (lentBy (lentRun t []) (tick 4 0) .answer) ≡ 1

@@ -113,7 +113,7 @@ module _ (r : Replay) (s ws out : List ℕ) where
         let n = no-record xs (sym (ap (λ (q : Lent). q .answer) whole) ∙ z) in
         met _ _ (n .0, words, n .1)
 
-    module _ (room : roomFor s ≤ length out) (places : (c : ℕ) → placeOf (r .table .posts) c < 10) {p : Pen} {o : List ℕ} (wrote : Wrote out newPen (wordLines (t .posts) (r .count) xs a) p o) where
+    module _ (room : roomFor s ≤ length out) (places : (c : ℕ) → placeOf (r .table .posts) c < 100) {p : Pen} {o : List ℕ} (wrote : Wrote out newPen (wordLines (t .posts) (r .count) xs a) p o) where
       abbrev text : List ℕ
       text = textOf (linesOn r xs)
 

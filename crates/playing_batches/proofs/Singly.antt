@@ -17,7 +17,7 @@ use Rattle.watch_rules.specs.declared.Table.{Table}
 use Rattle.watch_rules.specs.declared.Fed.{Fed}
 use Rattle.watch_rules.specs.declared.Answer.{Answer}
 use Rattle.watch_rules.specs.declared.Answer.the-variants as answer
-use Rattle.watch_rules.specs.Table.{postCount, isChannel, holds, placeOf, postIn, Arriving, feedAt, feedOf}
+use Rattle.watch_rules.specs.Table.{postCount, isChannel, holds, placeOf, placeIn, postIn, Arriving, feedAt, feedOf}
 use Rattle.watch_rules.specs.Run as request
 use Rattle.lent_words.specs.Words.{answerOutcome, answerWord}
 use Rattle.lent_runs.proofs.Lents.{lent-next, lent-word}
@@ -55,9 +55,9 @@ within t (frame time c x m bs) = reply-within t (request.frame c time m x bs)
 place-fed : (t : Table) (c time : ℕ) (a : Arriving) (d : ℕ) → placeOf (feedOf t c time a .table .posts) d ≡ placeOf (t .posts) d
 unfolding feedOf feedAt
 place-fed t c time a d =
-    let h = postIn t (placeOf (t .posts) c) .head in
-    either (λ (r : Fed). placeOf (r .table .posts) d ≡ placeOf (t .posts) d) (isChannel c && ltb (placeOf (t .posts) c) postCount)
-    (place-set (t .posts) (placeOf (t .posts) c) _ d (heard-holds h c time d (a (h .limits))))
+    let h = postIn t (placeIn t c) .head in
+    either (λ (r : Fed). placeOf (r .table .posts) d ≡ placeOf (t .posts) d) (isChannel c && ltb (placeIn t c) postCount)
+    (place-set (t .posts) (placeIn t c) _ d (heard-holds h c time d (a (h .limits))))
     refl
 
 pub place-kept : (t : Table) (x : Rec) (d : ℕ) → placeOf (fedWith t x .table .posts) d ≡ placeOf (t .posts) d
@@ -106,7 +106,7 @@ in-words (answer.Findings n) h = omega arith
 in-words (answer.Refused w) h = (omega (arith, number-small w), omega arith)
 
 -- no line has more than 40 bytes
-pub lines-short : (xs : List Rec) (r : Replay) → ((c : ℕ) → placeOf (r .table .posts) c < 10) → length (textOf (linesOn r xs)) ≤ lineRoom * length xs
+pub lines-short : (xs : List Rec) (r : Replay) → ((c : ℕ) → placeOf (r .table .posts) c < 100) → length (textOf (linesOn r xs)) ≤ lineRoom * length xs
 unfolding linesOn textOf
 lines-short [] r h = omega arith
 lines-short (x ∷ xs) r h =

@@ -17,7 +17,7 @@ use Rattle.text_numbers.specs.Numbers.{glyphOf, digitsIn, numeral}
 use Rattle.text_pen.specs.Pens.{textOf}
 use Rattle.watch_rules.specs.declared.Table.{Table}
 use Rattle.watch_rules.specs.declared.Answer.the-variants.{Findings}
-use Rattle.watch_rules.specs.Table.{postCount, emptyTable, placeOf, heardOf, feedAt, feedOf, isOther, setUpOf}
+use Rattle.watch_rules.specs.Table.{postCount, emptyTable, placeOf, placeNamed, somePlace, placeIn, heardOf, feedAt, feedOf, isOther, setUpOf}
 use Rattle.rule_limits.specs.Limits.{limitsFit}
 use Rattle.batch_rules.specs.Batch.{isWhole, whyBatch}
 use Rattle.playing_line.specs.Lines.{lineRoom, refusedWords, lineOf}
@@ -48,7 +48,7 @@ abbrev told : List ℕ
 told = 49 ∷ 32 ∷ 48 ∷ 32 ∷ 65 ∷ 48 ∷ 10 ∷ 50 ∷ 32 ∷ 45 ∷ 32 ∷ 82 ∷ 49 ∷ 10 ∷ []
 
 pub two-told : inSlices two (setUpsFrom fresh posts) ticks 0 ≡ some told
-unfolding inSlices batchedOf linesOf whyNot whyBatch isWhole fedOn linesOn setUpsFrom setUpIn lineOf refusedWords textOf numeral digitsIn glyphOf setUpOf isOther limitsFit placeOf feedOf feedAt heardOf withCounts afterTick anyFindings silentIn lateAfter stampIn agedTo recordsIn readFrom recordAt timePart channelPart identifierPart lengthPart readGroups
+unfolding inSlices batchedOf linesOf whyNot whyBatch isWhole fedOn linesOn setUpsFrom setUpIn lineOf refusedWords textOf numeral digitsIn glyphOf setUpOf isOther limitsFit placeOf placeNamed somePlace placeIn feedOf feedAt heardOf withCounts afterTick anyFindings silentIn lateAfter stampIn agedTo recordsIn readFrom recordAt timePart channelPart identifierPart lengthPart readGroups
 two-told = refl
 
 none-left : recordsIn (logAt ticks 10) ≡ []

@@ -39,9 +39,9 @@ ten-long n h = few-digits 9 n (omega arith)
 twenty-long : (n : ℕ) → n < 2 ^ 64 → length (numeral 10 n) ≤ 20
 twenty-long n h = few-digits 19 n (omega arith)
 
-post-long : (i : ℕ) (b : Bool) → i < 10 → size (postWords i b) ≤ 2
+post-long : (i : ℕ) (b : Bool) → i < 100 → size (postWords i b) ≤ 3
 post-long i true h = omega (arith, size-one (space ∷ dash ∷ []))
-post-long i false h = omega (arith, size-named (space ∷ []) i, few-digits 0 i (omega arith))
+post-long i false h = omega (arith, size-named (space ∷ []) i, few-digits 1 i (omega arith))
 
 abbrev front : ℕ → List (List ℕ)
 front n = namedWords (space ∷ capitalR ∷ []) n
@@ -60,8 +60,8 @@ answer-long : (a : Answer) → InWords a → size (answerWords a) ≤ 14
 answer-long (Findings f) h = omega (arith, size-named (space ∷ capitalA ∷ []) f, ten-long f h)
 answer-long (Refused w) h = refused-long (numberOf w) (startOf w) (h .0) (h .1)
 
--- a count of 64 bits, a post of one digit, and an answer of 32 bits
-pub line-short : (n i : ℕ) (a : Answer) → n < 2 ^ 64 → i < 10 → InWords a → length (lineOf n i a) ≤ lineRoom
+-- a count of 64 bits, a post of two digits (02, Req 13), and an answer of 32 bits
+pub line-short : (n i : ℕ) (a : Answer) → n < 2 ^ 64 → i < 100 → InWords a → length (lineOf n i a) ≤ lineRoom
 unfolding lineOf
 line-short n i a hn hi ha =
     let count : List (List ℕ) = numeral 10 n ∷ [] in

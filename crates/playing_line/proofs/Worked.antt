@@ -1,4 +1,4 @@
--- The laws of a line's digits and length on 300 and on 02's "1 0 A0".
+-- The laws of a line's digits and length on 300, on 02's "1 0 A0", and on the last post.
 use mathlib.Core.Path.{_≡_, refl}
 use mathlib.Core.Bool.{true}
 use mathlib.Core.List.{List, [], _∷_}
@@ -28,3 +28,7 @@ no-longer = least-digits longer (omega arith) digits
 
 pub first-line : length (lineOf 1 0 (Findings 0)) ≤ lineRoom
 first-line = line-short 1 0 (Findings 0) (omega arith) (omega arith) (omega arith)
+
+-- 02, Req 13: the longest count with a post of two digits
+pub last-post : length (lineOf 18446744073709551615 15 (Findings 2047)) ≤ lineRoom
+last-post = line-short 18446744073709551615 15 (Findings 2047) (omega arith) (omega arith) (omega arith)

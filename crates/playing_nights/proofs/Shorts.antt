@@ -31,11 +31,12 @@ use Rattle.log_records.specs.Reading.{foundAt, onward, readFrom, logOf, records
 use Rattle.watch_rules.specs.declared.Answer.the-variants.{Refused}
 use Rattle.watch_rules.specs.declared.Arrival.{Arrival}
 use Rattle.watch_rules.specs.declared.Arrival.the-variants.{Tick, Frame, Unread}
-use Rattle.watch_rules.specs.Table.{postCount, isChannel, arrivalOf, Arriving}
-use Rattle.watch_rules.specs.Steps.{Steps, Standing, free, held, standing, holdsIn, findFrom, holder, found01, answerIn, feed01, feedSteps}
+use Rattle.watch_rules.specs.Table.{isChannel, arrivalOf, Arriving}
+use Rattle.watch_rules.specs.Steps.{Steps, Standing, free, held, standing, holder, found01, answerIn, feed01, feedSteps}
 use Rattle.playing_line.specs.Lines.{lineRoom, InWords, AllShort}
 use Rattle.playing_nights.specs.Fed.{timeOf, channelOf, arrivalIn, lines01From}
 use Rattle.playing_nights.specs.Night.{Wanted, Ready, ready, stopped, prepared01, night01, runOf}
+use Rattle.watch_rules.proofs.Standings.{holder-most}
 use Rattle.playing_line.proofs.Lengths.{line-short}
 use Rattle.playing_nights.proofs.Afresh.{night-01}
 
@@ -45,14 +46,8 @@ by-cond P false x y p q = q
 
 -- ---- the post
 
-find-le : (p : ℕ → Bool) (k n : ℕ) → findFrom p k n ≤ k + n
-unfolding findFrom
-find-le p k zero = omega arith
-find-le p k (suc n) = by-cond (λ i. i ≤ k + suc n) (p k) k (findFrom p (suc k) n) (omega arith) (omega (arith, find-le p (suc k) n))
-
-one-digit-post : (s : Steps) (c : ℕ) → holder s c < 10
-unfolding holder
-one-digit-post s c = omega (arith, find-le (λ i. holdsIn (standing i s) c) 0 postCount)
+two-digit-post : (s : Steps) (c : ℕ) → holder s c < 100
+two-digit-post s c = omega (arith, holder-most s c)
 
 -- ---- the findings
 
@@ -141,7 +136,7 @@ lines-01-short : (xs : List Rec) (s : Steps) (n : ℕ) → n + length xs < 2 ^ 6
 unfolding lines01From
 lines-01-short [] s n h = tt
 lines-01-short (x ∷ xs) s n h = (
-  line-short (n + 1) (holder s (channelOf x)) (feed01 s (channelOf x) (timeOf x) (arrivalIn x)) (omega arith) (one-digit-post s (channelOf x))
+  line-short (n + 1) (holder s (channelOf x)) (feed01 s (channelOf x) (timeOf x) (arrivalIn x)) (omega arith) (two-digit-post s (channelOf x))
       (fed-small (timeOf x) (arrivalIn x) (arrival-small x) s (channelOf x)),
   lines-01-short xs (feedSteps s (channelOf x) (timeOf x) (arrivalIn x)) (n + 1) (omega arith),
 )

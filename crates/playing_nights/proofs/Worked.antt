@@ -16,7 +16,7 @@ use Rattle.text_numbers.specs.Numbers.{glyphOf, digitsIn, numeral}
 use Rattle.text_pen.specs.Pens.{textOf}
 use Rattle.watch_rules.specs.Run.{Request, setUp, run, accepted}
 use Rattle.watch_rules.proofs.Demand.{run-kept}
-use Rattle.watch_rules.specs.Table.{emptyTable, placeOf, heardOf, feedAt, feedOf, isOther, setUpOf}
+use Rattle.watch_rules.specs.Table.{emptyTable, placeOf, placeNamed, somePlace, placeIn, heardOf, feedAt, feedOf, isOther, setUpOf}
 use Rattle.rule_limits.specs.declared.PlainLimits.{PlainLimits}
 use Rattle.rule_limits.specs.Limits.{limitsFit}
 use Rattle.playing_nights.specs.declared.Replay.{Replay}
@@ -57,12 +57,12 @@ after-one = nextLine (setUpsFrom fresh posts) ticks 0 lineRoom .replay
 
 -- the first seven bytes show a cut, which is theirs alone
 pub cut-by-piece : nextLine after-one (pieceOf ticks 0 7) 5 lineRoom .answer ≡ Cut 5
-unfolding setUpsFrom setUpIn callOf lineCall setUpOf isOther limitsFit placeOf feedOf feedAt heardOf withCounts afterTick recordAt timePart channelPart identifierPart lengthPart readGroups
+unfolding setUpsFrom setUpIn callOf lineCall setUpOf isOther limitsFit placeOf placeNamed somePlace placeIn feedOf feedAt heardOf withCounts afterTick recordAt timePart channelPart identifierPart lengthPart readGroups
 cut-by-piece = refl
 
 -- "2 - R1", and the next byte is the log's
 pub second-line : (nextLine after-one ticks 5 lineRoom .answer ≡ Line 7 10) × (take 7 (bufferAfter after-one ticks 5 buffer) ≡ 50 ∷ 32 ∷ 45 ∷ 32 ∷ 82 ∷ 49 ∷ 10 ∷ [])
-unfolding setUpsFrom setUpIn callOf lineCall lineOf refusedWords textOf numeral digitsIn glyphOf setUpOf isOther limitsFit placeOf feedOf feedAt heardOf withCounts afterTick anyFindings silentIn lateAfter stampIn agedTo recordAt timePart channelPart identifierPart lengthPart readGroups
+unfolding setUpsFrom setUpIn callOf lineCall lineOf refusedWords textOf numeral digitsIn glyphOf setUpOf isOther limitsFit placeOf placeNamed somePlace placeIn feedOf feedAt heardOf withCounts afterTick anyFindings silentIn lateAfter stampIn agedTo recordAt timePart channelPart identifierPart lengthPart readGroups
 second-line =
     let x = line-in-piece after-one ticks 5 5 0 buffer (inl refl) in
     (ap (λ (n : Next). n .answer) (x .0), ap (take 7) (x .1))
@@ -74,7 +74,7 @@ abbrev two : List Piece
 two = (0, 7) ∷ (5, 7) ∷ (0, 5) ∷ (0, 7) ∷ []
 
 pub two-told : inPieces two (setUpsFrom fresh posts) ticks 0 buffer ≡ some (record { lines = told; ending = End })
-unfolding inPieces setUpsFrom setUpIn callOf lineCall lineOf refusedWords textOf numeral digitsIn glyphOf setUpOf isOther limitsFit placeOf feedOf feedAt heardOf withCounts afterTick anyFindings silentIn lateAfter stampIn agedTo recordAt timePart channelPart identifierPart lengthPart readGroups
+unfolding inPieces setUpsFrom setUpIn callOf lineCall lineOf refusedWords textOf numeral digitsIn glyphOf setUpOf isOther limitsFit placeOf placeNamed somePlace placeIn feedOf feedAt heardOf withCounts afterTick anyFindings silentIn lateAfter stampIn agedTo recordAt timePart channelPart identifierPart lengthPart readGroups
 two-told = refl
 
 pub night-told : runOf posts ticks buffer ≡ record { lines = told; ending = End }

@@ -14,7 +14,7 @@ use Rattle.text_numbers.specs.Numbers.{glyphOf, digitsIn, numeral}
 use Rattle.text_pen.specs.Pens.{textOf}
 use Rattle.watch_rules.specs.declared.Answer.{Answer}
 use Rattle.watch_rules.specs.declared.Answer.the-variants.{Findings, Refused}
-use Rattle.watch_rules.specs.Table.{placeOf, heardOf, feedAt, feedOf, isOther, setUpOf}
+use Rattle.watch_rules.specs.Table.{placeOf, placeNamed, somePlace, placeIn, heardOf, feedAt, feedOf, isOther, setUpOf}
 use Rattle.rule_limits.specs.Limits.{limitsFit}
 use Rattle.playing_nights.specs.declared.Played.the-variants.{End, Cut, Bad, SetUp, Short}
 use Rattle.playing_line.specs.Lines.{lineRoom, refusedWords, lineOf}
@@ -90,5 +90,5 @@ cases =
     ∷ []
 
 pub readings : map (λ e. runOf (e .0) (e .1) (replicate (e .2) 0)) cases ≡ map (λ e. e .3) cases
-unfolding callsFrom setUpsFrom setUpIn callOf lineCall lineOf refusedWords textOf numeral digitsIn glyphOf setUpOf isOther limitsFit placeOf feedOf feedAt heardOf withCounts afterTick anyFindings silentIn lateAfter stampIn agedTo recordAt timePart channelPart identifierPart lengthPart readGroups judgeFor isForeign firstAt rows
+unfolding callsFrom setUpsFrom setUpIn callOf lineCall lineOf refusedWords textOf numeral digitsIn glyphOf setUpOf isOther limitsFit placeOf placeNamed somePlace placeIn feedOf feedAt heardOf withCounts afterTick anyFindings silentIn lateAfter stampIn agedTo recordAt timePart channelPart identifierPart lengthPart readGroups judgeFor isForeign firstAt rows
 readings = refl

@@ -39,7 +39,7 @@ returns c =
     let ls = a .t2 in
     let m : length hs ≡ postCount = search (needs, unmapped) in
     let n : length ls ≡ postCount = search (needs, unmapped) in
-    ap (λ (ps : List Post). record { posts = ps; refused = a .refused }) (filled-whole postCount (joined hs ls) (l .posts) (l .i) (joined-length hs ls (m ∙ sym n) ∙ m) (omega arith) (l .inv))
+    ap (λ (ps : List Post). record { posts = ps; index = a .index; refused = a .refused }) (filled-whole postCount (joined hs ls) (l .posts) (l .i) (joined-length hs ls (m ∙ sym n) ∙ m) (omega arith) (l .inv))
 
 pub table-of-spec : {M : Type 1} → statement M
 table-of-spec =
