@@ -15,10 +15,10 @@ use Rattle.batch.proofs.table_of.Statement.{statement}
 use Rattle.batch.proofs.table_of.Tie as tie
 
 abbrev Inv-loop : tie.InvT-loop
-Inv-loop refused heads latest posts₀ i₀ posts i = Filled postCount (joined heads latest) posts i
+Inv-loop index refused heads latest posts₀ i₀ posts i = Filled postCount (joined heads latest) posts i
 
 abbrev μ-loop : tie.MeasureT-loop
-μ-loop refused heads latest posts₀ i₀ posts i = postCount - i
+μ-loop index refused heads latest posts₀ i₀ posts i = postCount - i
 
 loop-again : tie.Need-loop-again Inv-loop μ-loop
 loop-again c =
