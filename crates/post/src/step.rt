@@ -129,28 +129,12 @@ pub fn with_frame(h: Head, kind: usize, n: Slot) -> Head
     ensures { λ r. ⌜ r ≡ withFrame h kind n ⌝ }
 {
     let s = h.session;
+    let c = h.controller;
+    let p = h.parameters;
     let mut g = h;
-    match role_of(kind) {
-        Role::Controller => {
-            g.controller = n;
-        }
-        Role::Limits => {
-            g.parameters = n;
-        }
-        Role::Status => {
-            g.session = kept_put(s, STATUS_PLACE, n);
-        }
-        Role::Command => {
-            g.session = kept_put(s, CONTROL_PLACE, n);
-        }
-        Role::Opening => {
-            g.session = opened_by(s, n);
-        }
-        Role::Finished => {
-            g.session = no_session();
-        }
-        Role::Other => {}
-    }
+    g.controller = controller_after(kind, n, c);
+    g.parameters = limits_after(kind, n, p);
+    g.session = session_after(s, kind, n);
     g
 }
 
