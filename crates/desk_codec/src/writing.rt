@@ -76,8 +76,16 @@ fn carried_out(iface: Interface, o: Order, room: &mut [u8]) -> Done {
 
 fn by_pages(iface: Interface, id: u32, extended: bool, v: Values, buf: &mut [u8]) -> Done {
     match iface {
-        Interface::Newer => ordered(page_rows::message_with_id(id, extended), v, buf),
-        Interface::Older => ordered_older(page_rows::older_with_id(id, extended), v, buf),
+        Interface::Newer => ordered(
+            page_rows::message_on(Interface::Newer, id, extended),
+            v,
+            buf,
+        ),
+        Interface::Older => ordered_older(
+            page_rows::message_on(Interface::Older, id, extended),
+            v,
+            buf,
+        ),
     }
 }
 

@@ -38,7 +38,7 @@ use Rattle.plain_words.specs.Words.{Outcome, answers, refuses, outcomeWord, isA
 use Rattle.plain_words.proofs.WordLaws.{either, word-tells, not-accepted}
 use Rattle.lent_latest.specs.Latest.{ofKindIn, keptOf, nowOf, isShown, hasRoom, isKind, latestOutcome, hands, handsOut, timeLeft, bytesLeft, latestWord, timeAfter, frameAfter}
 use Rattle.lent_look.proofs.Asked.{set-up, any-look}
-use Rattle.lent_latest.proofs.Places.{place-small}
+use Rattle.rule_pages.proofs.Places.{place-small}
 
 -- what a post reads, its interface's own pages read
 pub own-read : (iface : Interface) (m : ℕ) (x : Bool) (bs : List ℕ) (k n : ℕ) → judgeFor iface m x bs ≡ Frame k n → judgeOn iface m x bs ≡ Frame k n

@@ -25,7 +25,7 @@ use Rattle.watch_rules.proofs.Placed.{post-at}
 use Rattle.watch_rules.proofs.Demand.{run-kept}
 use Rattle.watch_rules.proofs.Pages.{own-pages, latest-of-kind}
 use Rattle.lent_latest.specs.Latest.{ofKindIn, keptOf}
-use Rattle.lent_latest.proofs.Places.{place-small}
+use Rattle.rule_pages.proofs.Places.{place-small}
 
 -- of what was found, what is of the kind
 slot-only : (k : ℕ) (o : Option Said) → ofKindIn k (slotOf o) ≡ slotOf (onlyOf k o)

@@ -21,7 +21,7 @@ pub enum Reading {
 pub fn read(id: u32, extended: bool, bytes: &[u8]) -> Reading
     ensures { λ r. ⌜ r ≡ readOf id extended (now (bytes .entry)) ⌝ }
 {
-    match page_read::judge_older(id, extended, bytes) {
+    match page_read::judge_on(Interface::Older, id, extended, bytes) {
         Judged::Frame(kind, number) => Reading::Accepted(older_build::message_of(kind, number)),
         Judged::Refused(w) => Reading::Refused(w),
     }

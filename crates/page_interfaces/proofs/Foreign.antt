@@ -1,26 +1,26 @@
 -- 02, Req 11: an identifier that only the other interface has is refused with 3 by the reader, of whatever length and content (`foreign-refused`), is one of
 -- the other's (`foreign-has`), and none of this one's (`foreign-not`). Assumes nothing.
 use mathlib.Core.Path.{_≡_, refl, sym, ap, _∙_}
-use mathlib.Core.Bool.{Bool, true, false, cond}
+use mathlib.Core.Bool.{Bool, true, false, cond, not}
 use mathlib.Core.List.{List}
 use Prim.Native.Nat.{ℕ}
 use native.Mathlib.Omega.{arith}
 use borrow.Author.Tests.{not-true, ltb-false, leb-false, le-leb, lt-ltb}
-use Rattle.refusals.specs.declared.Refusal.{Refusal}
-use Rattle.refusals.specs.declared.Refusal.the-variants.{UnknownIdentifier}
+use Rattle.refusals.specs.declared.Refusal.the-variants.{UnknownIdentifier, OtherInterface}
 use Rattle.page_rows.specs.declared.Interface.{Interface}
 use Rattle.page_rows.specs.declared.Interface.the-variants.{Newer, Older}
 use Rattle.page_rows.specs.declared.Found.{Found}
 use Rattle.page_rows.specs.declared.Found.the-variants.{At, Nothing}
+use Rattle.page_rows.specs.declared.FoundMessage.the-variants as message
 use Rattle.page_rows.specs.Messages.{kindCount}
-use Rattle.page_rows.specs.Table.{rows, rowAt, firstAt, hasId}
+use Rattle.page_rows.specs.Table.{rows, rowAt, firstAt, hasId, withMessage}
 use Rattle.page_rows.specs.Interfaces.{safetyKind, isOn, foundOn, Has}
 use Rattle.page_rows.proofs.Rules.{not-both}
 use Rattle.page_rows.proofs.Interfaces.{has-found, own-found}
 use Rattle.page_rows.proofs.Listed.{found-listed}
 use Rattle.page_read.specs.declared.Judged.the-variants.{Frame, Refused}
-use Rattle.page_read.specs.Judge.{judgedAt, judgeOn}
-use Rattle.page_interfaces.specs.Foreign.{foreignAt, isForeign, other, turnedDown, judgeFor}
+use Rattle.page_read.specs.Judge.{judgedRow, judgedAt, judgedFor, judgeOn, judgeFrom}
+use Rattle.page_interfaces.specs.Foreign.{foreignAt, isForeign, other, judgeFor}
 
 -- a kind that one has not, the other has
 pub either-has : (iface : Interface) (k : ℕ) → isOn iface k ≡ false → isOn (other iface) k ≡ true
@@ -73,12 +73,27 @@ read-own iface m x bs k n e = go (isForeign iface m x) refl
     go true f = let z : Refused UnknownIdentifier ≡ Frame k n = sym (foreign-refused iface m x bs f) ∙ e in absurd (let y : _≡_ {A = ℕ} 0 1 = cc in omega arith)
     go false f = refl
 
--- ---- what a post reads, from what its own pages say
+-- ---- what a post reads
 
-pub frame-for : (iface : Interface) (m : ℕ) (x : Bool) (bs : List ℕ) (k n : ℕ) → judgeOn iface m x bs ≡ Frame k n → Frame k n ≡ judgeFor iface m x bs
-unfolding judgeFor
-frame-for iface m x bs k n e = rw (read-own iface m x bs k n e) (sym e)
+-- the reader with 29 for the other's identifiers
+pub from-for : (iface : Interface) (m : ℕ) (x : Bool) (bs : List ℕ) → judgeFrom iface OtherInterface m x bs ≡ judgeFor iface m x bs
+unfolding judgeFrom judgeFor judgeOn isForeign
+from-for iface m x bs = go (firstAt (hasId m x) 0 rows)
+  where
+    by : (i : ℕ) (b : Bool) → cond b (judgedRow (rowAt i) bs) (Refused OtherInterface) ≡ cond (not b) (Refused OtherInterface) (judgedAt bs (cond b (At i) Nothing))
+    by i true = refl
+    by i false = refl
 
-pub refused-for : (iface : Interface) (m : ℕ) (x : Bool) (bs : List ℕ) (w : Refusal) → judgeOn iface m x bs ≡ Refused w → turnedDown iface m x w ≡ judgeFor iface m x bs
-unfolding judgeFor
-refused-for iface m x bs w e = rw e
+    go : (f : Found) → judgedFor iface OtherInterface bs f ≡ cond (foreignAt iface f) (Refused OtherInterface) (judgedAt bs (foundOn iface f))
+    go (At i) = by i (isOn iface (rowAt i .kind))
+    go Nothing = refl
+
+-- ---- what a search tells: a message that is found, by its kind, and none
+
+pub foreign-at : (iface : Interface) (f : Found) (k i len : ℕ) (big : Bool) → withMessage f ≡ message.At k i len big → not (isOn iface k) ≡ foreignAt iface f
+foreign-at iface (At j) k i len big e = let s : rowAt j .kind ≡ k = cc in ap (λ (x : ℕ). not (isOn iface x)) (sym s)
+foreign-at iface Nothing k i len big e = absurd (let z : _≡_ {A = ℕ} 0 1 = cc in omega arith)
+
+pub foreign-none : (iface : Interface) (f : Found) → withMessage f ≡ message.Nothing → false ≡ foreignAt iface f
+foreign-none iface (At j) e = absurd (let z : _≡_ {A = ℕ} 0 1 = cc in omega arith)
+foreign-none iface Nothing e = refl

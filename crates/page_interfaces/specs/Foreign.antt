@@ -2,7 +2,6 @@
 use Prim.Native.Nat.{ℕ}
 use mathlib.Core.Bool.{Bool, false, cond, not}
 use mathlib.Core.List.{List}
-use Rattle.refusals.specs.declared.Refusal.{Refusal}
 use Rattle.refusals.specs.declared.Refusal.the-variants.{OtherInterface}
 use Rattle.page_rows.specs.declared.Interface.{Interface}
 use Rattle.page_rows.specs.declared.Interface.the-variants.{Newer, Older}
@@ -26,10 +25,6 @@ isForeign iface m x = foreignAt iface (firstAt (hasId m x) 0 rows)
 abbrev pub other : Interface → Interface
 other Newer = Older
 other Older = Newer
-
--- 29 goes before the refusal w of the interface's own pages
-abbrev pub turnedDown : Interface → ℕ → Bool → Refusal → Judged
-turnedDown iface m x w = cond (isForeign iface m x) (Refused OtherInterface) (Refused w)
 
 -- "in 3's place": 29, and every other frame as the post's own pages read it
 unfoldable pub judgeFor : Interface → ℕ → Bool → List ℕ → Judged

@@ -2,24 +2,40 @@
 -- as on any other (`on-other`); no frame of a kind that it does not have is ever a message on it. `judgeOf` is the newer one (`newer`).
 -- Assumes nothing.
 use mathlib.Core.Path.{_≡_, refl, sym, ap, _∙_, subst}
-use mathlib.Core.Bool.{Bool, true, false}
+use mathlib.Core.Bool.{Bool, true, false, cond}
 use mathlib.Core.List.{List}
 use Prim.Native.Nat.{ℕ, _*_, _<_}
 use lib.ListN.{length}
 use Rattle.payload.specs.Payload.{numberOf}
+use Rattle.refusals.specs.declared.Refusal.the-variants.{UnknownIdentifier}
 use Rattle.page_rows.specs.declared.Interface.{Interface}
 use Rattle.page_rows.specs.declared.Interface.the-variants.{Newer}
+use Rattle.page_rows.specs.declared.Found.{Found}
+use Rattle.page_rows.specs.declared.Found.the-variants.{At, Nothing}
 use Rattle.page_rows.specs.Messages.{messageCount}
 use Rattle.page_rows.specs.Table.{rows, rowAt, firstAt, hasId}
-use Rattle.page_rows.specs.Interfaces.{isOn, withId}
+use Rattle.page_rows.specs.Interfaces.{isOn, foundOn, withId}
 use Rattle.page_rows.proofs.Interfaces.{found-own, found-has}
-use Rattle.page_read.specs.declared.Judged.the-variants.{Frame}
-use Rattle.page_read.specs.Judge.{judgedAt, judgeOn, judgeOf}
+use Rattle.page_read.specs.declared.Judged.the-variants.{Frame, Refused}
+use Rattle.page_read.specs.Judge.{judgedRow, judgedAt, judgedFor, judgeOn, judgeOf, judgeFrom}
 use Rattle.page_read.proofs.Answers.{Reached, reached-frame, taken}
 
 pub newer : (m : ℕ) (x : Bool) (bs : List ℕ) → judgeOf m x bs ≡ judgeOn Newer m x bs
 unfolding judgeOf judgeOn
 newer m x bs = refl
+
+-- a reader without a post gives 3 for the other's identifiers
+pub from-on : (iface : Interface) (m : ℕ) (x : Bool) (bs : List ℕ) → judgeFrom iface UnknownIdentifier m x bs ≡ judgeOn iface m x bs
+unfolding judgeFrom judgeOn
+from-on iface m x bs = go (firstAt (hasId m x) 0 rows)
+  where
+    by : (i : ℕ) (b : Bool) → cond b (judgedRow (rowAt i) bs) (Refused UnknownIdentifier) ≡ judgedAt bs (cond b (At i) Nothing)
+    by i true = refl
+    by i false = refl
+
+    go : (f : Found) → judgedFor iface UnknownIdentifier bs f ≡ judgedAt bs (foundOn iface f)
+    go (At i) = by i (isOn iface (rowAt i .kind))
+    go Nothing = refl
 
 -- THEOREM: an accepted frame is of a kind that the interface has
 pub on-own : (iface : Interface) (m : ℕ) (x : Bool) (bs : List ℕ) (k n : ℕ) → judgeOn iface m x bs ≡ Frame k n → isOn iface k ≡ true

@@ -10,25 +10,27 @@ use lib.ListN.{length, drop, take}
 use Rattle.payload.specs.Payload.{numberOf, Bytes}
 use Rattle.payload.proofs.Orders.{number-bound}
 use Rattle.payload.proofs.Stored.{number-in}
+use Rattle.refusals.specs.declared.Refusal.{Refusal}
 use Rattle.page_rows.specs.declared.Interface.{Interface}
 use Rattle.page_rows.specs.declared.Found.{Found}
 use Rattle.page_rows.specs.declared.Found.the-variants.{At, Nothing}
 use Rattle.page_rows.specs.declared.FoundMessage.the-variants as message
 use Rattle.page_rows.specs.declared.Row.{Row}
 use Rattle.page_read.specs.declared.Judged.the-variants.{Refused}
-use Rattle.page_rows.specs.Table.{rows, rowAt, rowsOf, block, lengthOf, withMessage}
-use Rattle.page_rows.specs.Interfaces.{withId}
-use Rattle.page_read.specs.Judge.{judgedNumber, wrongLength, judgedRow, judgedAt, judgeOn}
+use Rattle.page_rows.specs.Messages.{messageCount}
+use Rattle.page_rows.specs.Table.{rows, rowAt, rowsOf, hasId, firstAt, block, lengthOf, withMessage}
+use Rattle.page_read.specs.Judge.{judgedNumber, wrongLength, judgedRow, judgedFor, judgeFrom}
 use Rattle.page_read.specs.Steps.{offenceOf, cleared, judgedBy}
 use Rattle.page_rows.proofs.Rules.{short-length}
 use Rattle.page_rows.proofs.Firsts.{first-id}
-use Rattle.page_rows.proofs.Interfaces.{found-has}
+use Rattle.page_rows.proofs.Listed.{found-listed}
 use Rattle.page_read.proofs.Offenders.{judged-by}
 
 -- what the search for the identifier decides
-pub searched : (iface : Interface) (m : ℕ) (x : Bool) (bs : List ℕ) (f : Found) → withId iface m x ≡ f → judgedAt bs f ≡ judgeOn iface m x bs
-unfolding judgeOn
-searched iface m x bs f g = ap (judgedAt bs) (sym g)
+pub searched : (iface : Interface) (other : Refusal) (m : ℕ) (x : Bool) (bs : List ℕ) (f : Found) → firstAt (hasId m x) 0 rows ≡ f
+    → judgedFor iface other bs f ≡ judgeFrom iface other m x bs
+unfolding judgeFrom
+searched iface other m x bs f g = ap (judgedFor iface other bs) (sym g)
 
 -- the message that was found is that of the row at i
 pub record Of (k i len : ℕ) (big : Bool) (f : Found) : Type 0 where
@@ -59,15 +61,15 @@ none-found Nothing e = refl
 abbrev pub Judging : ℕ → List ℕ → ℕ → ℕ → Type 0
 Judging i bs n k =
     (judgedBy k n (offenceOf n (rowsOf k)) (cleared (rowsOf k) n) ≡ judgedRow (rowAt i) bs)
-    × (block k (drop i rows) ≡ rowsOf k) × (n < 2 ^ (8 * lengthOf k))
+    × (block k (drop i rows) ≡ rowsOf k) × (n < 2 ^ (8 * lengthOf k)) × (k < messageCount)
 
 -- 5 and 6, where the length is the row's: the message's rows stand together from the one that was found, and the number has no bit above the message
-pub of-length : (iface : Interface) (m : ℕ) (x : Bool) (i : ℕ) (bs : List ℕ) (n : ℕ) → Bytes bs → withId iface m x ≡ At i → length bs ≡ rowAt i .bytes
+pub of-length : (m : ℕ) (x : Bool) (i : ℕ) (bs : List ℕ) (n : ℕ) → Bytes bs → firstAt (hasId m x) 0 rows ≡ At i → length bs ≡ rowAt i .bytes
     → n ≡ numberOf (rowAt i .big) (take 8 bs) → Judging i bs n (rowAt i .kind)
 unfolding lengthOf
-of-length iface m x i bs n hb g l e =
+of-length m x i bs n hb g l e =
     let r = rowAt i in
-    let f = first-id m x i (found-has iface m x i g .first) in
+    let f = first-id m x i g in
     let size : lengthOf (r .kind) ≡ length bs = ap (λ (x : Row). x .bytes) (f .3) ∙ sym l in
     let few : length bs ≤ 8 = omega (arith, short-length (r .kind)) in
     let whole = numberOf (r .big) bs in
@@ -80,4 +82,5 @@ of-length iface m x i bs n hb g l e =
           ∙ sym (ap (λ (b : Bool). cond b (judgedNumber (r .kind) (8 * length bs) whole) (Refused (wrongLength r bs))) (eq-eqb (length bs) (r .bytes) l)),
       f .2,
       subst (λ (y : ℕ). y < 2 ^ (8 * lengthOf (r .kind))) (sym is) below,
+      found-listed m x i g .listed .inTable,
     )

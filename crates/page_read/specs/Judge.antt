@@ -15,8 +15,8 @@ use Rattle.page_read.specs.declared.Judged.{Judged}
 use Rattle.page_read.specs.declared.Judged.the-variants.{Frame, Refused}
 use Rattle.refusals.specs.declared.Refusal.{Refusal}
 use Rattle.refusals.specs.declared.Refusal.the-variants.{UnknownIdentifier, TooShort, TooLong, NoLabel, UncoveredBit}
-use Rattle.page_rows.specs.Table.{rows, noRow, rowsOf, bitsAt, covered, takes}
-use Rattle.page_rows.specs.Interfaces.{withId}
+use Rattle.page_rows.specs.Table.{rows, noRow, rowAt, rowsOf, hasId, firstAt, bitsAt, covered, takes}
+use Rattle.page_rows.specs.Interfaces.{isOn, withId}
 
 -- 5: "a label signal holds a number without a label"
 unfoldable pub unlabelled : ℕ → List Row → Bool
@@ -64,3 +64,12 @@ judgeOn iface m extended bs = judgedAt bs (withId iface m extended)
 -- on the newer interface: the pages of 000 and 004
 unfoldable pub judgeOf : ℕ → Bool → List ℕ → Judged
 judgeOf m extended bs = judgedAt bs (withId Newer m extended)
+
+-- the message that is found by its identifier, where it is one of the interface's, and `other` where it is not
+abbrev pub judgedFor : Interface → Refusal → List ℕ → Found → Judged
+judgedFor iface other bs (At i) = cond (isOn iface (rowAt i .kind)) (judgedRow (rowAt i) bs) (Refused other)
+judgedFor iface other bs Nothing = Refused UnknownIdentifier
+
+-- by the interface's own pages, and `other` in 3's place for an identifier that only the other interface has
+unfoldable pub judgeFrom : Interface → Refusal → ℕ → Bool → List ℕ → Judged
+judgeFrom iface other m extended bs = judgedFor iface other bs (firstAt (hasId m extended) 0 rows)

@@ -1,6 +1,6 @@
 -- Inner steps: what the walk over a message's rows computes. The promise of Judge does not speak of them.
 use Prim.Native.Nat.{ℕ}
-use mathlib.Core.Bool.{cond}
+use mathlib.Core.Bool.{Bool, cond, _||_}
 use mathlib.Core.List.{List, [], _∷_}
 use lib.Dec.{eqb}
 use Rattle.signal.specs.Signal.{putBits}
@@ -25,3 +25,7 @@ cleared (r ∷ rs) n = cleared rs (putBits n (lowest r) (r .width) 0)
 abbrev pub judgedBy : ℕ → ℕ → Offence → ℕ → Judged
 judgedBy k n (Start s) rest = Refused (NoLabel s)
 judgedBy k n Nothing rest = cond (eqb rest 0) (Frame k n) (Refused UncoveredBit)
+
+-- the kinds of messages with a bit that is no signal's: the three of 004, 001's Sequence_Control and ADM_CS_SPCC_Inputs
+abbrev pub hasGaps : ℕ → Bool
+hasGaps k = eqb k 9 || eqb k 10 || eqb k 11 || eqb k 14 || eqb k 27

@@ -3,11 +3,13 @@ ghost use mathlib.Core.Path.{_≡_};
 ghost use lib.ListN.{getD};
 ghost use Rattle.page_rows.specs.Messages.{messages, noMessage, keyOf};
 ghost use Rattle.page_rows.specs.declared.Interface.the-variants.{Newer, Older};
-ghost use Rattle.page_rows.specs.Table.{kindFound, withMessage};
+ghost use Rattle.page_rows.specs.Table.{rows, hasId, firstAt, kindFound, withMessage};
 ghost use Rattle.page_rows.specs.Interfaces.{withId};
 use crate::Found;
 use crate::FoundMessage;
+use crate::Interface;
 use crate::Message;
+use crate::is_on;
 
 // The kinds of documents 000 and 004, and of all.
 const KIND_COUNT: usize = 12;
@@ -217,23 +219,36 @@ fn older_kind_with_id(id: u32, extended: bool) -> Found
     }
 }
 
-// The message with an identifier of this form, on the newer interface and on the older one.
-pub fn message_with_id(id: u32, extended: bool) -> FoundMessage
-    ensures { λ r. ⌜ r ≡ withMessage (withId Newer id extended) ⌝ }
+// And on whichever has it.
+fn any_kind_with_id(id: u32, extended: bool) -> Found
+    ensures { λ r. ⌜ r ≡ kindFound (firstAt (hasId id extended) 0 rows) ⌝ }
 {
-    let Found::At(k) = kind_with_id(id, extended) else {
+    if let Found::At(k) = kind_with_id(id, extended) {
+        return Found::At(k);
+    }
+    older_kind_with_id(id, extended)
+}
+
+// The message with an identifier of this form, on whichever interface has it.
+pub fn with_id(id: u32, extended: bool) -> FoundMessage
+    ensures { λ r. ⌜ r ≡ withMessage (firstAt (hasId id extended) 0 rows) ⌝ }
+{
+    let Found::At(k) = any_kind_with_id(id, extended) else {
         return FoundMessage::Nothing;
     };
     let m = message_at(k);
     FoundMessage::At(k, m.4, m.2, m.3)
 }
 
-pub fn older_with_id(id: u32, extended: bool) -> FoundMessage
-    ensures { λ r. ⌜ r ≡ withMessage (withId Older id extended) ⌝ }
+// And on one of the two.
+pub fn message_on(iface: Interface, id: u32, extended: bool) -> FoundMessage
+    ensures { λ r. ⌜ r ≡ withMessage (withId iface id extended) ⌝ }
 {
-    let Found::At(k) = older_kind_with_id(id, extended) else {
+    let FoundMessage::At(kind, at, len, big) = with_id(id, extended) else {
         return FoundMessage::Nothing;
     };
-    let m = message_at(k);
-    FoundMessage::At(k, m.4, m.2, m.3)
+    if is_on(iface, kind) {
+        return FoundMessage::At(kind, at, len, big);
+    }
+    FoundMessage::Nothing
 }

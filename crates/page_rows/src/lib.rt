@@ -1,6 +1,7 @@
 // The maker's pages as one constant table: its messages and rows, the searches by identifier, kind and start, and the rules that it keeps to. What is read,
 // written or changed goes by this table, and every crate above may ask it. Every public function takes any input.
 ghost use mathlib.Core.Path.{_≡_};
+ghost use Rattle.page_rows.specs.Interfaces.{isOn};
 ghost use Rattle.page_rows.specs.Layout.{rowOf};
 ghost use Rattle.page_rows.specs.Table.{identifierOf, lengthOf, extendedOf, bigOf, takes};
 
@@ -21,8 +22,18 @@ pub use charger::SETPOINTS_MODE;
 pub use charger::STOP_ORIGIN;
 pub use charger::SYSTEM_ENABLE;
 pub use charger::VEHICLE_READY_FOR_CHARGING;
-pub use contents::message_with_id;
-pub use contents::older_with_id;
+pub use contents::message_on;
+pub use contents::with_id;
+pub use older::CE_STATE;
+pub use older::CP_STATE;
+pub use older::ID_STATE;
+pub use older::OLD_COMMUNICATION_PROTOCOL;
+pub use older::OLD_CONTROLLER_STATE;
+pub use older::OLD_FINISHED_STATE;
+pub use older::OLD_PLUG_AND_PINS;
+pub use older::OLD_STOP_ORIGIN;
+pub use older::OLD_SYSTEM_ENABLE;
+pub use older::OLD_VEHICLE_READY_FOR_CHARGING;
 pub use table::ROW_COUNT;
 pub use table::first_of_kind;
 pub use table::row_at;
@@ -77,6 +88,11 @@ pub enum Interface {
     Older,
 }
 
+// The kinds of documents 000 and 004 end, and those of 004 and 001 begin.
+const KIND_COUNT: usize = 12;
+
+const SAFETY_KIND: usize = 9;
+
 pub enum Found {
     At(usize),
     Nothing,
@@ -130,6 +146,16 @@ pub fn is_big(kind: usize) -> bool
     ensures { λ r. ⌜ r ≡ bigOf kind ⌝ }
 {
     contents::message_at(kind).3
+}
+
+// Whether the interface has the messages of a kind: the pages of 000 and 004, or those of 004 and 001.
+pub fn is_on(iface: Interface, kind: usize) -> bool
+    ensures { λ r. ⌜ r ≡ isOn iface kind ⌝ }
+{
+    match iface {
+        Interface::Newer => kind < KIND_COUNT,
+        Interface::Older => SAFETY_KIND <= kind,
+    }
 }
 
 // Whether a signal with these labels, or with none, may hold the number.

@@ -55,7 +55,7 @@ pub extern "C" fn rokemaipu_read_older(
     ensures { λ r. ⌜ (r ≡ readWordOlder id extended (now (payload .entry)) (now (raws .entry)))
         × (now (raws .exit) ≡ rawsAfterOlder id extended (now (payload .entry)) (now (raws .entry))) ⌝ }
 {
-    let j = page_read::judge_older(id, extended, payload);
+    let j = page_read::judge_on(Interface::Older, id, extended, payload);
     match j {
         Judged::Frame(kind, n) => {
             if raws.len() < SIGNALS {

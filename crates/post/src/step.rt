@@ -1,9 +1,8 @@
 // A head after one event more.
 ghost use mathlib.Core.Path.{_≡_};
 ghost use Prim.Native.Nat.{_<_};
-ghost use Rattle.rule_pages.specs.declared.Role.the-variants.{Limits, Controller};
 ghost use Rattle.rules.specs.Record.{unknown, slotAt, closedSession};
-ghost use Rattle.rules.specs.After.{keptCount, keptPut, openedBy, sessionAfter, agedTo, putFor, withFrame, withCounts};
+ghost use Rattle.rules.specs.After.{keptCount, keptPut, openedBy, agedTo, withFrame, withCounts};
 use rule_asks::is_set;
 use rule_pages::Role;
 use rule_pages::role_of;
@@ -72,20 +71,6 @@ fn opened_by(s: Session, n: Slot) -> Session
     u
 }
 
-fn session_after(s: Session, kind: usize, n: Slot) -> Session
-    ensures { λ r. ⌜ r ≡ sessionAfter s kind n ⌝ }
-{
-    match role_of(kind) {
-        Role::Status => kept_put(s, STATUS_PLACE, n),
-        Role::Opening => opened_by(s, n),
-        Role::Command => kept_put(s, CONTROL_PLACE, n),
-        Role::Finished => no_session(),
-        Role::Limits => s,
-        Role::Controller => s,
-        Role::Other => s,
-    }
-}
-
 // The head at an event's time.
 pub fn aged(h: Head, time: u64) -> Head
     ensures { λ r. ⌜ r ≡ agedTo h time ⌝ }
@@ -96,45 +81,34 @@ pub fn aged(h: Head, time: u64) -> Head
     g
 }
 
-fn controller_after(kind: usize, n: Slot, l: Slot) -> Slot
-    ensures { λ r. ⌜ r ≡ putFor Controller kind n l ⌝ }
-{
-    match role_of(kind) {
-        Role::Controller => n,
-        Role::Other => l,
-        Role::Status => l,
-        Role::Limits => l,
-        Role::Opening => l,
-        Role::Command => l,
-        Role::Finished => l,
-    }
-}
-
-fn limits_after(kind: usize, n: Slot, l: Slot) -> Slot
-    ensures { λ r. ⌜ r ≡ putFor Limits kind n l ⌝ }
-{
-    match role_of(kind) {
-        Role::Limits => n,
-        Role::Other => l,
-        Role::Status => l,
-        Role::Controller => l,
-        Role::Opening => l,
-        Role::Command => l,
-        Role::Finished => l,
-    }
-}
-
-// The head with a frame that came at its time.
+// The head with a frame that came at its time. One field is stored, by what the frame is to the rules: of a slot chosen by a function the compiler makes copies
+// on the stack.
 pub fn with_frame(h: Head, kind: usize, n: Slot) -> Head
     ensures { λ r. ⌜ r ≡ withFrame h kind n ⌝ }
 {
     let s = h.session;
-    let c = h.controller;
-    let p = h.parameters;
     let mut g = h;
-    g.controller = controller_after(kind, n, c);
-    g.parameters = limits_after(kind, n, p);
-    g.session = session_after(s, kind, n);
+    match role_of(kind) {
+        Role::Controller => {
+            g.controller = n;
+        }
+        Role::Limits => {
+            g.parameters = n;
+        }
+        Role::Status => {
+            g.session = kept_put(s, STATUS_PLACE, n);
+        }
+        Role::Command => {
+            g.session = kept_put(s, CONTROL_PLACE, n);
+        }
+        Role::Opening => {
+            g.session = opened_by(s, n);
+        }
+        Role::Finished => {
+            g.session = no_session();
+        }
+        Role::Other => {}
+    }
     g
 }
 

@@ -46,7 +46,7 @@ abbrev pub datedOf : ℕ → Option Said → Dated
 datedOf now none = dated.Nothing
 datedOf now (some m) = datedAt (receivedOf (m .time)) (ageOf now (m .time)) (m .kind) (m .raw)
 
--- a frame of a kind that has the place j: on a post, whose frames are of one interface, the kind itself (`place-of-one`)
+-- a frame of a kind that has the place j: on a post, whose frames are of one interface, the kind itself (`own-latest`, watch_rules)
 abbrev pub atPlace : ℕ → Event → Option Said
 atPlace j (frame t k raw) = cond (eqb (placeBy k) j) (some (saidAt t k raw)) none
 atPlace j (tick t) = none

@@ -1,13 +1,14 @@
 -- 02, Req 11: a post hears the messages of its own interface alone, whatever was asked of the table (`own-pages`), so that the latest frame that it keeps in a
--- place is the latest of a kind (`latest-of-kind`); an identifier that only the other interface has is refused with 29 (`own-foreign`).
+-- place is the latest of a kind (`latest-of-kind`), and so does its record show it (`latest-shown`); an identifier that only the other interface has is refused with 29 (`own-foreign`).
 use Prim.Native.Nat.{ℕ, _+_, _-_, _≤_, _<_}
 use native.Mathlib.Omega.{arith}
-use mathlib.Core.Path.{_≡_, refl, ap, sym, _∙_}
+use mathlib.Core.Path.{_≡_, refl, ap, sym, subst, _∙_}
 use mathlib.Core.List.{List, [], _∷_}
 use mathlib.Core.Bool.{Bool, true, false, cond}
-use mathlib.Core.Option.{none}
+use mathlib.Core.Option.{Option, none}
 use lib.Dec.{eqb, ltb}
-use borrow.Author.Tests.{eqb-true, eqb-false, ne-eqb, ltb-true, ltb-false, leb-true, lt-ltb, le-ltb}
+use lib.ListN.{getD}
+use borrow.Author.Tests.{eqb-true, eqb-false, eq-eqb, ne-eqb, ltb-true, ltb-false, leb-true, lt-ltb, le-ltb}
 use Rattle.refusals.specs.declared.Refusal.the-variants.{Earlier, OtherInterface}
 use Rattle.page_rows.specs.declared.Interface.{Interface}
 use Rattle.page_rows.specs.declared.Interface.the-variants.{Newer, Older}
@@ -22,16 +23,20 @@ use Rattle.page_interfaces.specs.Foreign.{isForeign, judgeFor}
 use Rattle.rule_limits.specs.declared.PlainLimits.{PlainLimits}
 use Rattle.rule_limits.specs.Sensor.{interfaceOf}
 use Rattle.rule_pages.specs.Places.{placeBy}
-use Rattle.rules.specs.History.{frame, tick, History, newest, ofKind}
-use Rattle.rules.specs.Times.{earlierIn}
-use Rattle.rules.specs.Record.{atPlace}
+use Rattle.rule_pages.proofs.Places.{place-small}
+use Rattle.rules.specs.declared.Latest.{Latest}
+use Rattle.rules.specs.History.{frame, tick, History, Said, newest, ofKind}
+use Rattle.rules.specs.Times.{earlierIn, latestTime}
+use Rattle.rules.specs.Record.{placeCount, datedOf, atPlace, recordAsOf}
+use Rattle.rules.proofs.Counted.{count-at}
 use Rattle.watch_rules.specs.declared.Answer.the-variants.{Refused}
-use Rattle.watch_rules.specs.Table.{postCount, arrivalOf, framing, ticking}
-use Rattle.watch_rules.specs.Steps.{Steps, held, standing, eventIn, setUpSteps, releaseSteps, setUp01, release01, Apart}
+use Rattle.watch_rules.specs.declared.LookedUp.{LookedUp}
+use Rattle.watch_rules.specs.Table.{postCount, arrivalOf, framing, ticking, lookUpOf}
+use Rattle.watch_rules.specs.Steps.{Steps, held, standing, eventIn, setUpSteps, releaseSteps, setUp01, release01, shownIn, lookUp01, Apart}
 use Rattle.watch_rules.specs.Run as run
 use Rattle.watch_rules.specs.Pages.{OnPages, OnOwn, kindAt, onlyOf}
 use Rattle.watch_rules.proofs.Each.{Each, each-none, each-released, each-set, each-fed}
-use Rattle.watch_rules.proofs.Demand.{run-kept, own-unread}
+use Rattle.watch_rules.proofs.Demand.{run-kept, every-record, own-unread}
 
 -- ---- what a post reads is of its own pages
 
@@ -124,6 +129,32 @@ module _ (iface : Interface) where
       go false true e f rest =
           rw (f, e) (sym (never-heard h (on .1) k (lacking (isOn iface k) refl e (eqb-true (placeBy j) (placeBy k) f))))
       go false false e f rest = rw (f, e) rest
+
+  -- THEOREM: of a kind that the interface has, what its place keeps is the latest
+  pub own-latest : (h : History) → OnPages iface h → (k : ℕ) → isOn iface k ≡ true → newest (atPlace (placeBy k)) h ≡ newest (ofKind k) h
+  own-latest [] on k has = refl
+  own-latest (tick t ∷ h) on k has = own-latest h on k has
+  own-latest (frame t j raw ∷ h) on k has = go (eqb j k) refl (own-latest h (on .1) k has)
+    where
+      go : (b : Bool) → eqb j k ≡ b → newest (atPlace (placeBy k)) h ≡ newest (ofKind k) h
+          → newest (atPlace (placeBy k)) (frame t j raw ∷ h) ≡ newest (ofKind k) (frame t j raw ∷ h)
+      go true e rest = rw (e, eq-eqb (placeBy j) (placeBy k) (ap placeBy (eqb-true j k e)))
+      go false e rest = rw (e, ne-eqb (placeBy j) (placeBy k) (λ p. eqb-false j k e (place-one iface j k (on .0 .0) has p))) rest
+
+-- ---- the record
+
+-- THEOREM: the record that is looked up shows, in the place of a kind that the post's interface has, the latest frame of that kind since its latest set-up
+pub latest-shown : (rs : List run.Request) (i c : ℕ) (lim : PlainLimits) (h : History) → i < postCount → standing i (run.accepted rs) ≡ held c lim h
+    → (k : ℕ) → k < messageCount → isOn (interfaceOf (lim .interface)) k ≡ true
+    → (d : Latest) → getD (lookUpOf (run.run rs) i .shown .latest) (placeBy k) d ≡ record { message = datedOf (latestTime h) (newest (ofKind k) h) }
+unfolding lookUp01 recordAsOf
+latest-shown rs i c lim h low own k few has d =
+    let iface = interfaceOf (lim .interface) in
+    let pages : OnPages iface h = subst OnOwn own (own-pages rs i low) in
+    let shown : lookUpOf (run.run rs) i ≡ shownIn (held c lim h) = every-record rs i ∙ rw (lt-ltb i postCount low, own) in
+    ap (λ (l : LookedUp). getD (l .shown .latest) (placeBy k) d) shown
+    ∙ count-at (λ j. record { message = datedOf (latestTime h) (newest (atPlace j) h) }) d (placeBy k) 0 placeCount (placeBy k) (omega arith) (place-small k few)
+    ∙ ap (λ (m : Option Said). record { message = datedOf (latestTime h) m }) (own-latest iface h pages k has)
 
 -- ---- 29
 

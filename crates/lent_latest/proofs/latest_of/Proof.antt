@@ -5,7 +5,7 @@ use native.Mathlib.Omega.{arith}
 use mathlib.Core.Path.{sym, _∙_}
 use Rattle.page_rows.specs.Messages.{messageCount}
 use Rattle.lent_look.proofs.Asked.{no-post, not-set-up, set-up}
-use Rattle.lent_latest.proofs.Places.{place-small}
+use Rattle.rule_pages.proofs.Places.{place-small}
 use Rattle.lent_latest.proofs.ByCase.{handed-by, handed-kept}
 use Rattle.lent_latest.proofs.latest_of.Statement.{statement}
 use Rattle.lent_latest.proofs.latest_of.Tie as tie

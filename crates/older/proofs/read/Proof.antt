@@ -22,14 +22,14 @@ returns c =
     let k = c .before .before in
     let j = k .before .before in
     let a = j .before .before .args in
-    ap Accepted (c .message-of .ensures) ∙ read-by (a .id) (a .extended) (a .bytes .now) _ (sym (k .kind .given .1) ∙ j .judge-older .ensures)
+    ap Accepted (c .message-of .ensures) ∙ read-by (a .id) (a .extended) (a .bytes .now) _ (sym (k .kind .given .1) ∙ j .judge-on .ensures)
 
 returns-2 : tie.Need-returns-2
 returns-2 c =
     let w = c .before in
     let j = w .before .before in
     let a = j .before .before .args in
-    read-by (a .id) (a .extended) (a .bytes .now) _ (sym (w .w .given .1) ∙ j .judge-older .ensures)
+    read-by (a .id) (a .extended) (a .bytes .now) _ (sym (w .w .given .1) ∙ j .judge-on .ensures)
 
 pub read-spec : {M : Type 1} → statement M
 read-spec =

@@ -43,7 +43,7 @@ frame : (c : tie.After-j) (b : Bool) → leb signalCount (length (start c .args 
 unfolding start
 frame c b f =
     let a = start c .args in
-    rw f at (judged (a .id) (a .extended) (a .payload .now) (a .raws .now) _ (sym (c .j .given .1) ∙ c .before .before .judge-older .ensures))
+    rw f at (judged (a .id) (a .extended) (a .payload .now) (a .raws .now) _ (sym (c .j .given .1) ∙ c .before .before .judge-on .ensures))
 
 returns : tie.Need-returns
 unfolding start
@@ -57,7 +57,7 @@ unfolding start
 cast-result c =
     let j = c .before .before .before .before .before .before in
     let a = start j .args in
-    record { fits = omega (arith, subst (SmallBelow messageCount) (sym (j .before .before .judge-older .ensures) ∙ j .j .given .1) (judge-small-on Older (a .id) (a .extended) (a .payload .now))) }
+    record { fits = omega (arith, subst (SmallBelow messageCount) (sym (j .before .before .judge-on .ensures) ∙ j .j .given .1) (judge-small-on Older (a .id) (a .extended) (a .payload .now))) }
 
 returns-2 : tie.Need-returns-2
 unfolding start
@@ -74,7 +74,7 @@ returns-3 c =
     let j = c .before .before in
     let d = j .before .before in
     let a = d .before .before .args in
-    let e = judged (a .id) (a .extended) (a .payload .now) (a .raws .now) _ (sym (j .j2 .given .1) ∙ d .judge-older .ensures) in
+    let e = judged (a .id) (a .extended) (a .payload .now) (a .raws .now) _ (sym (j .j2 .given .1) ∙ d .judge-on .ensures) in
     (c .refusal-word2 .ensures ∙ e .0, e .1)
 
 pub rokemaipu-read-older-spec : {M : Type 1} → statement M

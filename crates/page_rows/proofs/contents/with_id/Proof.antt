@@ -1,20 +1,17 @@
--- `page_rows::contents::message_with_id` meets its contract: what the kind that was found says of its message.
+-- `page_rows::contents::with_id` meets its contract: what the kind that was found says of its message.
 use mathlib.Core.Path.{sym, ap, _∙_}
 use borrow.Author.Needs.{needs}
 use Rattle.page_rows.specs.declared.Message.{Message}
 use Rattle.page_rows.specs.declared.Found.the-variants.{At}
 use Rattle.page_rows.specs.declared.FoundMessage.the-variants as message
-use Rattle.page_rows.specs.declared.Interface.the-variants.{Newer}
 use Rattle.page_rows.specs.Table.{rows, firstAt, hasId}
-use Rattle.page_rows.specs.Interfaces.{withId}
 use Rattle.page_rows.proofs.Firsts.{id-kind}
 use Rattle.page_rows.proofs.Heads.{kind-message, kind-nothing}
-use Rattle.page_rows.proofs.Interfaces.{own-found}
-use Rattle.page_rows.proofs.contents.message_with_id.Statement.{statement}
-use Rattle.page_rows.proofs.contents.message_with_id.Tie as tie
+use Rattle.page_rows.proofs.contents.with_id.Statement.{statement}
+use Rattle.page_rows.proofs.contents.with_id.Tie as tie
 
-kind-with-id-requires : tie.Need-kind-with-id-requires
-kind-with-id-requires c κs = search needs
+any-kind-with-id-requires : tie.Need-any-kind-with-id-requires
+any-kind-with-id-requires c κs = search needs
 
 enum-known-k : tie.Need-enum-known-k
 enum-known-k c = search needs
@@ -26,7 +23,7 @@ returns : tie.Need-returns
 returns c =
     let f = c .before .before in
     let a = f .before .args in
-    kind-nothing (withId Newer (a .id) (a .extended)) (sym (f .kind-with-id .ensures) ∙ c .enum-told .given .1)
+    kind-nothing (firstAt (hasId (a .id) (a .extended)) 0 rows) (sym (f .any-kind-with-id .ensures) ∙ c .enum-told .given .1)
 
 message-at-requires : tie.Need-message-at-requires
 message-at-requires c κs = search needs
@@ -38,9 +35,9 @@ returns-2 c =
     let a = f .before .args in
     let kind = k .k .given .0 .0 in
     ap (λ (m : Message). message.At kind (m .4) (m .2) (m .3)) (c .message-at .ensures)
-    ∙ kind-message kind (withId Newer (a .id) (a .extended)) (sym (f .kind-with-id .ensures) ∙ k .k .given .1) (λ i e. id-kind (a .id) (a .extended) i (own-found Newer (firstAt (hasId (a .id) (a .extended)) 0 rows) i e .0))
+    ∙ kind-message kind (firstAt (hasId (a .id) (a .extended)) 0 rows) (sym (f .any-kind-with-id .ensures) ∙ k .k .given .1) (id-kind (a .id) (a .extended))
 
-pub message-with-id-spec : {M : Type 1} → statement M
-message-with-id-spec =
+pub with-id-spec : {M : Type 1} → statement M
+with-id-spec =
     tie.close
-    (tie.spec kind-with-id-requires enum-known-k enum-told returns message-at-requires returns-2)
+    (tie.spec any-kind-with-id-requires enum-known-k enum-told returns message-at-requires returns-2)
