@@ -8,7 +8,7 @@ use Rattle.watch_places.proofs.place_named.Tie as tie
 
 returns : tie.Need-returns
 unfolding placeNamed
-returns c = (refl, named-low (c .before .args .name))
+returns c = (refl, named-low (c .args .name))
 
 pub place-named-spec : {M : Type 1} → statement M
 place-named-spec = tie.close (tie.spec (λ c. search needs) (λ c. search needs) returns)
