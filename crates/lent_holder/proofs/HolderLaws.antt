@@ -15,7 +15,7 @@ use Rattle.watch_rules.specs.declared.Table.{Table}
 use Rattle.watch_rules.specs.Table.{postCount, channelCount, isChannel, holds, placeNamed, somePlace, placeIn, postIn, Arriving, refused, feedAt, feedOf}
 use Rattle.watch_rules.specs.Steps.{Steps, Standing, held, standing, holdsIn, holder, answerIn, feed01, InRange, Kept}
 use Rattle.watch_rules.proofs.Standings.{held-on, holder-holds, holder-is}
-use Rattle.watch_rules.proofs.Indexed.{place-in}
+use Rattle.watch_rules.proofs.Indexed.{named-back, place-in}
 use Rattle.watch_rules.proofs.Same.{place-named}
 use Rattle.watch_rules.proofs.Index.{place-holds}
 use Rattle.watch_rules.proofs.Right.{feed-right}
@@ -48,12 +48,11 @@ module _ (t : Table) (c : ℕ) where
 
   -- and where the index names a post that holds it, the word is that post's number
   pub named-holder : (i : ℕ) → i < postCount → isChannel c ≡ true → getD (t .index) c 0 ≡ suc i → holds (postIn t i .head) c ≡ true → holderWord t c ≡ i
-  unfolding holderWord somePlace placeNamed
+  unfolding holderWord somePlace
   named-holder i low channel named q =
       let on : c ≤ 31 = leb-true c 31 channel in
       let entry : getD (t .index) (c % channelCount) 0 ≡ suc i = ap (λ (k : ℕ). getD (t .index) k 0) (mod-eq-of-lt (omega arith)) ∙ named in
-      let less : suc i - 1 ≡ i = omega arith in
-      let here : somePlace t c ≡ i = rw (entry, less, lt-ltb i postCount low) in
+      let here : somePlace t c ≡ i = ap placeNamed entry ∙ named-back i low in
       let place : placeIn t c ≡ i = place-named t c (rw here q) ∙ here in
       rw (channel, place, lt-ltb i postCount low)
 

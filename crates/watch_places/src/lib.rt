@@ -42,18 +42,14 @@ pub fn place(t: Table, channel: u32) -> usize
     }
 }
 
-// The post that an entry of the index names, and the first where it names none.
+// The post that an entry of the index names, and some post where it names none. Without a choice, so that nothing waits for it.
 pub fn place_named(name: u32) -> usize
     ensures { λ r. ⌜ (r ≡ placeNamed name) × (r < postCount) ⌝ }
 {
-    if name == 0 {
-        return 0;
-    }
-    let i = (name - 1) as usize;
-    if i < POSTS { i } else { 0 }
+    ((name as usize) + (POSTS - 1)) % POSTS
 }
 
-// 01: "A frame or tick goes to the post that holds its channel." The post that the index names, and the first where it names none: who steps what stands
+// 01: "A frame or tick goes to the post that holds its channel." The post that the index names, and some post where it names none: who steps what stands
 // there asks whether the number is a channel, and whether the post holds it.
 pub fn some_place(t: Table, channel: u32) -> usize
     ensures { λ r. ⌜ (r ≡ somePlace t channel) × (r < postCount) ⌝ }

@@ -1,5 +1,5 @@
 -- The index of a table that stands for accepted steps: by it a channel's post is found as by the search, and each step keeps it so.
-use Prim.Native.Nat.{ℕ, zero, suc, _-_, _%_, _<_, _≤_}
+use Prim.Native.Nat.{ℕ, zero, suc, _+_, _-_, _%_, _<_, _≤_}
 use native.Mathlib.Nat.{mod-eq-of-lt}
 use native.Mathlib.Decide.{ℕ-discrete}
 use native.Mathlib.Omega.{arith}
@@ -26,11 +26,11 @@ use Rattle.watch_rules.proofs.Placed.{holds-look, post-at}
 
 -- ---- a channel's post by the index
 
-named-back : (i : ℕ) → i < postCount → placeNamed (suc i) ≡ i
+pub named-back : (i : ℕ) → i < postCount → placeNamed (suc i) ≡ i
 unfolding placeNamed
-named-back i low = let z : suc i - 1 ≡ i = omega arith in rw (z, lt-ltb i postCount low)
+named-back i low = let z : suc i + (postCount - 1) ≡ i + postCount = omega arith in ap (λ (k : ℕ). k % postCount) z ∙ omega arith
 
-nobody-named : placeNamed 0 ≡ 0
+nobody-named : placeNamed 0 ≡ postCount - 1
 unfolding placeNamed
 nobody-named = refl
 
@@ -59,7 +59,7 @@ module _ (t : Table) (s : Steps) (same : t .posts ≡ postsOf s) (true-to : Inde
           found-at (holder s c) (ap placeNamed (entry ∙ rw e) ∙ named-back (holder s c) h) true (holds-there (holder s c) h ∙ holder-holds s c h)
       go false e =
           let past : postCount ≤ holder s c = ltb-false (holder s c) postCount e in
-          found-at 0 (ap placeNamed (entry ∙ rw e) ∙ nobody-named) false (holds-there 0 (omega arith) ∙ not-held 0 (omega arith) past) ∙ omega (arith, holder-most s c)
+          found-at (postCount - 1) (ap placeNamed (entry ∙ rw e) ∙ nobody-named) false (holds-there (postCount - 1) (omega arith) ∙ not-held (postCount - 1) (omega arith) past) ∙ omega (arith, holder-most s c)
         where
           not-held : (i : ℕ) → i < postCount → postCount ≤ holder s c → holdsIn (standing i s) c ≡ false
           not-held i h past = by (holdsIn (standing i s) c) refl

@@ -1,6 +1,6 @@
 -- What comes to `somePlace` is the table's step: the post that the index names hears it where it holds the channel, and else turns it away
 -- and is stored as it was.
-use Prim.Native.Nat.{ℕ, _-_, _%_, _<_}
+use Prim.Native.Nat.{ℕ, _%_, _<_}
 use native.Mathlib.Omega.{arith}
 use mathlib.Core.Path.{_≡_, refl, ap}
 use mathlib.Core.Bool.{Bool, true, false, cond}
@@ -16,11 +16,7 @@ use Rattle.watch_rules.proofs.Refusing.{put-same}
 
 pub named-low : (x : ℕ) → placeNamed x < postCount
 unfolding placeNamed
-named-low x = go (ltb (x - 1) postCount) refl
-  where
-    go : (b : Bool) → ltb (x - 1) postCount ≡ b → cond b (x - 1) 0 < postCount
-    go true e = ltb-true (x - 1) postCount e
-    go false e = omega arith
+named-low x = omega arith
 
 pub some-low : (t : Table) (c : ℕ) → somePlace t c < postCount
 unfolding somePlace

@@ -73,9 +73,9 @@ postIn t i = getD (t .posts) i noPost
 abbrev pub entryOf : ℕ → ℕ
 entryOf i = cond (ltb i postCount) (suc i) 0
 
--- the post that an entry names, and the first where it names none
+-- the post that an entry names, and some post where it names none: 16 comes round to 15, and so does 0
 unfoldable pub placeNamed : ℕ → ℕ
-placeNamed x = cond (ltb (x - 1) postCount) (x - 1) 0
+placeNamed x = (x + (postCount - 1)) % postCount
 
 -- where what comes on a channel is heard: a place of the table in any case, also of a number that is no channel, which is asked there
 unfoldable pub somePlace : Table → ℕ → ℕ
