@@ -52,7 +52,7 @@ static void worked(void) {
     STAYS(&r, channel_32, 2, 0, ROKEMAIPU_LINE_BYTES, 0, R(8));
     rokemaipu_replay before = r;
     IS(set_up(&r, 1, 3), 1); /* late */
-    IS(set_up(&r, 9, 3), 1);
+    IS(set_up(&r, 16, 3), 1);
     IS(memcmp(&r, &before, sizeof r), 0);
     puts("02's replay: its lines, the piece, the end, a malformed record; 8 first; a late set-up");
 }
@@ -60,7 +60,7 @@ static void worked(void) {
 static void refused(void) {
     rokemaipu_replay r, zero;
     memset(&r, 0, sizeof r), memset(&zero, 0, sizeof zero);
-    const struct { uint32_t post, channel, silence, number; } rows[] = {{8, 2, 500, 9}, {1, 32, 500, 10}, {1, 2, 500, 11}, {1, 3, 99, 12}};
+    const struct { uint32_t post, channel, silence, number; } rows[] = {{16, 2, 500, 9}, {1, 32, 500, 10}, {1, 2, 500, 11}, {1, 3, 99, 12}};
     for (size_t i = 0; i < sizeof rows / sizeof *rows; i++) {
         IS(rokemaipu_replay_start(&r), 0);
         IS(memcmp(&r, &zero, sizeof r), 0);
@@ -118,8 +118,8 @@ static void any_log(void) {
         rokemaipu_table singly;
         memset(r, 0, sizeof *r), memset(&singly, 0, sizeof singly);
         for (uint32_t post = 0; post < 4; post++) {
-            IS(rokemaipu_replay_set_up(r, 7 - post, post, 5000, 1000, 500, 500, post % 2, post / 2), 0);
-            IS(rokemaipu_set_up(&singly, 7 - post, post, 5000, 1000, 500, 500, post % 2, post / 2), 0);
+            IS(rokemaipu_replay_set_up(r, 12 - 3 * post, post, 5000, 1000, 500, 500, post % 2, post / 2), 0);
+            IS(rokemaipu_set_up(&singly, 12 - 3 * post, post, 5000, 1000, 500, 500, post % 2, post / 2), 0);
         }
         uint32_t time = 0;
         size_t size = some_log(log, MOST_BYTES - below(200), &time), at = 0;
