@@ -41,9 +41,8 @@ static void any_holder(void) {
         for (int i = 0; turn % 3 && i < ROKEMAIPU_POSTS; i++) t->posts[i].head.used = 1;
         only_read(f, true);
         for (uint32_t channel = 0; channel < 42; channel++) {
-            uint32_t named = channel < 32 ? t->index[channel] - 1 : NOBODY; /* 0 names none */
-            bool held = named < NOBODY && holds(t, named, channel);
-            IS(rokemaipu_holder(t, channel), held ? named : R(1));
+            bool held = channel < 32 && holds(t, named(t, channel), channel);
+            IS(rokemaipu_holder(t, channel), held ? named(t, channel) : R(1));
             found += held, above += channel > 31 && searched(t, channel), lied += channel < 32 && !held && searched(t, channel);
         }
     }

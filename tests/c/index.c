@@ -137,9 +137,10 @@ static void lying(void) {
     for (uint32_t channel = 0; channel < ROKEMAIPU_CHANNELS; channel++)
         for (uint32_t k = 0; k < 17 + sizeof odd / sizeof *odd && !bad; k++) {
             uint32_t said = k < 17 ? k : odd[k - 17];
-            bool held = said && said <= 16 && said - 1 == channel && channel % 3 == 0;
             t = made, t.index[channel] = said;
             rokemaipu_table was = t;
+            bool held = holds(&t, named(&t, channel), channel);
+            IS(held, channel % 3 == 0 && channel < 16 && (said == channel + 1 || (!channel && (!said || said > 16)))); /* the first where it names none */
             IS(rokemaipu_holder(&t, channel), held ? channel : R(1));
             IS(heard(channel, 7), held ? 4 : 0);
             believed += held;
@@ -147,7 +148,7 @@ static void lying(void) {
             else was.refused += 4;
             IS(memcmp(&was, &t, sizeof t), 0); /* no other post was touched, and nothing reads behind the sixteen */
         }
-    IS(believed, 6);
+    IS(believed, 6 + 1 + sizeof odd / sizeof *odd);
     puts("lying: whatever number stands in the index, no post hears what comes on a channel that it does not hold");
 }
 

@@ -67,7 +67,7 @@ static void refused(void) {
         IS(set_up(&r, 0, 2), 0);
         IS(rokemaipu_replay_set_up(&r, rows[i].post, rows[i].channel, 5000, 1000, 500, rows[i].silence, 0, 0), R(rows[i].number));
         IS(r.course, R(rows[i].number));
-        IS(set_up(&r, 5, 5), R(rows[i].number)); /* it has ended, also where a later one would be accepted */
+        IS(set_up(&r, 15, 5), R(rows[i].number)); /* it has ended, also where a later one would be accepted */
         STAYS(&r, ticks, sizeof ticks, 0, ROKEMAIPU_LINE_BYTES, 1, R(rows[i].number));
         STAYS(&r, ticks, sizeof ticks, 0, ROKEMAIPU_LINE_BYTES - 1, 1, R(8));
     }

@@ -46,6 +46,9 @@ static inline uint32_t searched(const rokemaipu_table *t, uint32_t channel) {
     return 0;
 }
 
+/* the post that the index names, and the first where it names none; whether it holds the channel is asked of it */
+static inline uint32_t named(const rokemaipu_table *t, uint32_t channel) { return t->index[channel] - 1 < ROKEMAIPU_POSTS ? t->index[channel] - 1 : 0; }
+
 /* mostly true, and any number may stand there */
 static void random_index(rokemaipu_table *t) {
     for (uint32_t channel = 0; channel < ROKEMAIPU_CHANNELS; channel++) t->index[channel] = below(3) ? searched(t, channel) : below(8) ? below(ROKEMAIPU_POSTS + 3) : (uint32_t)next();

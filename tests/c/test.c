@@ -480,6 +480,13 @@ static bool same_counts(const rokemaipu_table *a, const rokemaipu_table *b) {
     return a->refused == b->refused;
 }
 
+/* what an accepted set-up or release leaves of the index: nothing on the channel that the post held, and the post on the channel that it is given */
+static void indexed(rokemaipu_table *t, uint32_t post, const uint32_t *channel) {
+    const rokemaipu_head *h = &t->posts[post].head;
+    if (h->used == 1 && h->channel < ROKEMAIPU_CHANNELS) t->index[h->channel] = 0;
+    if (channel) t->index[*channel] = post + 1;
+}
+
 static void anything(void) {
     rokemaipu_table *t = (rokemaipu_table *)fenced(sizeof *t), before;
     uint8_t *end = fenced(12) + 12;
@@ -490,12 +497,12 @@ static void anything(void) {
         size_t length = below(12);
         uint8_t *payload = end - length; /* ends at the fence */
         for (size_t i = 0; i < length; i++) payload[i] = below(3) ? (uint8_t)below(6) : (uint8_t)next();
-        uint32_t channel = below(40), time = below(2) ? (uint32_t)next() : (uint32_t)t->posts[below(ROKEMAIPU_POSTS)].head.time, which = below(IDS), what = below(4), r;
+        uint32_t post = below(20), channel = below(40), time = below(2) ? (uint32_t)next() : (uint32_t)t->posts[below(ROKEMAIPU_POSTS)].head.time, which = below(IDS), what = below(4), r;
         switch (what) {
         case 0: r = rokemaipu_frame(t, channel, time, ids[which], some_form(which), payload, length); break;
         case 1: r = rokemaipu_tick(t, channel, time); break;
-        case 2: r = rokemaipu_release(t, below(20)); break;
-        default: r = rokemaipu_set_up(t, below(20), channel, below(70000), below(40000), below(40000), below(70000), some_sensor(), some_interface()); break;
+        case 2: r = rokemaipu_release(t, post); break;
+        default: r = rokemaipu_set_up(t, post, channel, below(70000), below(40000), below(40000), below(70000), some_sensor(), some_interface()); break;
         }
         if (what < 2) {
             counted(&before, channel, r);
@@ -503,6 +510,8 @@ static void anything(void) {
             full += rokemaipu_refusal(r) == 25;
         }
         if (rokemaipu_refusal(r) && !same_table(t, &before)) IS(r, 0);
+        if (what > 1 && !rokemaipu_refusal(r)) indexed(&before, post, what > 2 ? &channel : NULL);
+        IS(memcmp(t->index, before.index, sizeof t->index), 0);
         if (!rokemaipu_refusal(r) && r > 2047) IS(r, 2047);
         for (int i = 0, changed = 0; i < ROKEMAIPU_POSTS; i++) {
             changed += !same_post(&t->posts[i], &before.posts[i]);
@@ -511,7 +520,7 @@ static void anything(void) {
         if (bad) return;
     }
     IS(full > 0, true);
-    puts("any table and any step: answered and counted; one post changed at most, none by a refusal, 25 among them");
+    puts("any table and any step: answered and counted; one post changed at most and what the index says of it, none by a refusal, 25 among them");
 }
 
 /* any frame, read and watched as plain C does it */
