@@ -57,6 +57,21 @@ static void worked(void) {
     puts("02's replay: its lines, the piece, the end, a malformed record; 8 first; a late set-up");
 }
 
+/* the last count, a post of two digits and a start bit of two: no line is longer than ROKEMAIPU_LINE_BYTES */
+static void longest(void) {
+    const uint8_t log[] = {0x00, 0x1f, 0x81, 0xc0, 0x31, 0x08, 0xa0, 0x0f, 0x83, 0xff, 0x41, 0x00, 0x02, 0x64, 0x00, 0x1f, 0x00, 0x09};
+    rokemaipu_replay r;
+    uint64_t at = 0;
+    memset(&r, 0, sizeof r);
+    IS(set_up(&r, 15, 31), 0);
+    IS(set_up(&r, 10, 30), 0);
+    r.count = UINT64_MAX - 2;
+    TOLD("18446744073709551614 15 R5 48\n");
+    IS(at, 14);
+    TOLD("18446744073709551615 15 A0\n");
+    puts("the longest lines: of a post with two digits, with the last counts");
+}
+
 static void refused(void) {
     rokemaipu_replay r, zero;
     memset(&r, 0, sizeof r), memset(&zero, 0, sizeof zero);
@@ -152,6 +167,7 @@ static void any_log(void) {
 
 int main(void) {
     worked();
+    longest();
     refused();
     any_log();
     puts(bad ? "BAD" : "ok");
