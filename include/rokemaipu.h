@@ -320,7 +320,8 @@ uint32_t rokemaipu_frame(rokemaipu_table *t, uint32_t channel, uint32_t time, ui
 /* Lets time pass on a channel. Answers the findings, or refuses with 1, 2, then with 25. */
 uint32_t rokemaipu_tick(rokemaipu_table *t, uint32_t channel, uint32_t time);
 
-/* Answers the post that holds a channel, which is the one that frames and ticks on it go to. Refuses with 1. */
+/* Answers the post that holds a channel, which is the one that frames and ticks on it go to: the one that the table's index names, asked whether it does.
+ * Refuses with 1. */
 uint32_t rokemaipu_holder(const rokemaipu_table *t, uint32_t channel);
 
 /* Looks a post up: puts its numbers into the first ROKEMAIPU_NUMBERS places of numbers, and leaves those behind them. Answers 0.
