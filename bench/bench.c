@@ -141,9 +141,9 @@ static const frame older_mix[MIX] = {
     {0x68006, 1, {1}},                                              {0x68007, 1, {0}},
 };
 
-typedef struct { _Alignas(PAGE) uint8_t room[SIDES][3 * PAGE]; size_t at; const frame *mix; uint32_t posts, turn[SIDES]; } depot;
+typedef struct { _Alignas(PAGE) uint8_t room[SIDES][4 * PAGE]; size_t at; const frame *mix; uint32_t posts, turn[SIDES]; } depot;
 
-_Static_assert((PLACES - 1) * STEP + sizeof(rokemaipu_table) <= 3 * PAGE, "the tables have room");
+_Static_assert((PLACES - 1) * STEP + sizeof(rokemaipu_table) <= 4 * PAGE, "the tables have room");
 
 static rokemaipu_table *table_of(depot *d, const side *s) { return (rokemaipu_table *)(d->room[s - sides] + d->at); }
 
@@ -232,7 +232,7 @@ static void bench_log(void) {
     speed(line("log, a record read", read_log, &logs[0], LOG_TURNS, RECORDS), bytes);
 }
 
-/* ---- a batch: as many records as 4,096 bytes hold, of the mix and a tick, going round 8 posts, beside plain C that does the same over one buffer, and
+/* ---- a batch: as many records as 4,096 bytes hold, of the mix and a tick, going round the posts, beside plain C that does the same over one buffer, and
  * beside single calls: each record is read from the same bytes and fed. All start from the same table, and leave the same. */
 
 typedef uint32_t batch(rokemaipu_table *t, const uint8_t *records, size_t length, uint32_t *answers, size_t places);
@@ -340,12 +340,16 @@ int main(void) {
     bench_changes();
     bench_watch("frame in place, 1 post", frames, ROKEMAIPU_NEWER, 1, TURNS, MIX);
     bench_watch("frame in place, 8 posts", frames, ROKEMAIPU_NEWER, 8, TURNS, MIX);
-#ifndef BEFORE /* a revision before Req 11 has no posts of the older interface */
+#ifndef BEFORE /* a revision before Req 13 has 8 posts, one before Req 11 none of the older interface */
+    bench_watch("frame in place, 16 posts", frames, ROKEMAIPU_NEWER, 16, TURNS, MIX);
     bench_watch("older frame, 1 post", frames, ROKEMAIPU_OLDER, 1, TURNS, MIX);
-    bench_watch("older frame, 8 posts", frames, ROKEMAIPU_OLDER, 8, TURNS, MIX);
+    bench_watch("older frame, 16 posts", frames, ROKEMAIPU_OLDER, 16, TURNS, MIX);
 #endif
     bench_watch("tick in place, 1 post", tick, ROKEMAIPU_NEWER, 1, 4 * TURNS, 1);
     bench_watch("tick in place, 8 posts", tick, ROKEMAIPU_NEWER, 8, 4 * TURNS, 1);
+#ifndef BEFORE
+    bench_watch("tick in place, 16 posts", tick, ROKEMAIPU_NEWER, 16, 4 * TURNS, 1);
+#endif
     bench_log();
     bench_batch();
     bench_comparisons();

@@ -30,13 +30,13 @@ int main(void) {
     static rokemaipu_table t;
     static const uint8_t status[8] = {0xa0, 0x0f, 0x83, 0x00, 0x41, 0x40, 0x01, 0x64}, session[2] = {2, 1};
     rokemaipu_start(&t);
-    for (uint32_t post = 0; post < 8; post++) rokemaipu_set_up(&t, post, post, 5000, 1000, 500, 500, 0, 0);
+    for (uint32_t post = 0; post < ROKEMAIPU_POSTS; post++) rokemaipu_set_up(&t, post, post, 5000, 1000, 500, 500, 0, 0);
     copied = 0;
     size_t first = counted(rokemaipu_frame(&t, 0, 10, 0x6b001, true, session, 2));
-    size_t last = counted(rokemaipu_frame(&t, 7, 10, 0x63000, true, status, 8));
-    size_t tick = counted(rokemaipu_tick(&t, 7, 20));
-    size_t setting = counted(rokemaipu_set_up(&t, 7, 7, 5000, 1000, 500, 500, 0, 0));
+    size_t last = counted(rokemaipu_frame(&t, 15, 10, 0x63000, true, status, 8));
+    size_t tick = counted(rokemaipu_tick(&t, 15, 20));
+    size_t setting = counted(rokemaipu_set_up(&t, 15, 15, 5000, 1000, 500, 500, 0, 0));
     if (first == (size_t)-1 || last == (size_t)-1 || tick == (size_t)-1 || setting == (size_t)-1) return printf("bench: a step was refused\n"), 1;
-    printf("bytes copied by memcpy: frame on the first of 8 posts %zu, on the last %zu; tick %zu; set-up %zu\n", first, last, tick, setting);
+    printf("bytes copied by memcpy: frame on the first of 16 posts %zu, on the last %zu; tick %zu; set-up %zu\n", first, last, tick, setting);
     printf("a table has %zu bytes, a post %zu\n", sizeof(rokemaipu_table), sizeof(rokemaipu_post));
 }

@@ -1,4 +1,4 @@
-/* A frame and a tick in place with 16 posts of 42 places beside the library's 8 posts of 21 places, in one run: what they take is not to grow with the table.
+/* A frame and a tick in place with 32 posts of 42 places beside the library's 16 posts of 21 places, in one run: what they take is not to grow with the table.
  * The larger entries are built from the same sources with two numbers changed (bench/larger), for this alone. */
 #define _POSIX_C_SOURCE 199309L
 #include "bench.h"
@@ -8,13 +8,15 @@
 #include <string.h>
 
 typedef struct { rokemaipu_head head; rokemaipu_slot latest[42]; } larger_post;
-typedef struct { larger_post posts[16]; uint64_t refused; } larger_table;
+typedef struct { larger_post posts[32]; uint32_t index[ROKEMAIPU_CHANNELS]; uint64_t refused; } larger_table;
 uint32_t larger_rokemaipu_frame(larger_table *t, uint32_t channel, uint32_t time, uint32_t id, bool extended, const uint8_t *payload, size_t length);
 uint32_t larger_rokemaipu_tick(larger_table *t, uint32_t channel, uint32_t time);
 
 enum { PAGE = 4096, PLACES = 16, STEP = PAGE / PLACES + 8, TURNS = 1000, AGAIN = 90 };
-static _Alignas(PAGE) uint8_t room[3 * PAGE], large_room[6 * PAGE];
+static _Alignas(PAGE) uint8_t room[4 * PAGE], large_room[11 * PAGE];
 static uint64_t sum;
+
+_Static_assert((PLACES - 1) * STEP + sizeof(rokemaipu_table) <= sizeof room && (PLACES - 1) * STEP + sizeof(larger_table) <= sizeof large_room, "the tables have room");
 
 static uint64_t frames(rokemaipu_table *t, larger_table *l, bool large, uint32_t channel, uint32_t time) {
     uint64_t seen = 0;
@@ -40,7 +42,7 @@ static void line(bool tick, uint32_t posts) {
         memset(l, 0, sizeof *l);
         for (uint32_t i = 0; i < posts; i++) {
             if (rokemaipu_set_up(t, i, i, 5000, 1000, 500, 500, 0, 0)) differ("set-up");
-            l->posts[i].head = t->posts[i].head;
+            l->posts[i].head = t->posts[i].head, l->index[i] = t->index[i];
         }
         for (uint32_t turn = 0; turn < 1000; turn++)
             if (frames(t, l, false, turn % posts, turn) != frames(t, l, true, turn % posts, turn)) differ("frame");
@@ -53,13 +55,13 @@ static void line(bool tick, uint32_t posts) {
             }
         for (int large = 0; large < 2; large++) mean[large] += best[large] / PLACES;
     }
-    printf("%s, %u post%s set up %7.1f ns of 16 with 42 places  %7.1f ns of 8 with 21, %5.2f times\n", tick ? "tick" : "frame", posts, posts > 1 ? "s" : "", mean[1], mean[0], mean[1] / mean[0]);
+    printf("%s, %u post%s set up %7.1f ns of 32 with 42 places  %7.1f ns of 16 with 21, %5.2f times\n", tick ? "tick" : "frame", posts, posts > 1 ? "s" : "", mean[1], mean[0], mean[1] / mean[0]);
 }
 
 int main(void) {
     line(false, 1);
-    line(false, 8);
+    line(false, 16);
     line(true, 1);
-    line(true, 8);
+    line(true, 16);
     return sum == 42;
 }

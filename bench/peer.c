@@ -302,6 +302,8 @@ uint32_t own_start(rokemaipu_table *memory) {
 
 /* Without set-up's refusals: nothing is timed here. */
 uint32_t own_set_up(rokemaipu_table *memory, uint32_t post, uint32_t channel, uint32_t voltage, uint32_t charge, uint32_t discharge, uint32_t silence, uint32_t sensor, uint32_t interface) {
-    ((peer_table *)memory)->posts[post] = (peer_post){.used = true, .channel = channel, .limits = {voltage, charge, discharge, silence, sensor, interface}};
+    peer_table *t = (peer_table *)memory;
+    t->posts[post] = (peer_post){.used = true, .channel = channel, .limits = {voltage, charge, discharge, silence, sensor, interface}};
+    t->index[channel] = (uint8_t)(post + 1);
     return 0;
 }

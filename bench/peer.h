@@ -15,7 +15,7 @@ typedef struct { bool known; uint8_t kind; uint32_t time; uint64_t raw; } peer_s
 typedef struct { bool opened; uint32_t since; uint64_t first; peer_slot status, control; } peer_session;
 typedef struct { bool used; uint32_t channel; rokemaipu_limits limits; bool heard; uint32_t time; peer_slot latest[ROKEMAIPU_PLACES]; peer_session session;
     uint32_t counts[ROKEMAIPU_COUNTS]; } peer_post;
-typedef struct { peer_post posts[ROKEMAIPU_POSTS]; uint32_t refused; } peer_table;
+typedef struct { peer_post posts[ROKEMAIPU_POSTS]; uint8_t index[ROKEMAIPU_CHANNELS]; uint32_t refused; } peer_table;
 uint32_t own_start(rokemaipu_table *memory);
 uint32_t own_set_up(rokemaipu_table *memory, uint32_t post, uint32_t channel, uint32_t voltage, uint32_t charge, uint32_t discharge, uint32_t silence, uint32_t sensor, uint32_t interface);
 uint32_t own_frame(rokemaipu_table *memory, uint32_t channel, uint32_t time, uint32_t id, bool extended, const uint8_t *p, size_t n);

@@ -55,11 +55,8 @@ static void put_line(uint32_t post, uint32_t answer) {
 
 /* ---- records */
 
-static uint32_t place(uint32_t channel) {
-    uint32_t i = 0;
-    while (i < ROKEMAIPU_POSTS && !(table.posts[i].head.used && table.posts[i].head.channel == channel)) i++;
-    return i;
-}
+/* a dash is told where it is none */
+static uint32_t place(uint32_t channel) { return table.index[channel] - 1; }
 
 static void count(uint32_t answer) {
     records++;
@@ -106,11 +103,13 @@ static void set_ups(const char *name) {
         uint32_t post, channel;
         rokemaipu_limits l = {0};
         if (text[0] == '#' || text[0] == '\n') continue;
-        if (sscanf(text, "setup %u %u %u %u %u %u %u %u", &post, &channel, &l.voltage, &l.charge, &l.discharge, &l.silence, &l.sensor, &l.interface) < 6 || post >= ROKEMAIPU_POSTS) {
+        if (sscanf(text, "setup %u %u %u %u %u %u %u %u", &post, &channel, &l.voltage, &l.charge, &l.discharge, &l.silence, &l.sensor, &l.interface) < 6 || post >= ROKEMAIPU_POSTS
+            || channel >= ROKEMAIPU_CHANNELS) {
             fprintf(stderr, "%s: no set-up: %s", name, text);
             exit(1);
         }
         table.posts[post] = (rokemaipu_post){.head = {.used = 1, .channel = channel, .limits = l}};
+        table.index[channel] = post + 1;
     }
     fclose(file);
 }

@@ -1,10 +1,8 @@
 /* The session watch in plain C, over a table whose parts the macros name: peer.c takes it in once for each table. */
 
 static POST *NAMED(holder)(TABLE *t, uint32_t channel) {
-    if (channel > 31) return NULL;
-    for (int i = 0; i < ROKEMAIPU_POSTS; i++)
-        if (SET(HEAD(&t->posts[i]).used) && HEAD(&t->posts[i]).channel == channel) return &t->posts[i];
-    return NULL;
+    if (channel > 31 || !t->index[channel]) return NULL;
+    return &t->posts[t->index[channel] - 1]; /* believed, as one's own index is: it is kept true */
 }
 
 static uint32_t NAMED(always)(const POST *p, uint64_t time) {

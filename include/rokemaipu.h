@@ -1,4 +1,4 @@
-/* Rokemaipu: the CAN messages of charge and safety controllers, the session watch over up to 8 posts, and the night log.
+/* Rokemaipu: the CAN messages of charge and safety controllers, the session watch over up to 16 posts, and the night log.
  *
  *     static rokemaipu_table t;                                              a table is zeroed memory: zero it first
  *     if (rokemaipu_layout() != ROKEMAIPU_LAYOUT) return 1;                  this header and the library that was linked are not of one version
@@ -35,9 +35,9 @@
 extern "C" {
 #endif
 
-#define ROKEMAIPU_VERSION 200 /* 2.00: whatever compiles with one 2.xx compiles with each later one */
+#define ROKEMAIPU_VERSION 300 /* 3.00: whatever compiles with one 3.xx compiles with each later one */
 
-#define ROKEMAIPU_POSTS 8
+#define ROKEMAIPU_POSTS 16
 #define ROKEMAIPU_KINDS 30 /* of messages, of both interfaces */
 #define ROKEMAIPU_PLACES 21 /* a post's latest frames */
 #define ROKEMAIPU_SIGNALS 16 /* places of raw numbers; no message has more signals */
@@ -72,7 +72,7 @@ enum rokemaipu_refused {
     ROKEMAIPU_R6_UNCOVERED_BIT = 6,      /* a bit that no signal covers is 1 */
     ROKEMAIPU_R7_NO_RAW_NUMBER = 7,      /* a raw number does not fit its signal */
     ROKEMAIPU_R8_SHORT_BUFFER = 8,       /* lent buffer too short */
-    ROKEMAIPU_R9_NO_SUCH_POST = 9,       /* post number above 7 */
+    ROKEMAIPU_R9_NO_SUCH_POST = 9,       /* post number above 15 */
     ROKEMAIPU_R10_NO_SUCH_CHANNEL = 10,  /* channel above 31 at set-up */
     ROKEMAIPU_R11_CHANNEL_TAKEN = 11,    /* channel held by another post */
     ROKEMAIPU_R12_LIMIT_OUTSIDE = 12,    /* a post limit outside its range */
@@ -287,14 +287,15 @@ typedef struct rokemaipu_post { /* 720 bytes */
     rokemaipu_slot latest[ROKEMAIPU_PLACES]; /* kind k, 0 to 11, at place k; 12 to 20 at k - 12; 21 to 29 at k - 9 */
 } rokemaipu_post;
 
-typedef struct rokemaipu_table { /* 5,768 bytes; zeroed memory is the empty table */
+typedef struct rokemaipu_table { /* 11,656 bytes; zeroed memory is the empty table */
     rokemaipu_post posts[ROKEMAIPU_POSTS];
+    uint32_t index[ROKEMAIPU_CHANNELS]; /* by channel: 0 where no post holds it, else one more than the number of the post that does */
     uint64_t refused; /* frames and ticks refused since the table was made; it stays at 4,294,967,295 */
 } rokemaipu_table;
 
 /* The table's layout as one word: its bytes in the low 32 bits, then its posts and a post's places with 8 bits each, then the number of the
  * layout, which is another one wherever a place in the table means something else. */
-#define ROKEMAIPU_LAYOUT ((uint64_t)sizeof(rokemaipu_table) + ((uint64_t)ROKEMAIPU_POSTS << 32) + ((uint64_t)ROKEMAIPU_PLACES << 40) + ((uint64_t)4 << 48))
+#define ROKEMAIPU_LAYOUT ((uint64_t)sizeof(rokemaipu_table) + ((uint64_t)ROKEMAIPU_POSTS << 32) + ((uint64_t)ROKEMAIPU_PLACES << 40) + ((uint64_t)5 << 48))
 
 /* Answers the layout that the library has. Compare it with ROKEMAIPU_LAYOUT before the first call: with another one, no table of this
  * header may be lent. */
@@ -319,7 +320,8 @@ uint32_t rokemaipu_frame(rokemaipu_table *t, uint32_t channel, uint32_t time, ui
 /* Lets time pass on a channel. Answers the findings, or refuses with 1, 2, then with 25. */
 uint32_t rokemaipu_tick(rokemaipu_table *t, uint32_t channel, uint32_t time);
 
-/* Answers the post that holds a channel, which is the one that frames and ticks on it go to. Refuses with 1. */
+/* Answers the post that holds a channel, which is the one that frames and ticks on it go to: the one that the table's index names, asked whether it does.
+ * Refuses with 1. */
 uint32_t rokemaipu_holder(const rokemaipu_table *t, uint32_t channel);
 
 /* Looks a post up: puts its numbers into the first ROKEMAIPU_NUMBERS places of numbers, and leaves those behind them. Answers 0.
@@ -471,7 +473,7 @@ uint32_t rokemaipu_compare(const uint8_t *a, size_t size_a, const uint8_t *b, si
  * A line is the record's count from 1, the post that holds its channel (a dash for refusal 1), then A with the decimal finding number or R with the
  * refusal, one space between; refusal 5 adds a space and the start bit; and a line feed: "1 0 A0", "2 - R1", "3 0 R5 48". */
 
-typedef struct rokemaipu_replay { /* 5,784 bytes; zeroed memory is a replay that was just started */
+typedef struct rokemaipu_replay { /* 11,672 bytes; zeroed memory is a replay that was just started */
     rokemaipu_table table; /* look posts up in it as you like */
     uint64_t count;        /* of the records fed so far */
     uint64_t course;       /* 0: set-ups may come; 1: records were fed; else a set-up was refused, with this word */
@@ -533,13 +535,15 @@ ROKEMAIPU_IS(ROKEMAIPU_COUNTS, 12); /* a head of 11 has the same bytes */
 ROKEMAIPU_IS(sizeof(rokemaipu_post), 720);
 ROKEMAIPU_IS(offsetof(rokemaipu_post, head), 0);
 ROKEMAIPU_IS(offsetof(rokemaipu_post, latest), 216);
-ROKEMAIPU_IS(sizeof(rokemaipu_table), 5768);
+ROKEMAIPU_IS(sizeof(rokemaipu_table), 11656);
 ROKEMAIPU_IS(offsetof(rokemaipu_table, posts), 0);
-ROKEMAIPU_IS(offsetof(rokemaipu_table, refused), 5760);
-ROKEMAIPU_IS(sizeof(rokemaipu_replay), 5784);
+ROKEMAIPU_IS(offsetof(rokemaipu_table, index), 11520);
+ROKEMAIPU_IS(offsetof(rokemaipu_table, refused), 11648);
+ROKEMAIPU_IS(ROKEMAIPU_CHANNELS, 32); /* an index of 31 has the same bytes */
+ROKEMAIPU_IS(sizeof(rokemaipu_replay), 11672);
 ROKEMAIPU_IS(offsetof(rokemaipu_replay, table), 0);
-ROKEMAIPU_IS(offsetof(rokemaipu_replay, count), 5768);
-ROKEMAIPU_IS(offsetof(rokemaipu_replay, course), 5776);
+ROKEMAIPU_IS(offsetof(rokemaipu_replay, count), 11656);
+ROKEMAIPU_IS(offsetof(rokemaipu_replay, course), 11664);
 
 #ifdef __cplusplus
 }

@@ -121,6 +121,23 @@ def check_counts(name, text, answers):
     return faults
 
 
+def check_index(name, text, answers):
+    """02: an index "from channel to post [...] kept true by set-up, second set-up and release, and found equal to a search
+    over the posts": what it says is what the accepted set-ups and releases before it come to."""
+    faults, held = [], {}
+    for step, answer in zip(filter(is_step, text.splitlines()), answers.splitlines()):
+        word, *fields = step.split()
+        if word in ("setup", "release") and answer == "A":
+            held.pop(fields[0], None)
+        if word == "setup" and answer == "A":
+            held[fields[0]] = fields[1]
+        if word == "index":
+            said = {(str(channel), post) for channel, post in enumerate(answer.split()[1:]) if post != "-"}
+            if said != {(channel, post) for post, channel in held.items()} or len(answer.split()) != 33:
+                faults.append(f"{name}: {step}: {answer}, but {held}")
+    return faults
+
+
 def check_ages(name, text, answers):
     """02: "the record keeps times as received and ages beside them": what a record says is what the accepted steps before
     it come to; and no other age would do."""
@@ -156,7 +173,7 @@ def check_channels_apart(second, name, text, answers):
     faults = []
     for channel in sorted({channel_of(step) for step, _ in pairs} - {None}):
         alone = [(step, answer) for step, answer in pairs
-                 if channel_of(step) == channel or step.startswith("setup ")]
+                 if channel_of(step) == channel or step.split()[0] in ("setup", "release")]
         without = answers_of(second, "".join(step + "\n" for step, _ in alone))
         if without.splitlines() != [answer for _, answer in alone]:
             faults.append(f"{name}: channel {channel} answers otherwise with the other channels silent")
@@ -167,6 +184,7 @@ def all_of(second, name, text, answers):
     return (check_announcements(name, text, answers)
             + check_the_check(name, text, answers)
             + check_counts(name, text, answers)
+            + check_index(name, text, answers)
             + check_ages(name, text, answers)
             + check_refused_leave_no_trace(second, name, text, answers)
             + check_channels_apart(second, name, text, answers))

@@ -6,6 +6,7 @@ from pages import *
 from safety import safety
 from says import told
 from sensor import sensor
+from sixteen import moved, sixteen
 from traffic import Night, Post
 
 
@@ -350,9 +351,9 @@ def damaged():
             beside.frame(45, STATUS, "0101", told("R15", "Post 3: an idle controller's status with a byte too many."))
         beside.cycle(WAITING, tick=n % 5 == 0)
     beside.record()
-    night.at(post.time + 10, "record 8", told("R9", "A post number misread from the sheet."))
-    night.at(post.time + 11, "refused", "# the night's damaged frames and ticks; the look-up of a post 8 does not count")
+    night.at(post.time + 10, "record 16", told("R9", "A post number misread from the sheet."))
+    night.at(post.time + 11, "refused", "# the night's damaged frames and ticks; the look-up of a post 16 does not count")
     return night
 
 
-NIGHTS = (clean, march, faults, sensor, damaged, safety, coming_round, older)
+NIGHTS = (clean, march, faults, sensor, damaged, safety, coming_round, older, sixteen, moved)

@@ -19,13 +19,13 @@ SAYS = {
     "R3": "identifier not in the table",
     "R5": "a label signal holds a number without a label",
     "R6": "a bit that no signal covers is 1",
-    "R9": "post number above 7",
     "R11": "channel held by another post",
     "R12": "a post limit outside its range",
     "R14": "post not set up",
 }
 
 SAYS_02 = {
+    "R9": "Refusal 9 now begins at 16",
     "R4": "4 when too short",
     "R15": "15 when too long",
     "F9 yes/no": "For a yes/no sensor F9's insulation test is raw 0 and nothing else",

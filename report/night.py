@@ -5,8 +5,8 @@ from .faults import Fault
 from .groups import Block, Lane
 from .nightlog import Raw
 
-# sessions of a post, and refusals of one number that differ, which are told one by one
-MOST_SESSIONS, MOST_KINDS = 300, 200
+# sessions of a post and of a page, and refusals of one number that differ, which are told one by one
+MOST_SESSIONS, PAGE_SESSIONS, MOST_KINDS = 300, 2400, 200
 
 
 class Session:
@@ -30,8 +30,8 @@ class Session:
 class Post:
     """`bounds` are the lowest and the highest of volts, amperes and kOhm; of `sessions` the first are kept, and all are counted."""
 
-    def __init__(self, set_up):
-        self.set_up, self.number = set_up, set_up.post
+    def __init__(self, set_up, most_sessions):
+        self.set_up, self.number, self.most_sessions = set_up, set_up.post, most_sessions
         self.sessions, self.all_sessions, self.session, self.latest = [], 0, None, None
         self.findings, self.readings, self.bounds = {}, Readings(), None
         self.accepted = self.refused = 0
@@ -64,7 +64,7 @@ class Post:
         if isinstance(message, messages.NewSession) and not self.session:
             self.session = self.latest = Session(time, message)
             self.all_sessions += 1
-            if len(self.sessions) < MOST_SESSIONS:
+            if len(self.sessions) < self.most_sessions:
                 self.sessions.append(self.session)
         elif isinstance(message, messages.Finished) and self.session:
             self.session.closed, self.session.state = time, message.state
@@ -94,7 +94,9 @@ class Night:
 
     def __init__(self, name, set_ups, refused=None):
         self.name, self.refused, self.ending, self.records = name, refused, None, 0
-        self.posts = [Post(set_up) for set_up in set_ups]
+        # each post has the same share of a page, so that none has its sessions cut short by another's
+        share = min(MOST_SESSIONS, PAGE_SESSIONS // max(1, len(set_ups)))
+        self.posts = [Post(set_up, share) for set_up in set_ups]
         self.by_channel = {post.set_up.channel: post for post in self.posts}
         # by the number of the refusal: its marks, and those alike, of one channel, identifier and start bit; `others` are further ones, counted
         self.refusals, self.kinds, self.others = {}, {}, {}

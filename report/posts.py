@@ -50,7 +50,7 @@ def in_order(posts):
 
 def judged(posts, post, channel, volt, charge, discharge, silence, sensor, interface):
     """01's and 02's refusal of a set-up, the lowest that applies; 0 where there is none."""
-    if post > 7:
+    if post > 15:
         return 9
     if channel > 31:
         return 10

@@ -64,7 +64,7 @@ REFUSALS = {
 
 # of a set-up, which ends the replay
 SET_UPS = {
-    9: 'post number above 7',
+    9: 'post number above 15',
     10: 'channel above 31 at set-up',
     11: 'channel held by another post',
     12: 'a post limit outside its range',

@@ -211,6 +211,8 @@ mod tests {
                         Some(("log", _)) => lines == 1 && bytes <= 40,
                         Some(("label", _)) => lines <= 2 && bytes <= 64,
                         Some(("sensor" | "safety" | "older", _)) => lines <= 5,
+                        // A set-up, what moves or drops it, and what shows that.
+                        Some(("index", _)) => lines <= 3,
                         // Two steps of less than 2^31 ms are less than a round.
                         Some(("clock", _)) => lines <= 6,
                         Some(("replay", _)) => lines <= 3 && bytes <= 100,

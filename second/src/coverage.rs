@@ -5,6 +5,7 @@ use std::fmt;
 
 use crate::batch_coverage;
 use crate::clock_coverage;
+use crate::index_coverage;
 use crate::older_coverage;
 use crate::posts::Table;
 use crate::recordings_coverage;
@@ -13,9 +14,9 @@ use crate::safety_coverage;
 use crate::sensor_coverage;
 use crate::tally_coverage::{self, Since};
 
-const WORDS: [&[u8]; 20] = [
-    b"setup", b"release", b"frame", b"tick", b"record", b"refused", b"read", b"change", b"write", b"read1", b"change1",
-    b"write1", b"explain", b"logr", b"logw", b"replay", b"batch", b"compare", b"probe", b"duty",
+const WORDS: [&[u8]; 21] = [
+    b"setup", b"release", b"frame", b"tick", b"record", b"refused", b"index", b"read", b"change", b"write", b"read1",
+    b"change1", b"write1", b"explain", b"logr", b"logw", b"replay", b"batch", b"compare", b"probe", b"duty",
 ];
 
 const REFUSALS: std::ops::RangeInclusive<u32> = 1..=15;
@@ -42,6 +43,8 @@ pub struct Coverage {
     older: BTreeMap<String, u64>,
     counts: BTreeMap<String, u64>,
     since: Since,
+    indexes: BTreeMap<String, u64>,
+    since_index: index_coverage::Since,
     replays: BTreeMap<String, u64>,
     batches: BTreeMap<String, u64>,
     clocks: BTreeMap<String, u64>,
@@ -57,6 +60,7 @@ impl Coverage {
     /// A script begins, on a table of its own.
     pub fn begin(&mut self) {
         self.since = Since::default();
+        self.since_index = index_coverage::Since::default();
     }
 
     /// `table` is as it was before the step.
@@ -76,6 +80,9 @@ impl Coverage {
         }
         for shown in self.since.shown(table, step, answer) {
             *self.counts.entry(shown).or_default() += 1;
+        }
+        for shown in self.since_index.shown(table, step, answer) {
+            *self.indexes.entry(shown).or_default() += 1;
         }
         for shown in replay_coverage::shown(step, answer) {
             *self.replays.entry(shown).or_default() += 1;
@@ -131,6 +138,7 @@ impl Coverage {
         missing.extend(safety_coverage::wanted().into_iter().filter(|shown| !self.safety.contains_key(shown)));
         missing.extend(older_coverage::wanted().filter(|shown| !self.older.contains_key(shown)));
         missing.extend(tally_coverage::wanted().filter(|shown| !self.counts.contains_key(shown)));
+        missing.extend(index_coverage::wanted().filter(|shown| !self.indexes.contains_key(shown)));
         missing.extend(replay_coverage::wanted().filter(|shown| !self.replays.contains_key(shown)));
         missing.extend(batch_coverage::wanted().filter(|shown| !self.batches.contains_key(shown)));
         missing.extend(clock_coverage::wanted().filter(|shown| !self.clocks.contains_key(shown)));
@@ -180,6 +188,10 @@ impl fmt::Display for Coverage {
             write!(out, " {shown} {},", self.counts.get(&shown).unwrap_or(&0))?;
         }
         write!(out, " {}", tally_coverage::beyond())?;
+        write!(out, "\nindexes: ")?;
+        for shown in index_coverage::wanted() {
+            write!(out, " {shown} {},", self.indexes.get(&shown).unwrap_or(&0))?;
+        }
         write!(out, "\nreplays: ")?;
         for shown in replay_coverage::wanted() {
             write!(out, " {} {},", shown.trim_start_matches("replay "), self.replays.get(&shown).unwrap_or(&0))?;

@@ -6,6 +6,7 @@ use crate::batch::{self, Batcher};
 use crate::codec::{self, range, Changer, Heading, Reader, Refusal};
 use crate::explain;
 use crate::fields::{bytes, extended, hex, identifier, natural, number, values};
+use crate::index::{self, Indexer};
 use crate::log;
 use crate::log_line;
 use crate::pages::{NEWER, OLDER};
@@ -36,6 +37,7 @@ pub struct Desk {
     pub changer: Changer,
     pub counter: Counter,
     pub refused_counter: RefusedCounter,
+    pub indexer: Indexer,
     pub log_writer: log::Writer,
     pub log_reader: log::Reader,
     pub replayer: Replayer,
@@ -55,6 +57,7 @@ impl Desk {
             changer: codec::change,
             counter: tallies::counts,
             refused_counter: tallies::refused,
+            indexer: index::index,
             log_writer: log::write,
             log_reader: log::read,
             replayer: replay::replay,
@@ -111,6 +114,7 @@ fn step(desk: &mut Desk, line: &[u8]) -> Option<String> {
         b"probe" | b"duty" => service_step(desk, &fields),
         b"record" => record(desk, &fields[1..]),
         b"refused" => refused(desk, &fields[1..]),
+        b"index" => index(desk, &fields[1..]),
         _ => table_step(&mut desk.table, &fields),
     }
 }
@@ -157,6 +161,10 @@ fn record(desk: &Desk, fields: &[&[u8]]) -> Option<String> {
 
 fn refused(desk: &Desk, fields: &[&[u8]]) -> Option<String> {
     fields.is_empty().then(|| format!("N {}", (desk.refused_counter)(&desk.table)))
+}
+
+fn index(desk: &Desk, fields: &[&[u8]]) -> Option<String> {
+    fields.is_empty().then(|| index::line(&(desk.indexer)(&desk.table)))
 }
 
 /// Raw numbers that their signals hold; others are too large for their place.

@@ -26,7 +26,7 @@ const REFUSALS: [&str; 29] = [
     "a bit that no signal covers is 1",
     "a value has no raw number, or a raw number does not fit its signal",
     "lent buffer shorter than the message",
-    "post number above 7",
+    "post number above 15",
     "channel above 31 at set-up",
     "channel held by another post",
     "a post limit outside its range",

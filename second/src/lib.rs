@@ -22,6 +22,11 @@ mod documents;
 mod explain;
 mod fields;
 mod history;
+mod index;
+mod index_coverage;
+#[cfg(test)]
+mod index_readings;
+mod index_slips;
 #[cfg(test)]
 mod label_readings;
 mod label_slips;

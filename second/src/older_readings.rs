@@ -42,7 +42,7 @@ fn a_set_up_names_the_interface() {
          setup 0 4 5000 1000 500 500 0 01 => ?
          setup 0 4 5000 1000 500 500 0 1 0 => ?
          record 0 => K ch=4 {post} sensor=0 iface=1 {EMPTY}
-         setup 8 32 5000 1000 500 500 0 2 => R9
+         setup 16 32 5000 1000 500 500 0 2 => R9
          setup 1 32 5000 1000 500 500 0 2 => R10
          setup 1 4 5000 1000 500 500 0 2 => R11
          setup 1 5 5000 1000 500 500 2 2 => R12

@@ -7,7 +7,7 @@ use crate::pages::{only_other_has, NEWER, OLDER};
 use crate::rules::{findings, Limits, Rule, MEASURING, RULES, YES_NO};
 use crate::tallies::{FULL, LARGEST};
 
-pub const POSTS: usize = 8;
+pub const POSTS: usize = 16;
 pub const CHANNELS: u32 = 32;
 
 pub struct Post {
@@ -50,6 +50,16 @@ pub enum Request {
     },
 }
 
+/// A set-up on a channel, or a release, and whether it was accepted.
+pub struct Seating {
+    pub post: u32,
+    pub channel: Option<u32>,
+    pub accepted: bool,
+}
+
+/// The place of the post that holds a channel.
+pub type Finder = fn(&Table, u32) -> Option<usize>;
+
 /// The unrolled time of an arrival for the post at that place, received at that time; none where it is earlier than the latest.
 pub type Clock = fn(&[Option<Post>], usize, u32) -> Option<u64>;
 
@@ -67,9 +77,11 @@ pub const OTHER_INTERFACE: Refusal = Refusal::Number(29);
 pub type Admission = fn(Option<&Post>, Limits) -> Option<Limits>;
 
 pub struct Table {
-    posts: [Option<Post>; POSTS],
+    posts: Vec<Option<Post>>,
     /// All that was asked of it since it was made.
     pub requests: Vec<Request>,
+    /// The set-ups and releases among them, with their channels.
+    pub seatings: Vec<Seating>,
     /// The largest count, of a post's accepted frames and ticks and of the refused ones.
     pub largest: u32,
     pub rules: [Rule; RULES.len()],
@@ -78,13 +90,20 @@ pub struct Table {
     pub hearing: Hearing,
     pub listener: Listener,
     pub admission: Admission,
+    pub finder: Finder,
 }
 
 impl Table {
     pub fn new() -> Table {
+        Table::of(POSTS)
+    }
+
+    /// A table of so many posts.
+    pub fn of(posts: usize) -> Table {
         Table {
-            posts: std::array::from_fn(|_| None),
+            posts: (0..posts).map(|_| None).collect(),
             requests: Vec::new(),
+            seatings: Vec::new(),
             largest: LARGEST,
             rules: RULES,
             clock: own_clock,
@@ -92,6 +111,7 @@ impl Table {
             hearing: by_own_pages,
             listener: timed_and_read,
             admission: in_range,
+            finder: searched,
         }
     }
 
@@ -99,11 +119,12 @@ impl Table {
     pub fn set_up(&mut self, post: u32, channel: u32, limits: Limits) -> Result<(), Refusal> {
         let outcome = self.begin(post, channel, limits);
         self.requests.push(Request::SetUp { post, outcome });
+        self.seatings.push(Seating { post, channel: Some(channel), accepted: outcome.is_ok() });
         outcome
     }
 
     fn begin(&mut self, post: u32, channel: u32, limits: Limits) -> Result<(), Refusal> {
-        let place = place(post)?;
+        let place = self.place(post)?;
         if channel >= CHANNELS {
             return Err(Refusal::Number(10));
         }
@@ -116,13 +137,14 @@ impl Table {
     }
 
     pub fn release(&mut self, post: u32) -> Result<(), Refusal> {
-        let outcome = place(post).and_then(|place| self.posts[place].take().map(drop).ok_or(Refusal::Number(14)));
+        let outcome = self.place(post).and_then(|place| self.posts[place].take().map(drop).ok_or(Refusal::Number(14)));
         self.requests.push(Request::Release { post, outcome });
+        self.seatings.push(Seating { post, channel: None, accepted: outcome.is_ok() });
         outcome
     }
 
     pub fn post(&self, post: u32) -> Result<&Post, Refusal> {
-        self.posts[place(post)?].as_ref().ok_or(Refusal::Number(14))
+        self.posts[self.place(post)?].as_ref().ok_or(Refusal::Number(14))
     }
 
     /// Gives 1 to 6, the lowest that applies, with 29 in 3's place and 15 in 4's, and after all of them 25; a refused arrival
@@ -157,19 +179,25 @@ impl Table {
         self.posts[self.holder(channel)?].as_ref()
     }
 
-    /// The place of the post that holds a channel; one above 31 has no holder, since no set-up takes it.
+    /// The place of the post that holds a channel.
     pub fn holder(&self, channel: u32) -> Option<usize> {
-        self.posts.iter().position(|post| post.as_ref().is_some_and(|post| post.channel == channel))
+        (self.finder)(self, channel)
+    }
+
+    /// 02: "Refusal 9 now begins at 16".
+    fn place(&self, post: u32) -> Result<usize, Refusal> {
+        let place = post as usize;
+        if place < self.posts.len() {
+            Ok(place)
+        } else {
+            Err(Refusal::Number(9))
+        }
     }
 }
 
-fn place(post: u32) -> Result<usize, Refusal> {
-    let place = post as usize;
-    if place < POSTS {
-        Ok(place)
-    } else {
-        Err(Refusal::Number(9))
-    }
+/// A search over the posts. A channel above 31 has no holder, since no set-up takes it.
+pub fn searched(table: &Table, channel: u32) -> Option<usize> {
+    table.posts.iter().position(|post| post.as_ref().is_some_and(|post| post.channel == channel))
 }
 
 /// 2 before all that is wrong with a frame.

@@ -184,13 +184,13 @@ fn w1_lowest_number_first() {
          frame 4 100 63003 x - => R3
          frame 4 100 6b000 x 0eff => R15
          frame 4 100 6b000 x 0e => R5:0
-         setup 8 32 0 0 0 0 => R9
+         setup 16 32 0 0 0 0 => R9
          setup 1 32 0 0 0 0 => R10
          setup 1 4 0 0 0 0 => R11
          setup 1 5 0 0 0 0 => R12
-         release 8 => R9
+         release 16 => R9
          release 1 => R14
-         record 8 => R9
+         record 16 => R9
          record 1 => R14",
     ));
 }
@@ -354,7 +354,7 @@ fn w12_numbers_out_of_range_can_be_said() {
          setup 0 0 1 1 0 99 => R12
          setup 0 0 1 1 0 60001 => R12
          setup 0 0 1 1 0 100 => A
-         setup 7 31 65535 32767 32767 60000 => A
+         setup 15 31 65535 32767 32767 60000 => A
          tick 31 4294967295 => A0
          tick 31 4294967296 => ?
          tick 4294967295 0 => R1
@@ -434,7 +434,7 @@ fn a_line_of_65535_bytes_is_read_and_one_more_is_not() {
 #[test]
 fn skipped_lines_and_a_last_line_without_line_feed() {
     let comment = format!("#{}", "x".repeat(100_000));
-    let script = format!("\n# a comment\n{comment}\ntick 4 0\n\nrecord 9");
+    let script = format!("\n# a comment\n{comment}\ntick 4 0\n\nrecord 16");
     let mut answers = Vec::new();
     desk::run(script.as_bytes(), &mut answers, &mut Desk::new()).unwrap();
     assert_eq!(answers, b"R1\nR9\n");

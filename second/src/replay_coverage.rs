@@ -126,7 +126,7 @@ mod tests {
             (format!("replay 0004000900 {zero}"), &["CUT", "with lines before CUT"]),
             (format!("replay 0020 {zero}"), &["BAD R17"]),
             (format!("replay 000400090020 {zero}"), &["BAD R17", "with lines before BAD"]),
-            (format!("replay 0020 {zero};8,5,5000,1000,500,500"), &["SETUP R9", "with SETUP before BAD"]),
+            (format!("replay 0020 {zero};16,5,5000,1000,500,500"), &["SETUP R9", "with SETUP before BAD"]),
             (format!("replay - {zero};1,4,5000,1000,500,500"), &["SETUP R11"]),
             (format!("replay - {zero},2"), &["SETUP R12", "of an unknown sensor"]),
             ("replay - 0,4,0,1000,500,500,2".to_string(), &["SETUP R12"]),

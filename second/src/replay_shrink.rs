@@ -98,13 +98,21 @@ pub fn pieces(bytes: &[u8]) -> Vec<Vec<u8>> {
     log.records.iter().map(log::bytes).chain(rest).collect()
 }
 
-/// Each record earlier, where there are few.
+/// All records at time 0, since times around a round hold each other where they are; then each record earlier, where there are
+/// few.
 pub fn earlier(bytes: &[u8]) -> Vec<Vec<u8>> {
     let records = log::read(bytes).records;
     let pieces = pieces(bytes);
     let mut simpler = Vec::new();
     if pieces.len() > FEW {
         return simpler;
+    }
+    if records.iter().any(|record| record.time != 0) {
+        let mut tried = pieces.clone();
+        for (piece, record) in tried.iter_mut().zip(&records) {
+            *piece = log::bytes(&Arrival { time: 0, ..record.clone() });
+        }
+        simpler.push(tried.concat());
     }
     for (place, record) in records.iter().enumerate() {
         for time in simpler_numbers(i64::from(record.time)) {
@@ -145,6 +153,6 @@ mod tests {
         assert_eq!(shortest(&line, "R5 0"), "replay 000081c035010e 0,0,1,1,0,100");
         assert_eq!(shortest(&line, "BAD"), "replay 8000 -");
         assert_eq!(shortest(&line, "- R1"), "replay 00000000 -");
-        assert_eq!(shortest(&format!("{line};8,1,1,1,1,1"), "SETUP"), "replay - 0,0,0,0,0,0");
+        assert_eq!(shortest(&format!("{line};16,1,1,1,1,1"), "SETUP"), "replay - 0,0,0,0,0,0");
     }
 }

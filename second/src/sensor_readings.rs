@@ -79,7 +79,7 @@ fn an_unknown_kind_gets_12_in_its_place() {
          setup 0 4 5000 1000 500 500 -1 => ?
          setup 0 4 5000 1000 500 500 1 1 1 => ?
          record 0 => K ch=4 {empty}
-         setup 8 32 5000 1000 500 500 2 => R9
+         setup 16 32 5000 1000 500 500 2 => R9
          setup 1 32 5000 1000 500 500 2 => R10
          setup 1 4 5000 1000 500 500 2 => R11
          setup 1 5 0 1000 500 500 2 => R12

@@ -9,6 +9,7 @@ use crate::clock_slips;
 use crate::codec::Message;
 use crate::desk::Desk;
 use crate::history::{latest, latest_message, latest_time, session, Event};
+use crate::index_slips;
 use crate::label_slips;
 use crate::log_slips;
 use crate::older_slips;
@@ -48,7 +49,7 @@ pub fn names() -> Vec<&'static str> {
     let early = log_slips::names().chain(label_slips::names()).chain(sensor_slips::names());
     let early = early.chain(tally_slips::names()).chain(clock_slips::names());
     let later = safety_slips::names().chain(replay_slips::names()).chain(batch_slips::names());
-    let later = later.chain(recordings_slips::names()).chain(older_slips::names());
+    let later = later.chain(recordings_slips::names()).chain(older_slips::names()).chain(index_slips::names());
     rules.chain([SHARED_CLOCK]).chain(early).chain(later).collect()
 }
 
@@ -71,6 +72,7 @@ pub fn desk(name: &str) -> Option<Desk> {
             batch_slips::put_into,
             recordings_slips::put_into,
             older_slips::put_into,
+            index_slips::put_into,
         ];
         put.iter().find_map(|put_into| put_into(&mut desk, name))?;
     }

@@ -183,7 +183,7 @@ mod tests {
             ("batch 00050009 1\nrefused", &["refused behind a refused record of a batch"]),
             ("batch 00040009 1\nrefused", &["refused N 0"]),
             ("replay 00050009 -\nrefused", &["refused behind a refused record of a replay", "refused N 0"]),
-            ("replay 00 -\nreplay - 9,0,1,1,0,100\nrefused", &["refused N 0"]),
+            ("replay 00 -\nreplay - 16,0,1,1,0,100\nrefused", &["refused N 0"]),
             ("refused 0", &["refused ?"]),
             ("tick 5 0\nrefused\nrefused", &[]),
             ("record 0", &["record with n=0"]),

@@ -1,6 +1,7 @@
 //! Req 08 from both sides of each edge, the decided reading of it (R6), and the ends of the counts at a smaller largest one.
 
 use crate::desk::{self, Desk};
+use crate::posts::POSTS;
 use crate::readings::holds;
 use crate::script::{joined, script, Extras};
 use crate::tallies::{self, LARGEST};
@@ -81,12 +82,12 @@ fn a_refused_one_raises_the_refused_count_alone() {
 #[test]
 fn other_refusals_do_not_count() {
     holds_on_a_post(
-        "setup 8 4 5000 1000 500 500 => R9
+        "setup 16 4 5000 1000 500 500 => R9
          setup 1 32 5000 1000 500 500 => R10
          setup 1 4 5000 1000 500 500 => R11
          setup 1 5 0 1000 500 500 => R12
          release 1 => R14
-         release 8 => R9
+         release 16 => R9
          record 1 => R14
          read 0 x - => R3
          change 6b000 x 01 1 0 => R13 01
@@ -216,7 +217,7 @@ fn the_largest_count_has_32_bits() {
 struct Answered {
     handed_in: u64,
     accepted: u64,
-    posts: [[u64; 12]; 8],
+    posts: [[u64; 12]; POSTS],
 }
 
 impl Answered {

@@ -144,7 +144,7 @@ fn ticks_hide_and_invent_nothing() {
 fn a_gap_1_ms_longer_changes_findings() {
     for interface in [NEWER, OLDER] {
         let mut rng = Rng::new(1);
-        let changed = histories(1, interface).into_iter().filter(|(limits, history)| {
+        let changed = (1..4).flat_map(|seed| histories(seed, interface)).filter(|(limits, history)| {
             let from = rng.below(history.len() as u64 + 1) as usize;
             let later =
                 |(place, event): (usize, &Event)| Event { time: event.time + u64::from(place >= from), ..*event };

@@ -106,6 +106,10 @@ fn too_few_steps_to_reach_everything_fail() {
         "unknown interface",
         "batch with R29",
         "refused behind R29",
+        "setup 16 R9",
+        "replay with post 15",
+        "index of sixteen posts",
+        "index behind a second set-up on another channel",
         "read1 R5",
         "compare of two empty logs",
         "compare with a surplus of repeats",
@@ -178,7 +182,7 @@ fn a_night_is_replayed() {
     let example = b"\xac\x02\x02\x00\x09\xac\x02\x03\x00\x09";
     let good = replay("# one post\n\nsetup 0 2 5000 2000 500 500", example);
     let cut = replay("setup 0 2 5000 2000 500 500 1\n", &example[..7]);
-    let refused = replay("setup 0 2 5000 2000 500 500\nsetup 8 3 5000 2000 500 500\n", example);
+    let refused = replay("setup 0 2 5000 2000 500 500\nsetup 16 3 5000 2000 500 500\n", example);
     let none = replay("# one post\n\ntick 2 300\n", example);
     std::fs::remove_dir_all(&folder).unwrap();
     assert_eq!((good.status.code(), text(&good.stdout)), (Some(0), "1 0 A0\n2 - R1\nEND\n".to_string()));

@@ -4,13 +4,14 @@
 
 /* ---- 01: "A frame or tick goes to the post that holds its channel" */
 
-/* every channel has the holder wanted, 8 for none */
+/* every channel has the holder wanted, NOBODY for none */
+enum { NOBODY = ROKEMAIPU_POSTS };
 static void holders_are(int line, const rokemaipu_table *t, const uint8_t want[32]) {
-    for (uint32_t channel = 0; channel < 32; channel++) is(line, "the holder", rokemaipu_holder(t, channel), want[channel] < 8 ? want[channel] : R(1));
+    for (uint32_t channel = 0; channel < 32; channel++) is(line, "the holder", rokemaipu_holder(t, channel), want[channel] < NOBODY ? want[channel] : R(1));
     for (uint32_t channel = 32; channel < 300; channel++) is(line, "the holder of no channel", rokemaipu_holder(t, channel), R(1));
     is(line, "the holder of no channel", rokemaipu_holder(t, UINT32_MAX), R(1));
 }
-#define HOLDERS(t, ...) do { uint8_t want[32]; memset(want, 8, 32); __VA_ARGS__; holders_are(__LINE__, t, want); } while (0)
+#define HOLDERS(t, ...) do { uint8_t want[32]; memset(want, NOBODY, 32); __VA_ARGS__; holders_are(__LINE__, t, want); } while (0)
 
 static void holder(void) {
     rokemaipu_table t;
@@ -18,14 +19,14 @@ static void holder(void) {
     HOLDERS(&t, (void)0); /* a post that is not set up stands on channel 0, and does not hold it */
     IS(rokemaipu_set_up(&t, 3, 4, 5000, 1000, 500, 500, 0, 0), 0);
     IS(rokemaipu_set_up(&t, 0, 31, 5000, 1000, 500, 500, 0, 0), 0);
-    IS(rokemaipu_set_up(&t, 7, 0, 5000, 1000, 500, 500, 0, 0), 0);
+    IS(rokemaipu_set_up(&t, 15, 0, 5000, 1000, 500, 500, 0, 0), 0);
     IS(rokemaipu_set_up(&t, 1, 4, 5000, 1000, 500, 500, 0, 0), R(11));
-    HOLDERS(&t, want[4] = 3, want[31] = 0, want[0] = 7);
+    HOLDERS(&t, want[4] = 3, want[31] = 0, want[0] = 15);
     IS(rokemaipu_tick(&t, 4, 9), 0);
     IS(t.posts[rokemaipu_holder(&t, 4)].head.time, 9); /* it went there */
     IS(rokemaipu_set_up(&t, 3, 5, 5000, 1000, 500, 500, 0, 0), 0);
-    HOLDERS(&t, want[5] = 3, want[31] = 0, want[0] = 7);
-    IS(rokemaipu_release(&t, 7), 0);
+    HOLDERS(&t, want[5] = 3, want[31] = 0, want[0] = 15);
+    IS(rokemaipu_release(&t, 15), 0);
     HOLDERS(&t, want[5] = 3, want[31] = 0);
     puts("holders: set up, moved, released; no channel");
 }
@@ -33,21 +34,20 @@ static void holder(void) {
 static void any_holder(void) {
     fenced_table f = table_alone();
     rokemaipu_table *t = f.table;
-    uint32_t found = 0, above = 0;
+    uint32_t found = 0, above = 0, lied = 0;
     for (int turn = 0; turn < 2000 && !bad; turn++) {
         only_read(f, false);
         random_table(t);
         for (int i = 0; turn % 3 && i < ROKEMAIPU_POSTS; i++) t->posts[i].head.used = 1;
         only_read(f, true);
         for (uint32_t channel = 0; channel < 42; channel++) {
-            uint32_t first = 0;
-            while (first < 8 && !(t->posts[first].head.used == 1 && t->posts[first].head.channel == channel)) first++;
-            IS(rokemaipu_holder(t, channel), channel < 32 && first < 8 ? first : R(1));
-            found += channel < 32 && first < 8, above += channel > 31 && first < 8;
+            bool held = channel < 32 && holds(t, named(t, channel), channel);
+            IS(rokemaipu_holder(t, channel), held ? named(t, channel) : R(1));
+            found += held, above += channel > 31 && searched(t, channel), lied += channel < 32 && !held && searched(t, channel);
         }
     }
-    IS(found && above, true); /* also where a table of another's making has a post on channel 32 and above */
-    puts("any table's holders: the first post that holds the channel; the table only read");
+    IS(found && above && lied, true); /* also where a table of another's making has a post on channel 32 and above, and an index that is not true */
+    puts("any table's holders: the post that the index names, where it holds the channel; the table only read");
 }
 
 /* ---- 01: "the latest Power_Modules_Status and DC_Power_Control accepted in that session, each possibly none" */
@@ -72,7 +72,7 @@ static void part_is(int line, const rokemaipu_table *t, uint32_t part, uint32_t 
 static void in_session(void) {
     rokemaipu_table t;
     memset(&t, 0, sizeof t);
-    IS(rokemaipu_in_session(&t, 8, 2, NULL, 0, NULL, 0), R(9)); /* 9, 14 and 3 before 8 */
+    IS(rokemaipu_in_session(&t, 16, 2, NULL, 0, NULL, 0), R(9)); /* 9, 14 and 3 before 8 */
     IS(rokemaipu_in_session(&t, 0, 2, NULL, 0, NULL, 0), R(14));
     IS(rokemaipu_set_up(&t, 0, 4, 5000, 1000, 500, 500, 0, 0), 0);
     IS(rokemaipu_in_session(&t, 0, 2, NULL, 0, NULL, 0), R(3));
@@ -115,15 +115,15 @@ static void any_session(void) {
         random_table(t);
         for (int i = 0; turn % 3 && i < ROKEMAIPU_POSTS; i++) t->posts[i].head.used = t->posts[i].head.session.opened = 1;
         only_read(f, true);
-        for (uint32_t post = 0; post < 10; post++)
+        for (uint32_t post = 0; post < ROKEMAIPU_POSTS + 2; post++)
             for (uint32_t part = 0; part < 5; part++)
                 for (size_t places = 0; places < 5; places++)
                     for (size_t room = 0; room <= 10; room++) {
-                        const rokemaipu_head *h = &t->posts[post % 8].head;
+                        const rokemaipu_head *h = &t->posts[post % ROKEMAIPU_POSTS].head;
                         const rokemaipu_slot *l = &h->session.kept[part % ROKEMAIPU_KEPT];
                         bool kept = h->session.opened == 1 && l->known == 1 && l->kind < ROKEMAIPU_KINDS, big = l->kind >= 9 && l->kind < 12;
                         uint32_t length = kept ? lengths_of[l->kind] : 0, when[ROKEMAIPU_TIMES] = {(uint32_t)l->time, age_of(h->time, l->time), l->kind};
-                        uint32_t answer = post > 7 ? R(9) : h->used != 1 ? R(14) : part >= ROKEMAIPU_KEPT ? R(3)
+                        uint32_t answer = post > 15 ? R(9) : h->used != 1 ? R(14) : part >= ROKEMAIPU_KEPT ? R(3)
                             : !kept ? 0 : places < ROKEMAIPU_TIMES || room < length ? R(8) : length;
                         bool out = answer && !rokemaipu_refusal(answer);
                         uint8_t bytes[8];
@@ -133,7 +133,7 @@ static void any_session(void) {
                         lent_is(__LINE__, &times, when, out ? ROKEMAIPU_TIMES : 0);
                         lent_is(__LINE__, &buf, bytes, out ? length : 0);
                     }
-        uint32_t far = below(2) ? 0xffffffff : 8 + below(1000);
+        uint32_t far = below(2) ? 0xffffffff : 16 + below(1000);
         IS(rokemaipu_in_session(t, far, far, NULL, 0, NULL, 0), R(9));
         if (t->posts[0].head.used == 1) IS(rokemaipu_in_session(t, 0, far, NULL, 0, NULL, 0), R(3));
     }

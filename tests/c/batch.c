@@ -21,7 +21,7 @@ static void add_any(records *r, uint32_t *time) {
     static const uint32_t ids[2][10] = {{0x63000, 0x63001, 0x6b000, 0x6b001, 0x6b002, 0x6b003, 0x6b004, 0x6b005, 0x6b105, 0x6b777},
         {0x60010, 0x60011, 0x68009, 0x68001, 0x68002, 0x68003, 0x68005, 0x68007, 0x60012, 0x68008}};
     static const size_t sizes[2][10] = {{8, 8, 1, 2, 1, 7, 1, 1, 6, 3}, {8, 8, 1, 8, 2, 4, 5, 1, 3, 3}};
-    uint32_t k = below(12), channel = below(10), pages = below(8) ? channel / 4 % 2 : below(2);
+    uint32_t k = below(12), channel = below(ROKEMAIPU_POSTS + 2), pages = below(8) ? channel / 4 % 2 : below(2);
     *time += below(300);
     uint32_t at = below(20) ? *time : *time - below(*time + 1);
     if (!below(5)) return add_tick(r, at, channel);
@@ -94,7 +94,7 @@ static void taken(int line, const records *r, size_t places) {
 
 static void set_up(void) {
     rokemaipu_start(the_table());
-    for (uint32_t i = 0; i < ROKEMAIPU_POSTS; i++) IS(rokemaipu_set_up(the_table(), i, i, 5000, 1000, 500, 500, i % 2, i / 4), 0); /* posts of either interface */
+    for (uint32_t i = 0; i < ROKEMAIPU_POSTS; i++) IS(rokemaipu_set_up(the_table(), i, i, 5000, 1000, 500, 500, i % 2, i / 4 % 2), 0); /* posts of either interface */
 }
 
 /* ---- the parts */

@@ -93,7 +93,7 @@ static void any_clock(void) {
     for (int turn = 0; turn < 20000 && !bad; turn++) {
         random_table(t);
         for (int i = 0; i < ROKEMAIPU_POSTS; i++) t->posts[i].head.used = !i;
-        h->channel = 4, h->heard = 1, h->counts[0] = below(1000), h->time = below(3) ? some_time() : UINT64_MAX - below(3000000000u);
+        t->index[4] = 1, h->channel = 4, h->heard = 1, h->counts[0] = below(1000), h->time = below(3) ? some_time() : UINT64_MAX - below(3000000000u);
         uint64_t from = h->time;
         uint32_t later = below(2) ? (uint32_t)next() : 0x7fffffff + below(3), time = (uint32_t)from + later;
         IS(rokemaipu_refusal(rokemaipu_tick(t, 4, time)), later >> 31 ? 2 : 0);

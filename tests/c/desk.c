@@ -188,6 +188,15 @@ static void record(uint32_t post) {
     puts(some ? "" : "-");
 }
 
+static void put_index(void) {
+    putchar('I');
+    for (int channel = 0; channel < ROKEMAIPU_CHANNELS; channel++) {
+        if (table.index[channel]) printf(" %" PRIu32, table.index[channel] - 1);
+        else printf(" -");
+    }
+    putchar('\n');
+}
+
 /* ---- steps; false: no step */
 
 static bool is(const char *name, size_t fields) { return words[0].n == strlen(name) && !memcmp(words[0].at, name, words[0].n) && count == fields + 1; }
@@ -398,6 +407,7 @@ static bool step(void) {
             && (answer(rokemaipu_set_up(&table, a, b, c, d, e, f, sensor, interface), false), true);
     if (is("release", 1)) return u32(1, &a) && (answer(rokemaipu_release(&table, a), false), true);
     if (is("record", 1)) return u32(1, &a) && (record(a), true);
+    if (is("index", 0)) return put_index(), true;
     if (is("refused", 0)) return printf("N %" PRIu32 "\n", rokemaipu_refused(&table)), true;
     if (is("read", 3)) return read_step(ROKEMAIPU_NEWER);
     if (is("change", 5)) return change_step(ROKEMAIPU_NEWER);

@@ -34,7 +34,7 @@ static void settings(void) {
         IS(rokemaipu_set_up(&t, 0, OLD, 5000, 1000, 500, 500, 0, unknown[i]), R(12));
         IS(rokemaipu_set_up(&t, 2, OLD, 5000, 1000, 500, 500, 0, unknown[i]), R(11)); /* 9, 10 and 11 before 12 */
         IS(rokemaipu_set_up(&t, 2, 32, 5000, 1000, 500, 500, 0, unknown[i]), R(10));
-        IS(rokemaipu_set_up(&t, 8, OLD, 5000, 1000, 500, 500, 0, unknown[i]), R(9));
+        IS(rokemaipu_set_up(&t, 16, OLD, 5000, 1000, 500, 500, 0, unknown[i]), R(9));
     }
     IS(memcmp(&was, &t, sizeof t), 0);
     IS(OLDER(0, 0x68002, 0, 0), ROKEMAIPU_F(4));

@@ -52,22 +52,37 @@ static void worked(void) {
     STAYS(&r, channel_32, 2, 0, ROKEMAIPU_LINE_BYTES, 0, R(8));
     rokemaipu_replay before = r;
     IS(set_up(&r, 1, 3), 1); /* late */
-    IS(set_up(&r, 9, 3), 1);
+    IS(set_up(&r, 16, 3), 1);
     IS(memcmp(&r, &before, sizeof r), 0);
     puts("02's replay: its lines, the piece, the end, a malformed record; 8 first; a late set-up");
+}
+
+/* the last count, a post of two digits and a start bit of two: no line is longer than ROKEMAIPU_LINE_BYTES */
+static void longest(void) {
+    const uint8_t log[] = {0x00, 0x1f, 0x81, 0xc0, 0x31, 0x08, 0xa0, 0x0f, 0x83, 0xff, 0x41, 0x00, 0x02, 0x64, 0x00, 0x1f, 0x00, 0x09};
+    rokemaipu_replay r;
+    uint64_t at = 0;
+    memset(&r, 0, sizeof r);
+    IS(set_up(&r, 15, 31), 0);
+    IS(set_up(&r, 10, 30), 0);
+    r.count = UINT64_MAX - 2;
+    TOLD("18446744073709551614 15 R5 48\n");
+    IS(at, 14);
+    TOLD("18446744073709551615 15 A0\n");
+    puts("the longest lines: of a post with two digits, with the last counts");
 }
 
 static void refused(void) {
     rokemaipu_replay r, zero;
     memset(&r, 0, sizeof r), memset(&zero, 0, sizeof zero);
-    const struct { uint32_t post, channel, silence, number; } rows[] = {{8, 2, 500, 9}, {1, 32, 500, 10}, {1, 2, 500, 11}, {1, 3, 99, 12}};
+    const struct { uint32_t post, channel, silence, number; } rows[] = {{16, 2, 500, 9}, {1, 32, 500, 10}, {1, 2, 500, 11}, {1, 3, 99, 12}};
     for (size_t i = 0; i < sizeof rows / sizeof *rows; i++) {
         IS(rokemaipu_replay_start(&r), 0);
         IS(memcmp(&r, &zero, sizeof r), 0);
         IS(set_up(&r, 0, 2), 0);
         IS(rokemaipu_replay_set_up(&r, rows[i].post, rows[i].channel, 5000, 1000, 500, rows[i].silence, 0, 0), R(rows[i].number));
         IS(r.course, R(rows[i].number));
-        IS(set_up(&r, 5, 5), R(rows[i].number)); /* it has ended, also where a later one would be accepted */
+        IS(set_up(&r, 15, 5), R(rows[i].number)); /* it has ended, also where a later one would be accepted */
         STAYS(&r, ticks, sizeof ticks, 0, ROKEMAIPU_LINE_BYTES, 1, R(rows[i].number));
         STAYS(&r, ticks, sizeof ticks, 0, ROKEMAIPU_LINE_BYTES - 1, 1, R(8));
     }
@@ -118,8 +133,8 @@ static void any_log(void) {
         rokemaipu_table singly;
         memset(r, 0, sizeof *r), memset(&singly, 0, sizeof singly);
         for (uint32_t post = 0; post < 4; post++) {
-            IS(rokemaipu_replay_set_up(r, 7 - post, post, 5000, 1000, 500, 500, post % 2, post / 2), 0);
-            IS(rokemaipu_set_up(&singly, 7 - post, post, 5000, 1000, 500, 500, post % 2, post / 2), 0);
+            IS(rokemaipu_replay_set_up(r, 12 - 3 * post, post, 5000, 1000, 500, 500, post % 2, post / 2), 0);
+            IS(rokemaipu_set_up(&singly, 12 - 3 * post, post, 5000, 1000, 500, 500, post % 2, post / 2), 0);
         }
         uint32_t time = 0;
         size_t size = some_log(log, MOST_BYTES - below(200), &time), at = 0;
@@ -152,6 +167,7 @@ static void any_log(void) {
 
 int main(void) {
     worked();
+    longest();
     refused();
     any_log();
     puts(bad ? "BAD" : "ok");

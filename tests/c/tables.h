@@ -37,7 +37,24 @@ static void random_head(rokemaipu_head *h) {
     for (int k = 0; k < ROKEMAIPU_COUNTS; k++) h->counts[k] = some_count();
 }
 
-static void random_table(rokemaipu_table *t) {
+static inline bool holds(const rokemaipu_table *t, uint32_t post, uint32_t channel) { return t->posts[post].head.used == 1 && t->posts[post].head.channel == channel; }
+
+/* what a search over the posts finds, as the index says it: 0, or one more than the first post that holds the channel */
+static inline uint32_t searched(const rokemaipu_table *t, uint32_t channel) {
+    for (uint32_t post = 0; post < ROKEMAIPU_POSTS; post++)
+        if (holds(t, post, channel)) return post + 1;
+    return 0;
+}
+
+/* the post that the index names, and the first where it names none; whether it holds the channel is asked of it */
+static inline uint32_t named(const rokemaipu_table *t, uint32_t channel) { return t->index[channel] - 1 < ROKEMAIPU_POSTS ? t->index[channel] - 1 : 0; }
+
+/* mostly true, and any number may stand there */
+static void random_index(rokemaipu_table *t) {
+    for (uint32_t channel = 0; channel < ROKEMAIPU_CHANNELS; channel++) t->index[channel] = below(3) ? searched(t, channel) : below(8) ? below(ROKEMAIPU_POSTS + 3) : (uint32_t)next();
+}
+
+static inline void random_table(rokemaipu_table *t) {
     for (int i = 0; i < ROKEMAIPU_POSTS; i++) {
         random_head(&t->posts[i].head);
         for (uint32_t k = 0; k < ROKEMAIPU_PLACES; k++) {
@@ -45,6 +62,7 @@ static void random_table(rokemaipu_table *t) {
             if (below(2)) t->posts[i].latest[k].kind = kind_at(k, below(2)); /* a kind that has the place */
         }
     }
+    random_index(t);
     t->refused = some_count();
 }
 

@@ -14,41 +14,42 @@ static bool same_table(const rokemaipu_table *a, const rokemaipu_table *b) { ret
 
 static void layout(void) {
     IS(rokemaipu_layout(), ROKEMAIPU_LAYOUT);
-    IS(rokemaipu_layout(), 5768 + 8 * (1ull << 32) + 21 * (1ull << 40) + 4 * (1ull << 48));
+    IS(rokemaipu_layout(), 11656 + 16 * (1ull << 32) + 21 * (1ull << 40) + 5 * (1ull << 48));
     rokemaipu_table t, zero;
     memset(&t, 0, sizeof t);
     memset(&zero, 0, sizeof zero);
-    IS(rokemaipu_set_up(&t, 7, 31, 1, 2, 3, 100, ROKEMAIPU_YES_NO, ROKEMAIPU_NEWER), 0);
-    IS(t.posts[7].head.used, 1);
-    IS(t.posts[7].head.channel, 31);
-    IS(t.posts[7].head.limits.voltage, 1);
-    IS(t.posts[7].head.limits.charge, 2);
-    IS(t.posts[7].head.limits.discharge, 3);
-    IS(t.posts[7].head.limits.silence, 100);
-    IS(t.posts[7].head.limits.sensor, 1);
-    IS(t.posts[7].head.limits.interface, 0);
+    IS(rokemaipu_set_up(&t, 15, 31, 1, 2, 3, 100, ROKEMAIPU_YES_NO, ROKEMAIPU_NEWER), 0);
+    IS(t.posts[15].head.used, 1);
+    IS(t.posts[15].head.channel, 31);
+    IS(t.posts[15].head.limits.voltage, 1);
+    IS(t.posts[15].head.limits.charge, 2);
+    IS(t.posts[15].head.limits.discharge, 3);
+    IS(t.posts[15].head.limits.silence, 100);
+    IS(t.posts[15].head.limits.sensor, 1);
+    IS(t.posts[15].head.limits.interface, 0);
+    for (uint32_t channel = 0; channel < ROKEMAIPU_CHANNELS; channel++) IS(t.index[channel], channel == 31 ? 16 : 0);
     IS(rokemaipu_frame(&t, 31, 9, 0x6b001, true, (const uint8_t[]){2, 1}, 2), 0);
     IS(rokemaipu_frame(&t, 31, 10, 0x63000, true, (const uint8_t[]){1, 2, 3, 4, 5, 6, 1, 8}, 8), ROKEMAIPU_F(8)); /* 0x0403 tenths of an ampere, above 2 */
-    IS(t.posts[7].head.heard, 1);
-    IS(t.posts[7].head.time, 10);
-    IS(t.posts[7].latest[ROKEMAIPU_POWER_MODULES_STATUS].known, 1);
-    IS(t.posts[7].latest[ROKEMAIPU_POWER_MODULES_STATUS].time, 10);
-    IS(t.posts[7].latest[ROKEMAIPU_POWER_MODULES_STATUS].raw, 0x0801060504030201u);
-    IS(t.posts[7].head.session.opened, 1);
-    IS(t.posts[7].head.session.since, 9);
-    IS(t.posts[7].head.session.first, 0x0102);
-    IS(t.posts[7].head.session.kept[ROKEMAIPU_KEPT_STATUS].raw, 0x0801060504030201u);
-    IS(t.posts[7].head.session.kept[ROKEMAIPU_KEPT_CONTROL].known, 0);
+    IS(t.posts[15].head.heard, 1);
+    IS(t.posts[15].head.time, 10);
+    IS(t.posts[15].latest[ROKEMAIPU_POWER_MODULES_STATUS].known, 1);
+    IS(t.posts[15].latest[ROKEMAIPU_POWER_MODULES_STATUS].time, 10);
+    IS(t.posts[15].latest[ROKEMAIPU_POWER_MODULES_STATUS].raw, 0x0801060504030201u);
+    IS(t.posts[15].head.session.opened, 1);
+    IS(t.posts[15].head.session.since, 9);
+    IS(t.posts[15].head.session.first, 0x0102);
+    IS(t.posts[15].head.session.kept[ROKEMAIPU_KEPT_STATUS].raw, 0x0801060504030201u);
+    IS(t.posts[15].head.session.kept[ROKEMAIPU_KEPT_CONTROL].known, 0);
     IS(rokemaipu_frame(&t, 31, 11, 0x6b000, true, (const uint8_t[]){7}, 1), 0);
     IS(rokemaipu_frame(&t, 31, 11, 0x63001, true, (const uint8_t[]){1, 2, 3, 4, 5, 6, 7, 8}, 8), 0);
-    IS(t.posts[7].head.controller.raw, 7);
-    IS(t.posts[7].head.parameters.raw, 0x0807060504030201u);
-    IS(memcmp(&t.posts[7].head.controller, &t.posts[7].latest[ROKEMAIPU_CONTROLLER_STATUS], sizeof(rokemaipu_slot)), 0);
-    IS(memcmp(&t.posts[7].head.parameters, &t.posts[7].latest[ROKEMAIPU_DC_POWER_PARAMETERS], sizeof(rokemaipu_slot)), 0);
+    IS(t.posts[15].head.controller.raw, 7);
+    IS(t.posts[15].head.parameters.raw, 0x0807060504030201u);
+    IS(memcmp(&t.posts[15].head.controller, &t.posts[15].latest[ROKEMAIPU_CONTROLLER_STATUS], sizeof(rokemaipu_slot)), 0);
+    IS(memcmp(&t.posts[15].head.parameters, &t.posts[15].latest[ROKEMAIPU_DC_POWER_PARAMETERS], sizeof(rokemaipu_slot)), 0);
     IS(rokemaipu_frame(&t, 31, 11, 8, false, (const uint8_t[]){1, 2, 3, 4, 5, 6, 7, 8}, 8), 0);
-    IS(t.posts[7].latest[ROKEMAIPU_PT1000_STATE].raw, 0x0102030405060708u); /* byte 0 highest */
-    IS(t.posts[7].head.counts[0], 5);
-    IS(t.posts[7].head.counts[8], 1);
+    IS(t.posts[15].latest[ROKEMAIPU_PT1000_STATE].raw, 0x0102030405060708u); /* byte 0 highest */
+    IS(t.posts[15].head.counts[0], 5);
+    IS(t.posts[15].head.counts[8], 1);
     IS(rokemaipu_tick(&t, 30, 12), R(1));
     IS(t.refused, 1);
     IS(rokemaipu_start(&t), 0);
@@ -250,7 +251,7 @@ static void posts(void) {
     IS(rokemaipu_set_up(&t, 1, 4, 5000, 1000, 500, 500, 0, 0), R(11)); /* E12 */
     IS(rokemaipu_set_up(&t, 0, 4, 5000, 1000, 500, 500, 0, 0), 0);
     IS(t.posts[0].head.heard, 0);
-    IS(rokemaipu_set_up(&t, 8, 5, 5000, 1000, 500, 500, 0, 0), R(9));
+    IS(rokemaipu_set_up(&t, 16, 5, 5000, 1000, 500, 500, 0, 0), R(9)); /* 02: "Refusal 9 now begins at 16" */
     IS(rokemaipu_set_up(&t, 1, 32, 5000, 1000, 500, 500, 0, 0), R(10));
     IS(rokemaipu_set_up(&t, 1, 5, 5000, 1000, 500, 99, 0, 0), R(12));
     uint8_t p[8] = {0xa0, 0x0f, 0, 0, 0, 0, 0, 0}; /* E13 */
@@ -264,7 +265,8 @@ static void posts(void) {
     IS(rokemaipu_tick(&t, 4, 100), 0);
     IS(rokemaipu_release(&t, 0), 0);
     IS(rokemaipu_release(&t, 0), R(14));
-    IS(rokemaipu_release(&t, 8), R(9));
+    IS(rokemaipu_release(&t, 15), R(14));
+    IS(rokemaipu_release(&t, 16), R(9));
     IS(rokemaipu_tick(&t, 4, 101), R(1));
     puts("posts: E8 to E14");
 }
@@ -319,8 +321,9 @@ static void looks(void) {
     memset(&t, 0, sizeof t);
     memset(numbers, 0, sizeof numbers);
     IS(rokemaipu_look_up(&t, 0, numbers, ROKEMAIPU_NUMBERS), R(14));
-    IS(rokemaipu_look_up(&t, 8, numbers, ROKEMAIPU_NUMBERS), R(9));
-    IS(rokemaipu_look_up(&t, 8, NULL, 0), R(9)); /* 9 and 14 before 8 */
+    IS(rokemaipu_look_up(&t, 15, numbers, ROKEMAIPU_NUMBERS), R(14));
+    IS(rokemaipu_look_up(&t, 16, numbers, ROKEMAIPU_NUMBERS), R(9));
+    IS(rokemaipu_look_up(&t, 16, NULL, 0), R(9)); /* 9 and 14 before 8 */
     IS(rokemaipu_look_up(&t, 0, NULL, 0), R(14));
     IS(rokemaipu_set_up(&t, 0, 4, 5000, 1000, 500, 600, ROKEMAIPU_YES_NO, ROKEMAIPU_NEWER), 0); /* as E8 */
     IS(rokemaipu_look_up(&t, 0, numbers, ROKEMAIPU_NUMBERS - 1), R(8));
@@ -354,7 +357,7 @@ static void looks(void) {
     IS(rokemaipu_latest(&t, 0, ROKEMAIPU_KINDS, times, 3, buf, 8), R(3));
     IS(rokemaipu_latest(&t, 0, ROKEMAIPU_KINDS, NULL, 0, NULL, 0), R(3));
     IS(rokemaipu_latest(&t, 1, ROKEMAIPU_KINDS, times, 3, buf, 8), R(14)); /* 9 and 14 before 3 */
-    IS(rokemaipu_latest(&t, 8, ROKEMAIPU_KINDS, times, 3, buf, 8), R(9));
+    IS(rokemaipu_latest(&t, 16, ROKEMAIPU_KINDS, times, 3, buf, 8), R(9));
     IS(rokemaipu_latest(&t, 0, ROKEMAIPU_POWER_MODULES_STATUS, times, 3, buf, 7), R(8));
     IS(rokemaipu_latest(&t, 0, ROKEMAIPU_POWER_MODULES_STATUS, times, 2, buf, 8), R(8)); /* no place for the kind */
     IS(rokemaipu_latest(&t, 0, ROKEMAIPU_POWER_MODULES_STATUS, NULL, 0, buf, 8), R(8));
@@ -385,7 +388,7 @@ static void counts(void) {
     memset(&t, 0, sizeof t);
     IS(rokemaipu_refused(&t), 0);
     IS(rokemaipu_counts(&t, 0, n, ROKEMAIPU_COUNTS), R(14));
-    IS(rokemaipu_counts(&t, 8, NULL, 0), R(9)); /* 9 and 14 before 8 */
+    IS(rokemaipu_counts(&t, 16, NULL, 0), R(9)); /* 9 and 14 before 8 */
     IS(rokemaipu_set_up(&t, 0, 4, 5000, 1000, 500, 500, 0, 0), 0);
     IS(rokemaipu_set_up(&t, 1, 5, 5000, 1000, 500, 500, 0, 0), 0);
     IS(rokemaipu_counts(&t, 0, n, ROKEMAIPU_COUNTS - 1), R(8));
@@ -477,6 +480,13 @@ static bool same_counts(const rokemaipu_table *a, const rokemaipu_table *b) {
     return a->refused == b->refused;
 }
 
+/* what an accepted set-up or release leaves of the index: nothing on the channel that the post held, and the post on the channel that it is given */
+static void indexed(rokemaipu_table *t, uint32_t post, const uint32_t *channel) {
+    const rokemaipu_head *h = &t->posts[post].head;
+    if (h->used == 1 && h->channel < ROKEMAIPU_CHANNELS) t->index[h->channel] = 0;
+    if (channel) t->index[*channel] = post + 1;
+}
+
 static void anything(void) {
     rokemaipu_table *t = (rokemaipu_table *)fenced(sizeof *t), before;
     uint8_t *end = fenced(12) + 12;
@@ -487,12 +497,12 @@ static void anything(void) {
         size_t length = below(12);
         uint8_t *payload = end - length; /* ends at the fence */
         for (size_t i = 0; i < length; i++) payload[i] = below(3) ? (uint8_t)below(6) : (uint8_t)next();
-        uint32_t channel = below(40), time = below(2) ? (uint32_t)next() : (uint32_t)t->posts[below(8)].head.time, which = below(IDS), what = below(4), r;
+        uint32_t post = below(20), channel = below(40), time = below(2) ? (uint32_t)next() : (uint32_t)t->posts[below(ROKEMAIPU_POSTS)].head.time, which = below(IDS), what = below(4), r;
         switch (what) {
         case 0: r = rokemaipu_frame(t, channel, time, ids[which], some_form(which), payload, length); break;
         case 1: r = rokemaipu_tick(t, channel, time); break;
-        case 2: r = rokemaipu_release(t, below(12)); break;
-        default: r = rokemaipu_set_up(t, below(12), channel, below(70000), below(40000), below(40000), below(70000), some_sensor(), some_interface()); break;
+        case 2: r = rokemaipu_release(t, post); break;
+        default: r = rokemaipu_set_up(t, post, channel, below(70000), below(40000), below(40000), below(70000), some_sensor(), some_interface()); break;
         }
         if (what < 2) {
             counted(&before, channel, r);
@@ -500,6 +510,8 @@ static void anything(void) {
             full += rokemaipu_refusal(r) == 25;
         }
         if (rokemaipu_refusal(r) && !same_table(t, &before)) IS(r, 0);
+        if (what > 1 && !rokemaipu_refusal(r)) indexed(&before, post, what > 2 ? &channel : NULL);
+        IS(memcmp(t->index, before.index, sizeof t->index), 0);
         if (!rokemaipu_refusal(r) && r > 2047) IS(r, 2047);
         for (int i = 0, changed = 0; i < ROKEMAIPU_POSTS; i++) {
             changed += !same_post(&t->posts[i], &before.posts[i]);
@@ -508,7 +520,7 @@ static void anything(void) {
         if (bad) return;
     }
     IS(full > 0, true);
-    puts("any table and any step: answered and counted; one post changed at most, none by a refusal, 25 among them");
+    puts("any table and any step: answered and counted; one post changed at most and what the index says of it, none by a refusal, 25 among them");
 }
 
 /* any frame, read and watched as plain C does it */
@@ -587,12 +599,12 @@ static void any_look(void) {
         random_table(t);
         for (int i = 0; turn % 3 && i < ROKEMAIPU_POSTS; i++) t->posts[i].head.used = 1;
         only_read(f, true);
-        for (uint32_t post = 0; post < 10; post++) {
-            const rokemaipu_post *p = &t->posts[post % 8];
+        for (uint32_t post = 0; post < ROKEMAIPU_POSTS + 2; post++) {
+            const rokemaipu_post *p = &t->posts[post % ROKEMAIPU_POSTS];
             const rokemaipu_head *h = &p->head;
             const rokemaipu_session *s = &h->session;
             bool heard = h->heard == 1, opened = s->opened == 1;
-            uint32_t refused = post > 7 ? R(9) : h->used != 1 ? R(14) : 0;
+            uint32_t refused = post > 15 ? R(9) : h->used != 1 ? R(14) : 0;
             const uint32_t want[ROKEMAIPU_NUMBERS] = {h->channel, h->limits.voltage, h->limits.charge, h->limits.discharge, h->limits.silence,
                 h->limits.sensor == ROKEMAIPU_YES_NO, heard, heard ? (uint32_t)h->time : 0,
                 opened, opened ? (uint32_t)s->since : 0, opened ? least(s->first & 0xff, 7) : 0, opened ? least(s->first >> 8 & 0xff, 4) : 0, /* without a label: the last one */
@@ -624,7 +636,7 @@ static void any_look(void) {
                     }
             if (bad) return;
         }
-        uint32_t far = below(2) ? 0xffffffff : 8 + below(1000); /* any number */
+        uint32_t far = below(2) ? 0xffffffff : 16 + below(1000); /* any number */
         IS(rokemaipu_look_up(t, far, NULL, 0), R(9));
         IS(rokemaipu_counts(t, far, NULL, 0), R(9));
         IS(rokemaipu_refused(t), t->refused);

@@ -7,7 +7,7 @@ import sys
 import tty
 
 STEPS = [('setup 0 4 5000 1000 500 500', 'A'), ('# words', None), ('frame 4 110 6b003 x a00f0000000048', 'A12'), ('tick 4 109', 'R2'), ('hello', '?'),
-         ('logw t 300 2 0000000000', 'A 5 ac02020009'), ('tick 5 1', 'R1'), ('read1 68009 x 07', 'A 68009x:7')]
+         ('logw t 300 2 0000000000', 'A 5 ac02020009'), ('tick 5 1', 'R1'), ('read1 68009 x 07', 'A 68009x:7'), ('index', 'I - - - - 0' + ' -' * 27)]
 
 
 def answer(fd):

@@ -47,7 +47,7 @@ class Calls(unittest.TestCase):
         for text, status, said in [
             ('setup 0 4 5000 2000 500\n', 1, 'posts: line 1: no setup POST CHANNEL VOLT CHG DIS W [SENSOR [IFACE]]'),
             ('#\ntick 4 100\n', 1, 'posts: line 2: no setup POST CHANNEL VOLT CHG DIS W [SENSOR [IFACE]]'),
-            ('setup 8 4 5000 2000 500 500\n', 1, 'posts: line 1: the set-up is refused, R9: post number above 7'),
+            ('setup 16 4 5000 2000 500 500\n', 1, 'posts: line 1: the set-up is refused, R9: post number above 15'),
             ('setup 0 4 5000 2000 500 500\nsetup 1 4 5000 2000 500 500\n', 1, 'posts: line 2: the set-up is refused, R11: channel held by another post'),
             ('setup 0 4 5000 2000 500 99\n', 1, 'posts: line 1: the set-up is refused, R12: a post limit outside its range'),
             ('#' * 65536, 2, 'posts: longer than 65,535 bytes'),

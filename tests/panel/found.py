@@ -5,7 +5,7 @@ from depot import PROGRAMS, RUN
 from documents import FINDINGS
 from report.clock import lasting, told
 
-POSTS = 8
+POSTS = 16
 ROUND = 2**32
 
 

@@ -87,3 +87,6 @@ class Grows(unittest.TestCase):
 
     def test_round(self):
         self.appended('round', 250)
+
+    def test_sixteen(self):
+        self.appended('sixteen', 400)

@@ -87,11 +87,11 @@ class Looked(unittest.TestCase):
     def test_without_a_mouse(self):
         """Tab leads to every post and to what is folded, with an outline; Enter follows and unfolds, and the next state leaves it so."""
         names = []
-        for _ in range(8):
+        for _ in range(16):
             self.pressed('Tab', 9)
             names.append(self.tab.run("document.activeElement.getAttribute('href')"))
             self.assertNotEqual(self.tab.run("getComputedStyle(document.activeElement).outlineStyle"), 'none')
-        self.assertEqual(names, [f'#post-{post}' for post in range(8)])
+        self.assertEqual(names, [f'#post-{post}' for post in range(16)])
         self.pressed('Tab', 9)
         self.assertEqual(self.tab.run("[document.activeElement.tagName, document.activeElement.parentElement.open]"), ['SUMMARY', False])
         self.pressed('Enter', 13)

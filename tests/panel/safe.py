@@ -70,7 +70,7 @@ class Safe(unittest.TestCase):
             states = [client.next() for _ in range(4)]
             took = time.monotonic() - begun
             self.assertTrue(3 < took < 6, took)
-            self.assertTrue(all(len(state['posts']) == 8 for state in states))
+            self.assertTrue(all(len(state['posts']) == 16 for state in states))
 
     def test_headers(self):
         with Panel(POSTS, LOG) as panel:

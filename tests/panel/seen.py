@@ -27,7 +27,7 @@ def cards(tab):
 def opened(browser, panel):
     """The panel's page, with its cards."""
     tab = browser.open(panel.address)
-    tab.until("document.querySelectorAll('.post').length === 8")
+    tab.until("document.querySelectorAll('.post').length === 16")
     return tab
 
 

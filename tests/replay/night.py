@@ -17,7 +17,7 @@ from words import record
 
 COMMAND = sys.argv[1:]
 NIGHTS = TESTS.parent / 'nights'
-POSTS = '# two posts\n\nsetup 0 2 5000 2000 500 500\nsetup 7 31 4000 1000 0 60000\n'
+POSTS = '# two posts\n\nsetup 0 2 5000 2000 500 500\nsetup 15 31 4000 1000 0 60000\n'
 
 
 def same(got, want, what):
@@ -129,7 +129,7 @@ def setups():
     held('', log, 'END', ['1 - R1', '2 - R1'], 'no set-up')
     held('#' * 65_535, log, 'END', ['1 - R1', '2 - R1'], 'the longest file of posts')
     same(replay('#' * 65_536, log), ('', 'replay: a.posts: longer than 65,535 bytes\n'), 'a longer one')
-    for line, number in (('8 4 5000 2000 500 500', 9), ('1 32 5000 2000 500 500', 10), ('1 2 5000 2000 500 500', 11), ('1 4 0 2000 500 500', 12),
+    for line, number in (('16 4 5000 2000 500 500', 9), ('1 32 5000 2000 500 500', 10), ('1 2 5000 2000 500 500', 11), ('1 4 0 2000 500 500', 12),
                          ('1 4 5000 2000 500 500 2', 12), ('1 4 5000 2000 500 500 0 2', 12)):
         told = f'replay: a.posts: line 5: the set-up is refused\nSETUP R{number}\n'
         same(replay(f'{POSTS}setup {line}\nno line\n', log), ('', told), f'setup {line}')
@@ -137,6 +137,17 @@ def setups():
     for line in ('setup', 'setup 1', 'setup 1 4 5000 2000 500', 'setup 1 4 5000 2000 500 500 0 0 0', 'setup 01 4 5000 2000 500 500', ' setup 1 4 5000 2000 500 500', 'tick 2 300', 'setup 1 4 5000 2000 500 500\r'):
         told = 'replay: a.posts: line 5: no setup POST CHANNEL VOLT CHG DIS W [SENSOR [IFACE]]\n'
         same(replay(f'{POSTS}{line}\n', log), ('', told), f'the line {line!r}')
+
+
+def sixteen():
+    """02, Req 13: sixteen posts, each with its own number in a line, and with a seventeenth no line at all."""
+    posts = [f'setup {post} {31 - post} 5000 2000 500 500\n' for post in range(16)]
+    log = b''.join(record(f'tick {channel} 300') for channel in range(32))
+    lines = [f'{n} - R1' for n in range(1, 17)] + [f'{n} {32 - n} A0' for n in range(17, 33)]
+    same(second(''.join(posts), log), (lines, 'END'), 'sixteen posts: the second program')
+    held(''.join(posts), log, 'END', lines, 'sixteen posts')
+    told = 'replay: a.posts: line 17: the set-up is refused\nSETUP R9\n'
+    same(replay(''.join([*posts, 'setup 16 0 5000 2000 500 500\n']), log), ('', told), 'a seventeenth post')
 
 
 def interfaces():
@@ -221,6 +232,6 @@ def memory():
 
 with tempfile.TemporaryDirectory() as room:
     os.chdir(room)
-    for part in (nights, rounds, cuts, pieces, setups, interfaces, files, changes, progress, memory):
+    for part in (nights, rounds, cuts, pieces, setups, sixteen, interfaces, files, changes, progress, memory):
         part()
 print('tests/replay: ok')

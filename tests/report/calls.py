@@ -169,7 +169,7 @@ class Calls(unittest.TestCase):
         for posts, line, why in [
             (POSTS + 'setup 2 5 1 1 1 100\nno line\n', 5, 'R11: channel held by another post'),
             (POSTS + 'setup 0 6 1 1 1 100\nsetup 0 5 1 1 1 100\n', 6, 'R11: channel held by another post'),
-            ('setup 8 4 5000 2000 500 500\n', 1, 'R9: post number above 7'),
+            ('setup 16 4 5000 2000 500 500\n', 1, 'R9: post number above 15'),
             ('# x\nsetup 0 32 5000 2000 500 500\n', 2, 'R10: channel above 31 at set-up'),
             ('setup 0 4 5000 2000 500 500 2\n', 1, 'R12: a post limit outside its range'),
             ('setup 0 4 5000 2000 500 500 0 2\n', 1, 'R12: a post limit outside its range'),
@@ -187,7 +187,7 @@ class Calls(unittest.TestCase):
         """By the second program, on both sides of each bound."""
         r = random.Random(61)
         for _ in range(40):
-            lines = [f'setup {r.choice([0, 1, 7, 8])} {r.choice([0, 4, 31, 32])} {r.choice([0, 1, 65535, 65536])} {r.choice([1, 32767, 32767, 32768, 0])} '
+            lines = [f'setup {r.choice([0, 1, 15, 16])} {r.choice([0, 4, 31, 32])} {r.choice([0, 1, 65535, 65536])} {r.choice([1, 32767, 32767, 32768, 0])} '
                      f'{r.choice([0, 0, 32767, 32768])} {r.choice([100, 60000, 60000, 99, 60001])}{r.choice(["", " 0", " 1", " 2", " 0 0", " 0 1", " 1 1", " 1 2"])}'
                      for _ in range(3)]
             answers_ = answers(lines)

@@ -9,12 +9,12 @@ from told import Told
 from tool import write_page
 from words import record
 
-PAGE, MARKS, HOUR = 5_000_000, 2500, 3600000
+PAGE, MARKS, HOUR, POSTS = 5_000_000, 2500, 3600000, 16
 
 
 class Crowded(unittest.TestCase):
     def test_every_finding_on_every_post(self):
-        posts = ''.join(f'setup {post} {post} 5000 2000 500 5000\n' for post in range(8))
+        posts = ''.join(f'setup {post} {post} 5000 2000 500 5000\n' for post in range(POSTS))
         heard, lines = [], []
 
         def add(step, post, answer):
@@ -22,15 +22,15 @@ class Crowded(unittest.TestCase):
             lines.append(f'{len(heard)} {post} {answer}')
 
         for time in range(0, 8 * HOUR, 8 * HOUR // 107):
-            for post in range(8):
+            for post in range(POSTS):
                 add(f'frame {post} {time} 6b003 x a00f0000000048', post, 'A2047')
-                for again in range(3):
-                    add(f'frame {post} {time + 1} 6b001 x 0701', post, 'A0')
-                    add(f'frame {post} {time + 1} 63000 x a00f83ff41000164', post, 'A0')
-                    add(f'frame {post} {time + 2} 6b004 x 01', post, 'A0')
+                for at in range(time + 1, time + 4):
+                    add(f'frame {post} {at} 6b001 x 0701', post, 'A0')
+                    add(f'frame {post} {at} 63000 x a00f83ff41000164', post, 'A0')
+                    add(f'frame {post} {at} 6b004 x 01', post, 'A0')
             for again in range(2):
                 kind = 1000000 + 2 * time + again
-                add(f'frame 9 {time} {kind:x} x 0001020304050607', '-', 'R1')
+                add(f'frame 31 {time} {kind:x} x 0001020304050607', '-', 'R1')
                 for refusal in ('R2', 'R3', 'R4', 'R5 63', 'R6', 'R15'):
                     for more in range(30):
                         add(f'frame 0 {time} {kind:x} x 0001020304050607', 0, refusal)
@@ -44,8 +44,8 @@ class Crowded(unittest.TestCase):
             self.assertLess(page.stat().st_size, PAGE)
             read = dom.read(page.read_text())
         told = Told(posts, heard, lines)
-        self.assertGreater(len(told.findings), 9000)
-        rows = {post: [tabled.cells(row) for row in tabled.table(read, f'Findings of post {post}')] for post in range(8)}
+        self.assertGreater(len(told.findings), 18000)
+        rows = {post: [tabled.cells(row) for row in tabled.table(read, f'Findings of post {post}')] for post in range(POSTS)}
         self.assertLess(MARKS / 2, sum(map(len, rows.values())))
         self.assertLessEqual(len(list(read.one('svg', 'night').all('a', 'finding'))), MARKS)
         ranges = {}

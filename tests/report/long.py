@@ -1,4 +1,4 @@
-"""A night of eight hours on eight posts. No program judged it: what is found and refused is laid down here. Its page stays small, and has every finding."""
+"""A night of eight hours on sixteen posts. No program judged it: what is found and refused is laid down here. Its page stays small, and has every finding."""
 import random
 import struct
 import tempfile
@@ -11,8 +11,8 @@ from told import Told
 from tool import write_page
 from words import record
 
-HOUR, POSTS, CYCLE = 3600000, 8, 2000
-LARGEST = 500000
+HOUR, POSTS, CYCLE = 3600000, 16, 2000
+LARGEST = 800000
 
 
 def night():

@@ -25,7 +25,7 @@ class Nights(unittest.TestCase):
     maxDiff = 1000
 
     def test_the_same_answers(self):
-        for name in ('clean', 'faults', 'round'):
+        for name in ('clean', 'faults', 'round', 'sixteen'):
             self.assertEqual(replayed(name), script(name))
 
     def test_march(self):

@@ -1,10 +1,10 @@
-"""A night of as many records as are asked for: eight posts, a message each 100 ms. No program judged it: what is found and refused is laid down here."""
+"""A night of as many records as are asked for: sixteen posts, a message each 100 ms. No program judged it: what is found and refused is laid down here."""
 import random
 import struct
 
 from words import number
 
-POSTS, STEP = 8, 100
+POSTS, STEP = 16, 100
 # of posts: one whose controller is silent for a while, one with sessions of two seconds, one that hears identifiers that are not in the table
 SILENT, SHORT, UNKNOWN = 3, 6, 7
 

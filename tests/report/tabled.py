@@ -12,8 +12,9 @@ def cells(row):
 
 
 def table(page, caption):
-    """The rows of the table whose caption begins so."""
-    found = [table for table in page.all('table') if table.one('caption').text().startswith(caption)]
+    """The rows of the table whose caption begins so; post 1 is not post 10."""
+    begins = re.compile(re.escape(caption) + r'(?!\d)')
+    found = [table for table in page.all('table') if begins.match(table.one('caption').text())]
     return list(found[0].one('tbody').all('tr')) if len(found) == 1 else []
 
 

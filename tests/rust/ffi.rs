@@ -2,7 +2,7 @@
 //! that links librokemaipu.a; main.rs holds it to the header.
 #![allow(dead_code)]
 
-pub const POSTS: usize = 8;
+pub const POSTS: usize = 16;
 pub const KINDS: usize = 30;
 pub const PLACES: usize = 21;
 pub const KEPT: usize = 2;
@@ -75,6 +75,7 @@ pub struct Post {
 #[derive(Clone, Copy, Debug, PartialEq)]
 pub struct Table {
     pub posts: [Post; POSTS],
+    pub index: [u32; CHANNELS],
     pub refused: u64,
 }
 
@@ -87,7 +88,7 @@ pub struct Replay {
 }
 
 /// What `rokemaipu_layout` answers where the library has this table.
-pub const LAYOUT: u64 = std::mem::size_of::<Table>() as u64 + ((POSTS as u64) << 32) + ((PLACES as u64) << 40) + (4 << 48);
+pub const LAYOUT: u64 = std::mem::size_of::<Table>() as u64 + ((POSTS as u64) << 32) + ((PLACES as u64) << 40) + (5 << 48);
 
 impl Table {
     /// Zeroed memory is the empty table.

@@ -31,7 +31,8 @@ fn sizes() {
         fields!(Head as "head": used channel limits heard time controller parameters session counts),
         vec![format!("ROKEMAIPU_IS(ROKEMAIPU_COUNTS, {});", COUNTS)],
         fields!(Post as "post": head latest),
-        fields!(Table as "table": posts refused),
+        fields!(Table as "table": posts index refused),
+        vec![format!("ROKEMAIPU_IS(ROKEMAIPU_CHANNELS, {});", CHANNELS)],
         fields!(Replay as "replay": table count course),
     ]
     .concat();

@@ -60,6 +60,29 @@ fn posts() {
     assert_eq!(t, Table::empty());
 }
 
+/// Sixteen posts, and the index from channel to post beside them: after a set-up, a second one and a release.
+fn index() {
+    let (mut t, mut index) = (Table::empty(), [0; CHANNELS]);
+    for post in 0..POSTS as u32 {
+        assert_eq!(unsafe { rokemaipu_set_up(&mut t, post, 2 * post, 5000, 1000, 500, 500, 0, NEWER) }, 0);
+        index[2 * post as usize] = post + 1;
+        assert_eq!(t.index, index);
+    }
+    unsafe {
+        assert_eq!(rokemaipu_set_up(&mut t, 16, 31, 5000, 1000, 500, 500, 0, NEWER), REFUSED + 9);
+        assert_eq!(rokemaipu_set_up(&mut t, 15, 31, 5000, 1000, 500, 500, 0, NEWER), 0);
+        (index[30], index[31]) = (0, 16);
+        assert_eq!(t.index, index);
+        assert_eq!((rokemaipu_holder(&t, 31), rokemaipu_holder(&t, 30)), (15, REFUSED + 1));
+        assert_eq!(rokemaipu_release(&mut t, 0), 0);
+        index[0] = 0;
+        assert_eq!(t.index, index);
+        t.index[1] = 16; // one that is not true leads to no post that does not hold the channel
+        assert_eq!(rokemaipu_tick(&mut t, 1, 0), REFUSED + 1);
+    }
+    assert!(t.posts.iter().all(|post| post.head.heard == 0));
+}
+
 /// A post of the older interface beside one of the newer: each hears its own pages.
 fn interfaces() {
     let mut t = Table::empty();
@@ -177,11 +200,12 @@ fn main() {
     header::same();
     assert_eq!(unsafe { rokemaipu_layout() }, LAYOUT);
     posts();
+    index();
     interfaces();
     frames();
     log();
     batch();
     compare();
     replay();
-    println!("Rust: sizes, offsets, numbers and functions are the header's; posts of either interface, frames, the log, a batch, a comparison and a replay over the archive");
+    println!("Rust: sizes, offsets, numbers and functions are the header's; sixteen posts and their index, posts of either interface, frames, the log, a batch, a comparison and a replay over the archive");
 }

@@ -124,7 +124,7 @@ class Statuses(unittest.TestCase):
         for set_ups, bytes_, want, words, said in [
             (SET_UP, TICK, WELL, '1 0 A0\n\nEND: the log is whole\n1 records: 1 accepted, 0 refused\n', ''),
             (SET_UP, CUT, PARTLY, '1 0 A0\n\nCUT@5: a piece of a record is left over from byte 5 on\n1 records: 1 accepted, 0 refused\n', ''),
-            ('setup 8 2 5000 2000 500 500\n', TICK, PARTLY, '\nSETUP R9: post number above 7\n', 'replay: a.posts: line 1: the set-up is refused\n'),
+            ('setup 16 2 5000 2000 500 500\n', TICK, PARTLY, '\nSETUP R9: post number above 15\n', 'replay: a.posts: line 1: the set-up is refused\n'),
             ('hello\n', TICK, PARTLY, '', 'replay: a.posts: line 1: no setup POST CHANNEL VOLT CHG DIS W [SENSOR [IFACE]]\n'),
             (SET_UP, None, FAILED, '', 'replay: a.log: No such file or directory\n'),
         ]:

@@ -30,8 +30,8 @@ found = faults(**right)
 for fault in found:
     print(f'version: {fault}', file=sys.stderr)
 # each is found where it is wrong
-for wrong in ({'version': '1.1\n'}, {'header': header.replace('ROKEMAIPU_VERSION 2', 'ROKEMAIPU_VERSION 9')}, {'changes': changes.replace('\n## ', '\n## 9', 1)},
-              {'notes': [*notes, '99.md']}, {'candump': candump.replace('VERSION: &str = "2', 'VERSION: &str = "9')}):
+for wrong in ({'version': '1.1\n'}, {'header': header.replace('ROKEMAIPU_VERSION ', 'ROKEMAIPU_VERSION 9')}, {'changes': changes.replace('\n## ', '\n## 9', 1)},
+              {'notes': [*notes, '99.md']}, {'candump': candump.replace('VERSION: &str = "', 'VERSION: &str = "9')}):
     if len(faults(**{**right, **wrong})) <= len(found):
         sys.exit('version: the test itself is wrong')
 if found or not notes:

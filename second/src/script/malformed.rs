@@ -87,13 +87,27 @@ const ODD_LINES: [&[u8]; 84] = [
     b"replay - 0,0,1,1,0,100;;1,1,1,1,0,100",
     b"replay - 0,0,1,1,0",
     b"replay - 0,0,1,1,0,100,0,0,0",
-    b"replay - 8,0,1,1,0,100;0,0,1,1,0,00100",
+    b"replay - 16,0,1,1,0,100;0,0,1,1,0,00100",
     b"replay - 0 0 1 1 0 100",
 ];
 
-/// The one step without a field has odd lines of its own.
-const NO_COUNTS: [&[u8]; 7] =
-    [b"refused ", b"refused 0", b"refused -", b"refused refused", b"refuse", b"refusedd", b"Refused"];
+/// The two steps without a field have odd lines of their own.
+const NO_FIELDS: [&[u8]; 14] = [
+    b"refused ",
+    b"refused 0",
+    b"refused -",
+    b"refused refused",
+    b"refuse",
+    b"refusedd",
+    b"Refused",
+    b"index ",
+    b"index 0",
+    b"index -",
+    b"index index",
+    b"inde",
+    b"indexx",
+    b"Index",
+];
 
 /// Records of four bytes; no other of any length makes so much text of a byte.
 const LONG_ANSWER: &[u8] = b"7f1f7f00";
@@ -101,13 +115,13 @@ const TICK: &[u8] = b"00000009";
 
 impl Generator {
     pub fn malformed(&mut self) -> Vec<u8> {
-        match self.rng.below(19) {
+        match self.rng.below(21) {
             0 => self.long(),
             1..=5 => self.rng.pick(&ODD_LINES).to_vec(),
-            6 => self.rng.pick(&NO_COUNTS).to_vec(),
+            6..=8 => self.rng.pick(&NO_FIELDS).to_vec(),
             _ => {
                 let line = match self.rng.below(11) {
-                    0 => format!("setup 9 40 5000 1000 500 500{}", self.rng.pick(&["", " 1", " 1 1"])),
+                    0 => format!("setup 16 40 5000 1000 500 500{}", self.rng.pick(&["", " 1", " 1 1"])),
                     1 => self.record(),
                     2 => self.read(),
                     3 => self.change(),

@@ -164,7 +164,7 @@ fn power_modules_limits(rng: &mut Rng, post: &Sketch) -> Message {
     let [voltage, charge] = [post.limits.volt, post.limits.charge].map(i64::from);
     let voltage = rng.pick(&[0, 1, voltage / 2, voltage - 1, voltage, voltage + 1, 65_535]);
     let around = [charge / 2, charge - 1, charge, charge + 1];
-    let current = if rng.chance(50) { rng.pick(&[0, -1, -1, 1, -32_768, 32_767]) } else { rng.pick(&around) };
+    let current = if rng.chance(50) { rng.pick(&[0, 0, -1, 1, -32_768, 32_767]) } else { rng.pick(&around) };
     let reserved = rng.pick(&[0, 1, u32::MAX.into()]);
     Message::new(Kind::PowerModulesLimits, &[voltage.clamp(0, 65_535), current.min(32_767), reserved])
 }

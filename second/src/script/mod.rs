@@ -30,9 +30,9 @@ pub struct Extras {
 /// A script of that many steps; comments and blank lines come on top.
 pub fn script(seed: u64, steps: usize, extras: Extras) -> Vec<Vec<u8>> {
     let mut generator = Generator::new(seed, extras);
-    // The one place where surely nothing was refused.
-    let mut lines = vec![b"refused".to_vec()];
-    let mut written = 1;
+    // The one place where surely nothing was refused, and nobody set up.
+    let mut lines = vec![b"refused".to_vec(), b"index".to_vec()];
+    let mut written = 2;
     while written < steps {
         let line = generator.line();
         written += usize::from(is_step(&line));
@@ -70,6 +70,8 @@ enum Sort {
     OtherInterface,
     Record,
     RefusedCount,
+    Index,
+    Crowd,
     SetUp,
     RefusedSetUp,
     Release,
@@ -113,15 +115,26 @@ impl Generator {
             Sort::OtherInterface => self.of_the_other_interface().into_bytes(),
             Sort::Record => self.record().into_bytes(),
             Sort::RefusedCount => b"refused".to_vec(),
+            Sort::Index => b"index".to_vec(),
+            Sort::Crowd => self.crowd().into_bytes(),
             Sort::SetUp => {
                 let line = self.set_up();
                 // Now and then the record at once, before anything comes to the post.
                 self.following.extend(self.rng.chance(20).then(|| format!("record {}", self.busy)));
-                line.into_bytes()
+                self.indexed(line)
             }
-            Sort::RefusedSetUp => self.refused_set_up().into_bytes(),
-            Sort::Release => self.release().into_bytes(),
-            Sort::RefusedRelease => self.refused_release().into_bytes(),
+            Sort::RefusedSetUp => {
+                let line = self.refused_set_up();
+                self.indexed(line)
+            }
+            Sort::Release => {
+                let line = self.release();
+                self.indexed(line)
+            }
+            Sort::RefusedRelease => {
+                let line = self.refused_release();
+                self.indexed(line)
+            }
             Sort::Read => self.read().into_bytes(),
             Sort::Change => self.change().into_bytes(),
             Sort::Write => self.write().into_bytes(),
@@ -135,6 +148,12 @@ impl Generator {
             Sort::Remark => self.remark(),
             Sort::Explain => self.explain().into_bytes(),
         }
+    }
+
+    /// A line that moves the index, or must not; now and then the index comes at once.
+    fn indexed(&mut self, line: String) -> Vec<u8> {
+        self.following.extend(self.rng.chance(30).then(|| "index".to_string()));
+        line.into_bytes()
     }
 
     fn sort(&mut self) -> Sort {
@@ -152,6 +171,8 @@ impl Generator {
             (60, Sort::OtherInterface),
             (60, Sort::Record),
             (50, Sort::RefusedCount),
+            (40, Sort::Index),
+            (2, Sort::Crowd),
             (restless, Sort::SetUp),
             (35, Sort::RefusedSetUp),
             (restless / 4 + 2, Sort::Release),

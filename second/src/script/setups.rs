@@ -6,7 +6,7 @@ use crate::clock::EARLIER;
 use crate::posts::{CHANNELS, POSTS};
 use crate::rules::Limits;
 
-const POSTS_BEYOND: [u64; 4] = [8, 9, 255, 4_294_967_295];
+const POSTS_BEYOND: [u64; 6] = [16, 16, 16, 17, 255, 4_294_967_295];
 const CHANNELS_BEYOND: [u64; 4] = [32, 33, 64, 4_294_967_295];
 
 /// Limits inside their range, and outside, most often just outside.
@@ -34,9 +34,35 @@ impl Generator {
             Some(channel) if self.rng.chance(50) => channel,
             _ => self.free_channel(),
         };
+        // What comes on a channel that was left goes to nobody.
+        if let Some(left) = own.filter(|own| *own != channel && self.rng.chance(30)) {
+            self.following.push_back(format!("tick {left} {}", self.rng.below(100_000)));
+        }
         let limits = self.limits();
         self.sketch(post as usize, channel as u32, limits);
         self.set_up_line(post, channel, limits)
+    }
+
+    /// All sixteen posts at once, and few of them afterwards, so that the traffic does not scatter for long.
+    pub fn crowd(&mut self) -> String {
+        let mut lines: Vec<String> = Vec::new();
+        for post in self.places(false) {
+            lines.push(self.set_up_post(post));
+        }
+        lines.push("index".to_string());
+        let (channel, limits) = (self.free_channel(), self.limits());
+        lines.push(self.set_up_line(16, channel, limits));
+        for _ in 0..6 {
+            lines.push(self.traffic());
+        }
+        while self.places(true).len() > 4 {
+            self.busy = self.rng.pick(&self.places(true)) as usize;
+            self.posts[self.busy] = None;
+            lines.push(format!("release {}", self.busy));
+        }
+        lines.push("index".to_string());
+        self.following.extend(lines.split_off(1));
+        lines.remove(0)
     }
 
     /// A set-up with one thing wrong, or with several.
@@ -74,9 +100,9 @@ impl Generator {
 
     /// Of a post that is not set up, or of none.
     pub fn refused_release(&mut self) -> String {
-        let mut posts = self.places(false);
-        posts.extend(POSTS_BEYOND);
-        format!("release {}", self.rng.pick(&posts))
+        let free = self.places(false);
+        let posts = if free.is_empty() || self.rng.chance(40) { &POSTS_BEYOND[..] } else { &free };
+        format!("release {}", self.rng.pick(posts))
     }
 
     pub fn record(&mut self) -> String {
@@ -99,7 +125,7 @@ impl Generator {
 
     fn some_post(&mut self) -> u64 {
         match self.rng.below(20) {
-            0 => self.rng.pick(&POSTS_BEYOND),
+            0 | 4 => self.rng.pick(&POSTS_BEYOND),
             1 => self.rng.pick(&self.places(false)),
             2 | 3 => self.rng.below(POSTS as u64),
             _ => self.busy as u64,
