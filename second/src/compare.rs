@@ -211,6 +211,8 @@ mod tests {
                         Some(("log", _)) => lines == 1 && bytes <= 40,
                         Some(("label", _)) => lines <= 2 && bytes <= 64,
                         Some(("sensor" | "safety" | "older", _)) => lines <= 5,
+                        // A set-up, an opening, a stop, an end and an opening before or behind it, and what shows it.
+                        Some(("stop", _)) => lines <= 6,
                         // A set-up, what moves or drops it, and what shows that.
                         Some(("index", _)) => lines <= 3,
                         // Two steps of less than 2^31 ms are less than a round.
