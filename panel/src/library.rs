@@ -5,10 +5,7 @@
 mod ffi;
 
 use ffi::*;
-pub use ffi::{BATCH_BYTES, CHANNELS, COUNTS, KINDS, POSTS, REFUSED, SIGNALS};
-
-/// The findings are F1 to this one.
-pub const FINDINGS: usize = COUNTS - 1;
+pub use ffi::{BATCH_BYTES, CHANNELS, COUNTS, FINDINGS, KINDS, POSTS, REFUSED, SIGNALS};
 
 /// A refusal's number.
 #[derive(Clone, Copy, Debug, PartialEq, Eq)]
