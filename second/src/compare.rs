@@ -217,7 +217,8 @@ mod tests {
                         Some(("index", _)) => lines <= 3,
                         // Two steps of less than 2^31 ms are less than a round.
                         Some(("clock", _)) => lines <= 6,
-                        Some(("replay", _)) => lines <= 3 && bytes <= 100,
+                        // An opening and a status of 001 have eight bytes each.
+                        Some(("replay", _)) => lines <= 3 && bytes <= 110,
                         // A batch of the largest size cannot be made smaller.
                         Some(("batch", _)) => lines <= 4,
                         // Neither can two logs around 512 records.
