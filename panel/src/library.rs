@@ -64,6 +64,7 @@ pub struct Kept {
 pub enum Part {
     Status = 0,
     Control = 1,
+    Stop = 2,
 }
 
 /// Document 000's pages, or 001's.
@@ -162,6 +163,7 @@ impl Depot {
         let usual = match part {
             Part::Status => 0,
             Part::Control => 5,
+            Part::Stop => 7,
         };
         self.kept(rokemaipu_in_session, post, part as u32, usual)
     }
