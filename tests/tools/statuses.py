@@ -106,7 +106,7 @@ class Statuses(unittest.TestCase):
         posts = Path('a.posts')
         for set_ups, bytes_, want in [
             (SET_UP, TICK, WELL), ('', b'', WELL), (SET_UP, CUT, PARTLY), (SET_UP, BAD, PARTLY), (SET_UP, TICK + record('tick 9 1'), WELL),
-            ('setup 8 2 5000 2000 500 500\n', TICK, PARTLY), ('setup 0 2\n', TICK, PARTLY), ('#' * 65536, TICK, FAILED),
+            ('setup 16 2 5000 2000 500 500\n', TICK, PARTLY), ('setup 0 2\n', TICK, PARTLY), ('#' * 65536, TICK, FAILED),
         ]:
             posts.write_text(set_ups)
             self.assertEqual(self.status('replay', posts, 'a', fresh=('a', bytes_)), want, (set_ups[:20], bytes_))
@@ -142,13 +142,13 @@ class Statuses(unittest.TestCase):
     def test_desk(self):
         for script, want in [
             (SET_UP + 'tick 2 300\ntick 3 1\nrecord 0\n', WELL), ('', WELL), ('# ?\n\n' + '#' * 70000 + '\n', WELL),
-            ('release 9\nrecord 9\nexplain R9\n', WELL), ('logr ac02020009\nreplay ac02020009 -\n', WELL), ('write 6b000 x 1 -\nread 1 x 00\n', WELL),
+            ('release 16\nrecord 16\nindex\nexplain R9\n', WELL), ('logr ac02020009\nreplay ac02020009 -\n', WELL), ('write 6b000 x 1 -\nread 1 x 00\n', WELL),
             ('hello\n', PARTLY), ('hello', PARTLY), ('tick 2 300 1\ntick 2 300\n', PARTLY), ('x' * 70000 + '\n', PARTLY),
-            ('setup 8 2 5000 2000 500 500', PARTLY), (SET_UP + 'release 9\n' + SET_UP.replace('0 2', '1 2') + 'tick 2 1\n', PARTLY),
-            ('logr ac020200\n', PARTLY), ('logr 8000\n', PARTLY), ('replay ac020200 -\n', PARTLY), ('replay - 8,2,5000,2000,500,500\n', PARTLY),
+            ('setup 16 2 5000 2000 500 500', PARTLY), (SET_UP + 'release 16\n' + SET_UP.replace('0 2', '1 2') + 'tick 2 1\n', PARTLY),
+            ('logr ac020200\n', PARTLY), ('logr 8000\n', PARTLY), ('replay ac020200 -\n', PARTLY), ('replay - 16,2,5000,2000,500,500\n', PARTLY),
         ]:
             self.assertEqual(self.status('desk', told=script.encode()), want, script[:40])
-        self.assertEqual(self.status('desk', 'lent', told=b'setup 8 2 5000 2000 500 500'), PARTLY)
+        self.assertEqual(self.status('desk', 'lent', told=b'setup 16 2 5000 2000 500 500'), PARTLY)
         here = os.open('folder', os.O_RDONLY)
         self.assertEqual(self.status('desk', stdin=here), FAILED)
         os.close(here)
@@ -160,7 +160,7 @@ class Statuses(unittest.TestCase):
         script = (ROOT / 'nights/march.desk').read_bytes()
         self.assertEqual(self.status('desk', told=script), PARTLY, 'a set-up of the March night is refused')
         self.assertEqual(self.status('desk', told=b'tick 1 1\n' * 100000), WELL)
-        self.assertEqual(self.status('desk', told=b'tick 1 1\n' * 100000 + b'release 9\nsetup 9 1 1 1 1 1\n'), PARTLY)
+        self.assertEqual(self.status('desk', told=b'tick 1 1\n' * 100000 + b'release 16\nsetup 16 1 1 1 1 1\n'), PARTLY)
 
     def test_compare(self):
         """As `cmp` has them: 0 same, 1 differ, 2 trouble."""
@@ -187,7 +187,7 @@ class Statuses(unittest.TestCase):
 
         self.assertEqual((made('run').returncode, made('run').stdout.splitlines()[-2]), (0, '490 records: 490 accepted, 0 refused'))
         refused = 'Nothing was replayed: the set-up in line 1 of '
-        for set_ups, log, told in (SET_UP, CUT, 'The log is cut'), (SET_UP.replace(' 0', ' 8', 1), TICK, refused), (SET_UP, b'', 'The log holds no record.'):
+        for set_ups, log, told in (SET_UP, CUT, 'The log is cut'), (SET_UP.replace(' 0', ' 16', 1), TICK, refused), (SET_UP, b'', 'The log holds no record.'):
             Path('statuses.posts').write_text(set_ups)
             Path('statuses.log').write_bytes(log)
             done = made('report', f'NIGHT={os.getcwd()}/statuses.log', f'POSTS={os.getcwd()}/statuses.posts')
