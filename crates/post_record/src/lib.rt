@@ -4,10 +4,11 @@ ghost use mathlib.Core.List.{map};
 ghost use mathlib.Core.Path.{_≡_};
 ghost use Prim.Native.Nat.{_+_};
 ghost use Rattle.rules.specs.History.{countFrom};
-ghost use Rattle.rules.specs.Times.{receivedOf, ageOf};
 ghost use Rattle.rules.specs.Record.{placeCount, datedAt, unknown};
 ghost use Rattle.rules.specs.Right.{RecordRight};
 ghost use Rattle.rules.specs.After.{datedIn, partIn, lastIn, findingCount, postRecord};
+use post_ages::age;
+use post_ages::received;
 use rule_asks::is_set;
 use rule_limits::kept::limits_in;
 use rules::CONTROL_PLACE;
@@ -25,27 +26,6 @@ use rules::STATUS_PLACE;
 use rules::Session;
 use rules::SessionPart;
 use rules::Slot;
-
-// A kept time as it was received.
-pub fn received(time: u64) -> u32
-    ensures { λ r. ⌜ r ≡ receivedOf time ⌝ }
-{
-    (time % 4294967296) as u32
-}
-
-// The ms from a kept time to the post's latest: "an age stops growing at 4,294,967,295" (02, Req 09).
-pub fn age(now: u64, from: u64) -> u32
-    ensures { λ r. ⌜ r ≡ ageOf now from ⌝ }
-{
-    if now <= from {
-        return 0;
-    }
-    let ms = now - from;
-    if 4294967295 < ms {
-        return 4294967295;
-    }
-    ms as u32
-}
 
 // A frame by its message: of documents 000 and 004, or of 001.
 fn dated_at(time: u32, ms: u32, kind: usize, raw: u64) -> Dated
