@@ -31,7 +31,7 @@ use Rattle.log_records.specs.Reading.{foundAt, onward, readFrom, logOf, records
 use Rattle.watch_rules.specs.declared.Answer.the-variants.{Refused}
 use Rattle.watch_rules.specs.declared.Arrival.{Arrival}
 use Rattle.watch_rules.specs.declared.Arrival.the-variants.{Tick, Frame, Unread}
-use Rattle.watch_rules.specs.Table.{isChannel, arrivalOf, Arriving}
+use Rattle.watch_rules.specs.Table.{postCount, isChannel, arrivalOf, Arriving}
 use Rattle.watch_rules.specs.Steps.{Steps, Standing, free, held, standing, holder, found01, answerIn, feed01, feedSteps}
 use Rattle.playing_line.specs.Lines.{lineRoom, InWords, AllShort}
 use Rattle.playing_nights.specs.Fed.{timeOf, channelOf, arrivalIn, lines01From}

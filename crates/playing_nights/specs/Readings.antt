@@ -81,10 +81,12 @@ cases =
     -- channel 32 in a log: "the byte where that record began"
     ∷ (set-up 0 2 ∷ [], ticks ++ (0x00 ∷ 0x20 ∷ []), lineRoom, record { lines = told; ending = Bad LogChannel 10 })
     -- "a refused one ends the replay with its number and no line", also where a later one would be accepted
-    ∷ (set-up 8 2 ∷ set-up 0 2 ∷ [], ticks, lineRoom, record { lines = []; ending = SetUp NoSuchPost })
+    ∷ (set-up 16 2 ∷ set-up 0 2 ∷ [], ticks, lineRoom, record { lines = []; ending = SetUp NoSuchPost })
     ∷ (set-up 0 2 ∷ set-up 1 2 ∷ [], ticks, lineRoom, record { lines = []; ending = SetUp ChannelTaken })
     -- "a line buffer under 40 bytes gets 8 first"
-    ∷ (set-up 8 2 ∷ [], ticks, 39, record { lines = []; ending = Short })
+    ∷ (set-up 16 2 ∷ [], ticks, 39, record { lines = []; ending = Short })
+    -- Req 13: "1 15 A0", and post 8 is one
+    ∷ (set-up 8 3 ∷ set-up 15 2 ∷ [], ticks, lineRoom, record { lines = (49 ∷ 32 ∷ 49 ∷ 53 ∷ 32 ∷ 65 ∷ 48 ∷ 10 ∷ []) ∷ (50 ∷ 32 ∷ 45 ∷ 32 ∷ 82 ∷ 49 ∷ 10 ∷ []) ∷ []; ending = End })
     -- Req 11: an older post and a newer one, each with the other's frame
     ∷ (older 0 2 ∷ set-up 1 3 ∷ [], statuses, lineRoom, record { lines = foreign; ending = End })
     ∷ []
