@@ -140,7 +140,7 @@ static void lying(void) {
             t = made, t.index[channel] = said;
             rokemaipu_table was = t;
             bool held = holds(&t, named(&t, channel), channel);
-            IS(held, channel % 3 == 0 && channel < 16 && (said == channel + 1 || (!channel && (!said || said > 16)))); /* the first where it names none */
+            IS(held, channel % 3 == 0 && channel < 16 && said % 16 == (channel + 1) % 16); /* what names no post comes round to one */
             IS(rokemaipu_holder(&t, channel), held ? channel : R(1));
             IS(heard(channel, 7), held ? 4 : 0);
             believed += held;
@@ -148,7 +148,7 @@ static void lying(void) {
             else was.refused += 4;
             IS(memcmp(&was, &t, sizeof t), 0); /* no other post was touched, and nothing reads behind the sixteen */
         }
-    IS(believed, 6 + 1 + sizeof odd / sizeof *odd);
+    IS(believed, 6 + 1 + 8); /* what names them, 0 for the last, and eight of the odd ones */
     puts("lying: whatever number stands in the index, no post hears what comes on a channel that it does not hold");
 }
 

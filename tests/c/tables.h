@@ -46,8 +46,8 @@ static inline uint32_t searched(const rokemaipu_table *t, uint32_t channel) {
     return 0;
 }
 
-/* the post that the index names, and the first where it names none; whether it holds the channel is asked of it */
-static inline uint32_t named(const rokemaipu_table *t, uint32_t channel) { return t->index[channel] - 1 < ROKEMAIPU_POSTS ? t->index[channel] - 1 : 0; }
+/* the post that the index names, and some post where it names none, since the numbers come round; whether it holds the channel is asked of it */
+static inline uint32_t named(const rokemaipu_table *t, uint32_t channel) { return (t->index[channel] - 1) % ROKEMAIPU_POSTS; }
 
 /* mostly true, and any number may stand there */
 static void random_index(rokemaipu_table *t) {
