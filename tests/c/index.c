@@ -129,7 +129,8 @@ static uint32_t heard(uint32_t channel, uint32_t time) {
 }
 
 static void lying(void) {
-    static const uint32_t odd[] = {17, 18, 32, 33, 255, 256, 257, 65537, 0x80000000, 0x80000001, UINT32_MAX - 1, UINT32_MAX};
+    /* post 3 holds channel 3, and its 4 may not come out of the low bits of another number */
+    static const uint32_t odd[] = {17, 18, 20, 32, 33, 36, 255, 256, 260, 65540, 0x80000000, 0x80000004, UINT32_MAX - 1, UINT32_MAX};
     uint32_t believed = 0;
     memset(&t, 0, sizeof t);
     for (uint32_t post = 0; post < 16; post += 3) IS(rokemaipu_set_up(&t, post, post, 5000, 1000, 500, 500, 0, ROKEMAIPU_NEWER), 0); /* 0, 3, .., 15 */
