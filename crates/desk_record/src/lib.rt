@@ -251,13 +251,12 @@ fn put_holder(out: &mut [u8], pen: Pen, name: u32) -> Pen {
     named(out, pen, b" ", name - 1)
 }
 
-fn put_index(table: Table, out: &mut [u8], pen: Pen) -> Pen {
+fn put_index(out: &mut [u8], pen: Pen, index: [u32; CHANNELS]) -> Pen {
     let mut p = pen;
     let mut c = 0;
     while c < CHANNELS {
-        let name = table.index[c];
+        p = put_holder(out, p, index[c]);
         c += 1;
-        p = put_holder(out, p, name);
     }
     p
 }
@@ -267,7 +266,8 @@ pub fn index(table: Table, s: &[u8], at: usize, out: &mut [u8], pen: Pen) -> Pen
     if at <= s.len() {
         return answer::unknown(out, pen);
     }
+    let names = table.index;
     let p = text_pen::put(out, pen, b"I");
-    let q = put_index(table, out, p);
+    let q = put_index(out, p, names);
     text_pen::put(out, q, b"\n")
 }
