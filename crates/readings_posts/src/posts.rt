@@ -218,7 +218,7 @@ fn stops() {
     t = frame(t, 4, 8, CONTROL, &[0x88u8, 0x13, 0, 0, 0, 0, 0x02]);
     t = frame(t, 4, 9, CONTROL, &[0x88u8, 0x13, 0, 0, 0, 0, 0x04]);
     t = frame(t, 4, 10, CONTROL, &[0x88u8, 0x13, 0, 0, 0, 0, 0x08]);
-    t = frame(t, 4, 11, STOP, &[2u8]);
+    t = frame(t, 4, 11, STOP, &[3u8]);
     record(t, 0);
     t = frame(t, 4, 12, FINISHED, &[0u8]);
     t = frame(t, 4, 13, CONTROL, &[0x88u8, 0x13, 0, 0, 0, 0, 0x08]);

@@ -24,7 +24,7 @@ use Rattle.rule_asks.specs.Judgements.{lowersBadly, outside, leaking, badInsula
 use Rattle.rules.specs.History.{History, Said, saidAt, sinceFinished, opening, inSession}
 use Rattle.rules.specs.History as history
 use Rattle.rules.specs.Times.{earlierIn, Unrolled}
-use Rattle.rules.specs.Rules.{sessionStatus, sessionControl, limitOf, f1, f2, f3, f4, f5, f6, f7, f8, f9, f10, f11, rules01, findings01}
+use Rattle.rules.specs.Rules.{sessionStatus, sessionControl, sessionStop, limitOf, f1, f2, f3, f4, f5, f6, f7, f8, f9, f10, f11, f12, rules01, findings01}
 use Rattle.rules.specs.Counts.{talliesOf}
 use Rattle.rules.specs.Record.{recordOf}
 use Rattle.watch_rules.specs.declared.Answer.the-variants.{Findings}
@@ -82,7 +82,7 @@ more =
 
 computed : (standing 0 (accepted plain) ≡ held 4 limits (whole fewer)) × (standing 0 (accepted ticking) ≡ held 4 limits (whole more))
     × (judged limits (whole fewer) ≡ 1 ∷ 16 ∷ 0 ∷ []) × (judged limits (whole more) ≡ 0 ∷ 1 ∷ 1 ∷ 16 ∷ 0 ∷ 0 ∷ [])
-unfolding standing findFrom holder otherHolds feed01 setUp01 feedSteps setUpSteps limitsFit accepted sinceFinished opening inSession earlierIn lowersBadly outside leaking badInsulation differs sessionStatus sessionControl limitOf f1 f2 f3 f4 f5 f6 f7 f8 f9 f10 f11 findings01 rows ofKind firstAt covered unlabelled strayBelow judgedNumber judgeOn isForeign judgeFor roleOf statusBy openingBy limitsBy commandBy wholesOf pad rawsOf getBits leNumber toSigned statusIn parametersIn sessionIn controlIn
+unfolding standing findFrom holder otherHolds feed01 setUp01 feedSteps setUpSteps limitsFit accepted sinceFinished opening inSession earlierIn lowersBadly outside leaking badInsulation differs sessionStatus sessionControl sessionStop limitOf f1 f2 f3 f4 f5 f6 f7 f8 f9 f10 f11 f12 findings01 rows ofKind firstAt covered unlabelled strayBelow judgedNumber judgeOn isForeign judgeFor roleOf statusBy openingBy limitsBy commandBy wholesOf pad rawsOf getBits leNumber toSigned statusIn parametersIn sessionIn controlIn
 computed = (refl, refl, refl, refl)
 
 -- F1 of the late status and F5 of the Charging_Loop, with the ticks and without them
@@ -111,7 +111,7 @@ opened = saidAt 1000 sessionKind 258
 
 silent-there : (standing 0 (accepted quiet) ≡ held 4 limits since) × (opening heard ≡ some opened) × (inSession heard ≡ history.tick 1200 ∷ history.tick 1100 ∷ [])
     × (sessionStatus heard ≡ none)
-unfolding standing findFrom holder otherHolds feed01 setUp01 feedSteps setUpSteps limitsFit accepted sinceFinished opening inSession earlierIn lowersBadly outside leaking badInsulation differs sessionStatus sessionControl limitOf f1 f2 f3 f4 f5 f6 f7 f8 f9 f10 f11 findings01 rows ofKind firstAt covered unlabelled strayBelow judgedNumber judgeOn isForeign judgeFor roleOf statusBy openingBy limitsBy commandBy wholesOf pad rawsOf getBits leNumber toSigned statusIn parametersIn sessionIn controlIn
+unfolding standing findFrom holder otherHolds feed01 setUp01 feedSteps setUpSteps limitsFit accepted sinceFinished opening inSession earlierIn lowersBadly outside leaking badInsulation differs sessionStatus sessionControl sessionStop limitOf f1 f2 f3 f4 f5 f6 f7 f8 f9 f10 f11 f12 findings01 rows ofKind firstAt covered unlabelled strayBelow judgedNumber judgeOn isForeign judgeFor roleOf statusBy openingBy limitsBy commandBy wholesOf pad rawsOf getBits leNumber toSigned statusIn parametersIn sessionIn controlIn
 silent-there = (refl, refl, refl, refl)
 
 silence : Silent limits opened 1000 heard (history.frame 1201 statusKind allowed)
