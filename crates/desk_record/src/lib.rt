@@ -88,15 +88,21 @@ fn put_open(out: &mut [u8], pen: Pen, s: OpenSession) -> Pen {
     let plug = s.plug;
     let status = s.status;
     let control = s.control;
+    let stop = s.stop;
     let p = put_time(out, pen, b" open=1 since=", s.since, s.age);
     let q = put_first(out, p, protocol, plug);
     let r = put_part(out, q, b" spms=", status);
-    put_part(out, r, b" sdpc=", control)
+    let t = put_part(out, r, b" sdpc=", control);
+    put_part(out, t, b" sstop=", stop)
 }
 
 fn put_session(out: &mut [u8], pen: Pen, s: SessionPart) -> Pen {
     match s {
-        SessionPart::Closed => text_pen::put(out, pen, b" open=0 since=- first=- spms=- sdpc=-"),
+        SessionPart::Closed => text_pen::put(
+            out,
+            pen,
+            b" open=0 since=- first=- spms=- sdpc=- sstop=-",
+        ),
         SessionPart::Opened(o) => put_open(out, pen, o),
     }
 }

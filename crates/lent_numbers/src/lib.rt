@@ -41,7 +41,7 @@ fn numbers_of(p: Post) -> [u32; NUMBERS]
     let sensor = sensor_of(l.sensor);
     let interface = interface_of(l.interface);
     let s = h.session;
-    let heard = is_set(h.heard);
+    let heard = is_set(h.heard as u64);
     let opened = is_set(s.opened);
     let n = message_parts::session_in(s.first);
     let protocol = n.protocol;

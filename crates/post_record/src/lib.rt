@@ -23,6 +23,7 @@ use rules::PLACES;
 use rules::Post;
 use rules::Record;
 use rules::STATUS_PLACE;
+use rules::STOP_PLACE;
 use rules::Session;
 use rules::SessionPart;
 use rules::Slot;
@@ -56,11 +57,13 @@ fn part(now: u64, s: Session) -> SessionPart
     }
     let st = s.kept[STATUS_PLACE];
     let ct = s.kept[CONTROL_PLACE];
+    let em = s.kept[STOP_PLACE];
     let n = message_parts::session_in(s.first);
     let protocol = n.protocol;
     let plug = n.plug;
     let status = dated(now, st);
     let control = dated(now, ct);
+    let stop = dated(now, em);
     SessionPart::Opened(OpenSession {
         since: received(s.since),
         age: age(now, s.since),
@@ -68,13 +71,14 @@ fn part(now: u64, s: Session) -> SessionPart
         plug,
         status,
         control,
+        stop,
     })
 }
 
 fn last_time(h: Head) -> LastTime
     ensures { λ r. ⌜ r ≡ lastIn h ⌝ }
 {
-    if is_set(h.heard) {
+    if is_set(h.heard as u64) {
         LastTime::At(received(h.time))
     } else {
         LastTime::Never
