@@ -91,10 +91,10 @@ static uint32_t judge_for(uint32_t interface, uint32_t id, bool extended, const 
 }
 
 /* What a frame of either interface is to the rules, and where the latest of its kind stands. */
-enum { STATUS_OF = 1, LIMITS_TOLD, CONTROLLER_OF, OPENING, COMMAND, FINISHED };
+enum { STATUS_OF = 1, LIMITS_TOLD, CONTROLLER_OF, OPENING, COMMAND, FINISHED, STOPPING };
 static uint32_t asked(uint32_t kind) {
-    static const uint8_t all[ROKEMAIPU_KINDS] = {[0] = STATUS_OF, [1] = LIMITS_TOLD, [2] = CONTROLLER_OF, [3] = OPENING, [5] = COMMAND, [6] = FINISHED,
-        [12] = STATUS_OF, [13] = LIMITS_TOLD, [23] = CONTROLLER_OF, [16] = OPENING, [17] = COMMAND, [18] = COMMAND, [20] = COMMAND, [22] = FINISHED};
+    static const uint8_t all[ROKEMAIPU_KINDS] = {[0] = STATUS_OF, [1] = LIMITS_TOLD, [2] = CONTROLLER_OF, [3] = OPENING, [5] = COMMAND, [6] = FINISHED, [7] = STOPPING,
+        [12] = STATUS_OF, [13] = LIMITS_TOLD, [23] = CONTROLLER_OF, [16] = OPENING, [17] = COMMAND, [18] = COMMAND, [20] = COMMAND, [21] = STOPPING, [22] = FINISHED};
     return all[kind];
 }
 static uint32_t place_by(uint32_t kind) { return kind < 12 ? kind : kind < 21 ? kind - 12 : kind - 9; }
@@ -262,6 +262,7 @@ static bool powered(uint64_t f) { return f == 2 || f == 4 || f == 8; }
 #define HEAD(p) ((p)->head)
 #define STATUS(s) ((s)->kept[ROKEMAIPU_KEPT_STATUS])
 #define CONTROL(s) ((s)->kept[ROKEMAIPU_KEPT_CONTROL])
+#define STOP(s) ((s)->kept[ROKEMAIPU_KEPT_STOP])
 #define CONTROLLER(p) ((p)->head.controller)
 #define PARAMETERS(p) ((p)->head.parameters)
 #define KEEP_IN_HEAD(p, role, slot) do { if (role == CONTROLLER_OF) (p)->head.controller = slot; if (role == LIMITS_TOLD) (p)->head.parameters = slot; } while (0)
@@ -276,6 +277,7 @@ static bool powered(uint64_t f) { return f == 2 || f == 4 || f == 8; }
 #undef HEAD
 #undef STATUS
 #undef CONTROL
+#undef STOP
 #undef CONTROLLER
 #undef PARAMETERS
 #undef KEEP_IN_HEAD
@@ -288,6 +290,7 @@ static bool powered(uint64_t f) { return f == 2 || f == 4 || f == 8; }
 #define HEAD(p) (*(p))
 #define STATUS(s) ((s)->status)
 #define CONTROL(s) ((s)->control)
+#define STOP(s) ((s)->stop)
 #define CONTROLLER(p) ((p)->latest[(p)->limits.interface == ROKEMAIPU_OLDER ? 14 : 2])
 #define PARAMETERS(p) ((p)->latest[1])
 #define KEEP_IN_HEAD(p, role, slot)

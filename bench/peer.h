@@ -12,7 +12,7 @@ uint32_t peer_tick(rokemaipu_table *t, uint32_t channel, uint32_t time);
 /* The table that one would write for it: flags as bool, times of 32 bits, nothing kept twice. It lies in memory that is lent as the library's, and is
  * smaller. */
 typedef struct { bool known; uint8_t kind; uint32_t time; uint64_t raw; } peer_slot;
-typedef struct { bool opened; uint32_t since; uint64_t first; peer_slot status, control; } peer_session;
+typedef struct { bool opened; uint32_t since; uint64_t first; peer_slot status, control, stop; } peer_session;
 typedef struct { bool used; uint32_t channel; rokemaipu_limits limits; bool heard; uint32_t time; peer_slot latest[ROKEMAIPU_PLACES]; peer_session session;
     uint32_t counts[ROKEMAIPU_COUNTS]; } peer_post;
 typedef struct { peer_post posts[ROKEMAIPU_POSTS]; uint8_t index[ROKEMAIPU_CHANNELS]; uint32_t refused; } peer_table;

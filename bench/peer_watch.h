@@ -39,6 +39,7 @@ static uint32_t NAMED(found)(const POST *p, uint32_t role, uint32_t kind, uint64
         if (powered(g) && SET(s->opened) && (!SET(STATUS(s).known) || (STATUS(s).raw >> 48 & 0xff) == 0)) f |= 16;
         if (newer && (r >> 55 & 1) && (g != 1 || (r & 0xffffffffffff))) f |= 32;
         if (newer && g && (r & 0xffff) > NAMED(limit)(p, HEAD(p).limits.voltage, 0)) f |= 64;
+        if (powered(g) && SET(s->opened) && SET(STOP(s).known)) f |= 2048;
     } else if (role == FINISHED && !SET(s->opened)) {
         f |= 1024;
     }
@@ -75,6 +76,7 @@ uint32_t NAMED(frame)(rokemaipu_table *memory, uint32_t channel, uint32_t time, 
     KEEP_IN_HEAD(p, role, slot);
     if (role == STATUS_OF && SET(s->opened)) STATUS(s) = slot;
     if (role == COMMAND && SET(s->opened)) CONTROL(s) = slot;
+    if (role == STOPPING && SET(s->opened)) STOP(s) = slot;
     if (role == OPENING && !SET(s->opened)) *s = (SESSION){.opened = true, .since = now, .first = r};
     if (role == FINISHED) *s = (SESSION){0};
     return NAMED(count)(p, f);

@@ -35,11 +35,12 @@
 extern "C" {
 #endif
 
-#define ROKEMAIPU_VERSION 300 /* 3.00: whatever compiles with one 3.xx compiles with each later one */
+#define ROKEMAIPU_VERSION 400 /* 4.00: whatever compiles with one 4.xx compiles with each later one */
 
 #define ROKEMAIPU_POSTS 16
 #define ROKEMAIPU_KINDS 30 /* of messages, of both interfaces */
 #define ROKEMAIPU_PLACES 21 /* a post's latest frames */
+#define ROKEMAIPU_FINDINGS 12 /* finding 1 to this one */
 #define ROKEMAIPU_SIGNALS 16 /* places of raw numbers; no message has more signals */
 #define ROKEMAIPU_RECORD_BYTES 20 /* no record of the night log is longer */
 #define ROKEMAIPU_BATCH_BYTES 4096 /* a batch has no more */
@@ -127,7 +128,9 @@ enum rokemaipu_finding {
     /* New_Charge_Session while open with another protocol or plug than the session's first */
     ROKEMAIPU_F10_OTHER_PROTOCOL_OR_PLUG = 512,
     /* Charge_Session_Finished with none open */
-    ROKEMAIPU_F11_FINISHED_WITHOUT_SESSION = 1024
+    ROKEMAIPU_F11_FINISHED_WITHOUT_SESSION = 1024,
+    /* DC_Power_Control: insulation test, precharge or power transfer, session open in which an Emergency_Stop was accepted */
+    ROKEMAIPU_F12_POWER_AFTER_STOP = 2048
 };
 
 /* ---- numbers that name things */
@@ -198,10 +201,10 @@ enum rokemaipu_number {
     ROKEMAIPU_NUMBERS = 14    /* how many they are */
 };
 
-/* A post's counts since set-up, in the order in which they are looked up. Place k, 1 to 11, has the accepted frames and ticks that had finding k. */
+/* A post's counts since set-up, in the order in which they are looked up. Place k, 1 to 12, has the accepted frames and ticks that had finding k. */
 enum rokemaipu_count {
     ROKEMAIPU_ACCEPTED = 0, /* the accepted frames and ticks */
-    ROKEMAIPU_COUNTS = 12   /* how many they are */
+    ROKEMAIPU_COUNTS = 13   /* how many they are */
 };
 
 /* A kept frame's times and its kind, in the order in which they are looked up. */
@@ -260,34 +263,35 @@ typedef struct rokemaipu_limits {
 enum rokemaipu_kept {
     ROKEMAIPU_KEPT_STATUS = 0,  /* Power_Modules_Status */
     ROKEMAIPU_KEPT_CONTROL = 1, /* DC_Power_Control; on a post of the older interface Insulation_Test, Precharge or Charging_Loop */
-    ROKEMAIPU_KEPT = 2          /* how many they are */
+    ROKEMAIPU_KEPT_STOP = 2,    /* Emergency_Stop */
+    ROKEMAIPU_KEPT = 3          /* how many they are */
 };
 
-typedef struct rokemaipu_session { /* 72 bytes, all 0 where no session is open */
+typedef struct rokemaipu_session { /* 96 bytes, all 0 where no session is open */
     uint64_t opened;
     uint64_t since;
     uint64_t first; /* the New_Charge_Session that opened it: protocol in byte 0, plug in byte 1 */
     rokemaipu_slot kept[ROKEMAIPU_KEPT];
 } rokemaipu_session;
 
-typedef struct rokemaipu_head { /* 216 bytes: what the findings are read from, and the counts */
+typedef struct rokemaipu_head { /* 240 bytes: what the findings are read from, and the counts */
     uint32_t used; /* set up */
     uint32_t channel;
     rokemaipu_limits limits;
-    uint64_t heard; /* a frame or tick was accepted since set-up */
+    uint32_t heard; /* a frame or tick was accepted since set-up */
+    uint32_t counts[ROKEMAIPU_COUNTS];
     uint64_t time;
     rokemaipu_slot controller; /* the latest Advantics_Controller_Status, as in latest */
     rokemaipu_slot parameters; /* the latest DC_Power_Parameters, or Power_Modules_Limits, as in latest */
     rokemaipu_session session;
-    uint32_t counts[ROKEMAIPU_COUNTS];
 } rokemaipu_head;
 
-typedef struct rokemaipu_post { /* 720 bytes */
+typedef struct rokemaipu_post { /* 744 bytes */
     rokemaipu_head head;
     rokemaipu_slot latest[ROKEMAIPU_PLACES]; /* kind k, 0 to 11, at place k; 12 to 20 at k - 12; 21 to 29 at k - 9 */
 } rokemaipu_post;
 
-typedef struct rokemaipu_table { /* 11,656 bytes; zeroed memory is the empty table */
+typedef struct rokemaipu_table { /* 12,040 bytes; zeroed memory is the empty table */
     rokemaipu_post posts[ROKEMAIPU_POSTS];
     uint32_t index[ROKEMAIPU_CHANNELS]; /* by channel: 0 where no post holds it, else one more than the number of the post that does */
     uint64_t refused; /* frames and ticks refused since the table was made; it stays at 4,294,967,295 */
@@ -295,7 +299,7 @@ typedef struct rokemaipu_table { /* 11,656 bytes; zeroed memory is the empty tab
 
 /* The table's layout as one word: its bytes in the low 32 bits, then its posts and a post's places with 8 bits each, then the number of the
  * layout, which is another one wherever a place in the table means something else. */
-#define ROKEMAIPU_LAYOUT ((uint64_t)sizeof(rokemaipu_table) + ((uint64_t)ROKEMAIPU_POSTS << 32) + ((uint64_t)ROKEMAIPU_PLACES << 40) + ((uint64_t)5 << 48))
+#define ROKEMAIPU_LAYOUT ((uint64_t)sizeof(rokemaipu_table) + ((uint64_t)ROKEMAIPU_POSTS << 32) + ((uint64_t)ROKEMAIPU_PLACES << 40) + ((uint64_t)6 << 48))
 
 /* Answers the layout that the library has. Compare it with ROKEMAIPU_LAYOUT before the first call: with another one, no table of this
  * header may be lent. */
@@ -343,7 +347,7 @@ uint32_t rokemaipu_refused(const rokemaipu_table *t);
 uint32_t rokemaipu_latest(const rokemaipu_table *t, uint32_t post, uint32_t kind, uint32_t *times, size_t places, uint8_t *buffer, size_t room);
 
 /* Looks up likewise, by a number of rokemaipu_kept, the latest frame that was accepted in the open session. Answers as rokemaipu_latest does: 0
- * also where no session is open. Refuses with 9, 14, with 3 for a number above 1, then with 8. */
+ * also where no session is open. Refuses with 9, 14, with 3 for a number above 2, then with 8. */
 uint32_t rokemaipu_in_session(const rokemaipu_table *t, uint32_t post, uint32_t part, uint32_t *times, size_t places, uint8_t *buffer, size_t room);
 
 /* ---- frames ---- */
@@ -473,7 +477,7 @@ uint32_t rokemaipu_compare(const uint8_t *a, size_t size_a, const uint8_t *b, si
  * A line is the record's count from 1, the post that holds its channel (a dash for refusal 1), then A with the decimal finding number or R with the
  * refusal, one space between; refusal 5 adds a space and the start bit; and a line feed: "1 0 A0", "2 - R1", "3 0 R5 48". */
 
-typedef struct rokemaipu_replay { /* 11,672 bytes; zeroed memory is a replay that was just started */
+typedef struct rokemaipu_replay { /* 12,056 bytes; zeroed memory is a replay that was just started */
     rokemaipu_table table; /* look posts up in it as you like */
     uint64_t count;        /* of the records fed so far */
     uint64_t course;       /* 0: set-ups may come; 1: records were fed; else a set-up was refused, with this word */
@@ -516,34 +520,34 @@ ROKEMAIPU_IS(offsetof(rokemaipu_limits, discharge), 8);
 ROKEMAIPU_IS(offsetof(rokemaipu_limits, silence), 12);
 ROKEMAIPU_IS(offsetof(rokemaipu_limits, sensor), 16);
 ROKEMAIPU_IS(offsetof(rokemaipu_limits, interface), 20);
-ROKEMAIPU_IS(sizeof(rokemaipu_session), 72);
+ROKEMAIPU_IS(sizeof(rokemaipu_session), 96);
 ROKEMAIPU_IS(offsetof(rokemaipu_session, opened), 0);
 ROKEMAIPU_IS(offsetof(rokemaipu_session, since), 8);
 ROKEMAIPU_IS(offsetof(rokemaipu_session, first), 16);
 ROKEMAIPU_IS(offsetof(rokemaipu_session, kept), 24);
-ROKEMAIPU_IS(sizeof(rokemaipu_head), 216);
+ROKEMAIPU_IS(sizeof(rokemaipu_head), 240);
 ROKEMAIPU_IS(offsetof(rokemaipu_head, used), 0);
 ROKEMAIPU_IS(offsetof(rokemaipu_head, channel), 4);
 ROKEMAIPU_IS(offsetof(rokemaipu_head, limits), 8);
 ROKEMAIPU_IS(offsetof(rokemaipu_head, heard), 32);
-ROKEMAIPU_IS(offsetof(rokemaipu_head, time), 40);
-ROKEMAIPU_IS(offsetof(rokemaipu_head, controller), 48);
-ROKEMAIPU_IS(offsetof(rokemaipu_head, parameters), 72);
-ROKEMAIPU_IS(offsetof(rokemaipu_head, session), 96);
-ROKEMAIPU_IS(offsetof(rokemaipu_head, counts), 168);
-ROKEMAIPU_IS(ROKEMAIPU_COUNTS, 12); /* a head of 11 has the same bytes */
-ROKEMAIPU_IS(sizeof(rokemaipu_post), 720);
+ROKEMAIPU_IS(offsetof(rokemaipu_head, counts), 36);
+ROKEMAIPU_IS(offsetof(rokemaipu_head, time), 88);
+ROKEMAIPU_IS(offsetof(rokemaipu_head, controller), 96);
+ROKEMAIPU_IS(offsetof(rokemaipu_head, parameters), 120);
+ROKEMAIPU_IS(offsetof(rokemaipu_head, session), 144);
+ROKEMAIPU_IS(ROKEMAIPU_COUNTS, 13); /* a head of 12 has the same bytes */
+ROKEMAIPU_IS(sizeof(rokemaipu_post), 744);
 ROKEMAIPU_IS(offsetof(rokemaipu_post, head), 0);
-ROKEMAIPU_IS(offsetof(rokemaipu_post, latest), 216);
-ROKEMAIPU_IS(sizeof(rokemaipu_table), 11656);
+ROKEMAIPU_IS(offsetof(rokemaipu_post, latest), 240);
+ROKEMAIPU_IS(sizeof(rokemaipu_table), 12040);
 ROKEMAIPU_IS(offsetof(rokemaipu_table, posts), 0);
-ROKEMAIPU_IS(offsetof(rokemaipu_table, index), 11520);
-ROKEMAIPU_IS(offsetof(rokemaipu_table, refused), 11648);
+ROKEMAIPU_IS(offsetof(rokemaipu_table, index), 11904);
+ROKEMAIPU_IS(offsetof(rokemaipu_table, refused), 12032);
 ROKEMAIPU_IS(ROKEMAIPU_CHANNELS, 32); /* an index of 31 has the same bytes */
-ROKEMAIPU_IS(sizeof(rokemaipu_replay), 11672);
+ROKEMAIPU_IS(sizeof(rokemaipu_replay), 12056);
 ROKEMAIPU_IS(offsetof(rokemaipu_replay, table), 0);
-ROKEMAIPU_IS(offsetof(rokemaipu_replay, count), 11656);
-ROKEMAIPU_IS(offsetof(rokemaipu_replay, course), 11664);
+ROKEMAIPU_IS(offsetof(rokemaipu_replay, count), 12040);
+ROKEMAIPU_IS(offsetof(rokemaipu_replay, course), 12048);
 
 #ifdef __cplusplus
 }

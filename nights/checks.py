@@ -4,6 +4,7 @@ import re
 import subprocess
 
 from ages import Times, changed
+from pages import *
 
 ANNOUNCED = re.compile(r"# (F[0-9]+|R[0-9]+(?::[0-9]+)?)(?: from here for ([0-9]+) events)?: ")
 
@@ -22,7 +23,7 @@ def marks(step, answer):
     if answer.startswith("R"):
         return {answer.split()[0]}
     if step.split()[0] in ("frame", "tick") and answer.startswith("A"):
-        return {f"F{k + 1}" for k in range(11) if int(answer[1:]) >> k & 1}
+        return {f"F{k + 1}" for k in range(12) if int(answer[1:]) >> k & 1}
     return set()
 
 
@@ -105,7 +106,7 @@ def check_counts(name, text, answers):
     for step, answer, post in by_post(text, answers):
         word = step.split()[0]
         if word == "setup" and answer == "A":
-            counts[post] = [0] * 12
+            counts[post] = [0] * 13
         elif channel_of(step) and answer.startswith("R"):
             refused += 1
         elif channel_of(step):
@@ -156,6 +157,41 @@ def check_ages(name, text, answers):
     return faults
 
 
+# Who opens a session, ends it and stops it, by the pages of 000 and of 001.
+OPENINGS, ENDS, STOPS = {NEW_SESSION, OLDER_NEW_SESSION}, {FINISHED, OLDER_FINISHED}, {STOP, OLDER_STOP}
+
+
+def powers(identifier, payload):
+    """02: "a DC_Power_Control with insulation test, precharge or power transfer", or what stands for it on a post of 001."""
+    functions = (INSULATION_TEST, PRECHARGE, POWER_TRANSFER)
+    return (identifier in (TEST_LOOP, PRECHARGE_LOOP, CHARGING_LOOP)
+            or identifier == CONTROL and int(payload[-2:], 16) & 15 in functions)
+
+
+def check_stops(name, text, answers):
+    """02: F12 "in a session after an Emergency_Stop accepted in it; the record's session part keeps the stop": each answer
+    has F12, and each record the stop, where the accepted frames before it say so."""
+    faults, stops = [], {}  # by post: none where no session is open, else the latest stop in it as its record has it, or ""
+    for step, answer, post in by_post(text, answers):
+        word, *fields = step.split()
+        if word == "setup" and answer == "A":
+            stops[post] = None
+        elif word == "frame" and answer.startswith("A"):
+            time, identifier, _, payload = fields[1:]
+            if (int(answer[1:]) >> 11 & 1 == 1) != (powers(identifier, payload) and bool(stops[post])):
+                faults.append(f"{name}: {step}: {answer}, but the stop is {stops[post]!r}")
+            if identifier in OPENINGS and stops[post] is None:
+                stops[post] = ""
+            if identifier in STOPS and stops[post] is not None:
+                stops[post] = f"{identifier}x:{int(payload, 16)}@{time}+"
+            if identifier in ENDS:
+                stops[post] = None
+        elif word == "record" and answer.startswith("K"):
+            if f" sstop={stops[post] or '- '}" not in answer:
+                faults.append(f"{name}: {step}: {answer}, but the stop is {stops[post]!r}")
+    return faults
+
+
 def check_refused_leave_no_trace(second, name, text, answers):
     """01: "A refused frame is part of no history and moves no clock"; 02, of the refused count: "that count is now the
     only thing a refused one changes"."""
@@ -186,5 +222,6 @@ def all_of(second, name, text, answers):
             + check_counts(name, text, answers)
             + check_index(name, text, answers)
             + check_ages(name, text, answers)
+            + check_stops(name, text, answers)
             + check_refused_leave_no_trace(second, name, text, answers)
             + check_channels_apart(second, name, text, answers))

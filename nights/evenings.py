@@ -7,6 +7,7 @@ from safety import safety
 from says import told
 from sensor import sensor
 from sixteen import moved, sixteen
+from stop import stop
 from traffic import Night, Post
 
 
@@ -95,11 +96,11 @@ def march():
     right.record(-1)
     night.at(right.time, "record 0", "# post 0 charges on with its own 510 kOhm; nothing was booked to it")
     right.insulation = 6
-    for _ in range(2):
+    for commanded in ({}, {"control": told("F12", "Post 1, channel 5: the transfer is commanded once more, behind the stop.")}):
         right.frame(50, STOP, byte(STOP_BY_EVSE))
         right.cycle(CHARGING, modules=True, control=right.wish(0),
                     notes={"modules": told("F9", "Post 1, channel 5: 12 kOhm at 400 V while the current is cut; "
-                                                 "the transfer is still commanded.")})
+                                                 "the transfer is still commanded."), **commanded})
         right.amps = max(0, right.amps - 900)
     right.say("post 1: the controller opens the contactors; in standby the low reading is no finding any more",
               "(the first status below still follows a power transfer)")
@@ -356,4 +357,4 @@ def damaged():
     return night
 
 
-NIGHTS = (clean, march, faults, sensor, damaged, safety, coming_round, older, sixteen, moved)
+NIGHTS = (clean, march, faults, sensor, damaged, safety, coming_round, older, sixteen, moved, stop)

@@ -13,7 +13,7 @@ class OlderPost(Post):
     interface = 1
     document = "001"
     identifiers = dict(status=OLDER_STATUS, new=OLDER_NEW_SESSION, modules=OLDER_PMS, vehicle=OLDER_EV_ID,
-                       change=OLDER_CHANGE, finished=OLDER_FINISHED)
+                       change=OLDER_CHANGE, finished=OLDER_FINISHED, stop=OLDER_STOP)
     off = None
 
     def __init__(self, *rest):

@@ -35,6 +35,10 @@ SAYS_02 = {
     "F8 older": "Power_Modules_Limits sets the voltage and charge limits",
     "F9 older": "Insulation_Test, Precharge and Charging_Loop count as the three functions, the latest of them standing "
                 "for DC_Power_Control",
+    "F12": "F12 is a DC_Power_Control with insulation test, precharge or power transfer in a session after an "
+           "Emergency_Stop accepted in it",
+    "F12 older": "Insulation_Test, Precharge and Charging_Loop count as the three functions, the latest of them standing "
+                 "for DC_Power_Control",
     "R12 older": "Set-up names a post's interface",
     "R29": "A frame whose identifier only the other interface has gets, on that post, a refusal number of its own in "
            "3's place, never a message",

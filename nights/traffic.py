@@ -35,7 +35,8 @@ class Post:
     # What a post of this interface is told, by whom its messages are described, and how it says that nothing is asked.
     interface = None
     document = "000"
-    identifiers = dict(status=STATUS, new=NEW_SESSION, modules=PMS, vehicle=EV_ID, change=CHANGE, finished=FINISHED)
+    identifiers = dict(status=STATUS, new=NEW_SESSION, modules=PMS, vehicle=EV_ID, change=CHANGE, finished=FINISHED,
+                       stop=STOP)
     off = dict(function=OFF)
 
     def __init__(self, night, number, channel, time, phase=0):
@@ -70,6 +71,10 @@ class Post:
     def remarked(self, comments):
         remarks, self.remarks = self.remarks, ()
         return (*remarks, *comments)
+
+    def press(self, after, origin, *comments):
+        """An Emergency_Stop."""
+        self.frame(after, self.identifiers["stop"], byte(origin), *self.remarked(comments))
 
     def opening(self, protocol, plug):
         return byte(protocol) + byte(plug)

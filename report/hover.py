@@ -18,7 +18,8 @@ def refusals_id(number):
 
 def rule(post, number):
     """A finding's name, and the sentence behind it."""
-    words = f'F{number} {FINDINGS[number].name}\n01: "{FINDINGS[number].sentence}"'
+    name, sentence, paper = FINDINGS[number]
+    words = f'F{number} {name}\n{paper}: "{sentence}"'
     return words + ''.join(f'\n02: "{sentence}"' for sentence in mended(number, post.set_up))
 
 

@@ -8,7 +8,7 @@ from pathlib import Path
 from .faults import Fault
 
 # the whole page of a short night
-WIDTH, HEIGHT = 1120, 2330
+WIDTH, HEIGHT = 1120, 2400
 PATIENCE = 60
 
 

@@ -31,8 +31,8 @@ def posts(night):
 
 
 def tallies(night):
-    """02, Req 08: "eleven counts, one per finding, and the count of accepted frames and ticks since set-up": what the lines of the replay come to, which is
-    what the post's record holds at the end."""
+    """02, Req 08: "eleven counts, one per finding, and the count of accepted frames and ticks since set-up", and Req 14's twelfth: what the lines of the
+    replay come to, which is what the post's record holds at the end."""
     def of(post):
         found = (post.findings[number].total if number in post.findings else 0 for number in FINDINGS)
         return row(tag('a', text(post.number), href=f'#post-{post.number}'), *(text(f'{count:,}') for count in (post.accepted, *found)))
@@ -120,7 +120,7 @@ def refused(group, listed):
 
 def rules(night):
     def of(number, total):
-        sentence = text('01: ') + tag('q', text(FINDINGS[number].sentence))
+        sentence = text(f'{FINDINGS[number].paper}: ') + tag('q', text(FINDINGS[number].sentence))
         for more in dict.fromkeys(more for post in night.posts for more in mended(number, post.set_up)):
             sentence += text(' 02: ') + tag('q', text(more))
         return row(text(f'F{number}'), text(FINDINGS[number].name), sentence, text(f'{total:,}'))

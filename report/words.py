@@ -1,10 +1,11 @@
-"""The numbers of an answer in words: the desk's own (`explain`), and of each finding 01's sentence."""
+"""The numbers of an answer in words: the desk's own (`explain`), and of each finding the sentence of 01, or of 02 for F12."""
 from typing import NamedTuple
 
 
 class Rule(NamedTuple):
     name: str
     sentence: str
+    paper: str = '01'
 
 
 FINDINGS = {
@@ -31,6 +32,8 @@ FINDINGS = {
              'New_Charge_Session while open with another protocol or plug than the session\'s first.'),
     11: Rule('session finished with none open',
              'Charge_Session_Finished with none open.'),
+    12: Rule('insulation test, precharge or power transfer after an Emergency_Stop in this session',
+             'F12 is a DC_Power_Control with insulation test, precharge or power transfer in a session after an Emergency_Stop accepted in it', '02'),
 }
 
 # 02, Req 03, of F9 on a post with such a sensor
@@ -39,7 +42,7 @@ YES_NO = 'For a yes/no sensor F9\'s insulation test is raw 0 and nothing else'
 # 02, Req 11, of a post with the pages of 001
 FUNCTIONS = 'Insulation_Test, Precharge and Charging_Loop count as the three functions, the latest of them standing for DC_Power_Control'
 LIMITS = 'Power_Modules_Limits sets the voltage and charge limits, a current of 0 or less meaning the default'
-OLDER = {4: FUNCTIONS, 5: FUNCTIONS, 8: LIMITS, 9: FUNCTIONS}
+OLDER = {4: FUNCTIONS, 5: FUNCTIONS, 8: LIMITS, 9: FUNCTIONS, 12: FUNCTIONS}
 
 
 def mended(number, set_up):

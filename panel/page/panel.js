@@ -78,7 +78,8 @@ const within = (kept, name) => kept ? `${kept[0]} ${kept[1]}, ${kept[2]} old` : 
 const sessionTold = (node, session) => {
   node.dataset.session = session ? 'open' : 'closed';
   put(part(node, 'session'), session ? `Session open since ${session.since} (${session.age}): ${session.protocol}, ${session.plug}` : 'No session open');
-  put(part(node, 'within'), session ? `In it: ${within(session.status, 'power modules status')}; ${within(session.control, 'power control')}` : '');
+  const stopped = session?.stop ? `; ${within(session.stop)}` : '';
+  put(part(node, 'within'), session ? `In it: ${within(session.status, 'power modules status')}; ${within(session.control, 'power control')}${stopped}` : '');
 };
 
 const findingTold = (node, finding) => {

@@ -5,10 +5,7 @@
 mod ffi;
 
 use ffi::*;
-pub use ffi::{BATCH_BYTES, CHANNELS, COUNTS, KINDS, POSTS, REFUSED, SIGNALS};
-
-/// The findings are F1 to this one.
-pub const FINDINGS: usize = COUNTS - 1;
+pub use ffi::{BATCH_BYTES, CHANNELS, COUNTS, FINDINGS, KINDS, POSTS, REFUSED, SIGNALS};
 
 /// A refusal's number.
 #[derive(Clone, Copy, Debug, PartialEq, Eq)]
@@ -67,6 +64,7 @@ pub struct Kept {
 pub enum Part {
     Status = 0,
     Control = 1,
+    Stop = 2,
 }
 
 /// Document 000's pages, or 001's.
@@ -165,6 +163,7 @@ impl Depot {
         let usual = match part {
             Part::Status => 0,
             Part::Control => 5,
+            Part::Stop => 7,
         };
         self.kept(rokemaipu_in_session, post, part as u32, usual)
     }

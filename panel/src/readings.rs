@@ -152,7 +152,7 @@ pub fn readings(depot: &Depot, post: u32, numbers: &Numbers, looks: &[Look]) -> 
     });
     rows.push(latest(looks, "Advantics_Controller_Status").and_then(|look| look.said("Controller", "State")));
     rows.push(latest(looks, "Emergency_Stop").and_then(|look| {
-        let marked = numbers.opened && look.kept.age <= numbers.since_age;
+        let marked = in_session(depot, post, Part::Stop).is_some();
         Some(Reading { marked, note: clock::told(look.kept.time), ..look.said("Emergency stop", "Origin")? })
     }));
     rows.into_iter().flatten().collect()

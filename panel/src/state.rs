@@ -161,6 +161,7 @@ fn session(depot: &Depot, post: u32, numbers: &Numbers) -> Json {
         ("plug", label("Plug_and_pins", numbers.plug)),
         ("status", kept(Part::Status)),
         ("control", kept(Part::Control)),
+        ("stop", kept(Part::Stop)),
     ])
 }
 

@@ -17,6 +17,9 @@ pub const CONTROL: &[Kind] = &[Kind::DcPowerControl, Kind::InsulationTest, Kind:
 /// 02: "F3, F6 and F7 give no finding there"; they ask for 000's message alone.
 pub const DC_POWER_CONTROL: &[Kind] = &[Kind::DcPowerControl];
 
+/// 02: "an Emergency_Stop"; it "gets teeth" with F12.
+pub const STOP: &[Kind] = &[Kind::EmergencyStop, Kind::OlderEmergencyStop];
+
 /// What tells limits.
 pub const TOLD: &[Kind] = &[Kind::DcPowerParameters, Kind::PowerModulesLimits];
 

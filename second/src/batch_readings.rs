@@ -61,6 +61,6 @@ fn malformed_and_cut() {
 fn a_batch_goes_on_behind_a_refused_record() {
     holds_on_a_post(
         "batch 64040009630400096404000965050009c801040009 5 => A 0 65538 0 65537 0
-         record 0 => K ch=4 volt=5000 chg=1000 dis=500 w=500 sensor=0 iface=0 last=200 open=0 since=- first=- spms=- sdpc=- n=3 tally=0,0,0,0,0,0,0,0,0,0,0 latest=-",
+         record 0 => K ch=4 volt=5000 chg=1000 dis=500 w=500 sensor=0 iface=0 last=200 open=0 since=- first=- spms=- sdpc=- sstop=- n=3 tally=0,0,0,0,0,0,0,0,0,0,0,0 latest=-",
     );
 }

@@ -12,12 +12,12 @@ fn holds_on_a_post(story: &str) {
 /// A record with no session and these parts.
 fn record(last: &str, n: u32, tally: &str, latest: &str) -> String {
     format!(
-        "K ch=4 volt=5000 chg=1000 dis=500 w=500 sensor=0 iface=0 last={last} open=0 since=- first=- spms=- sdpc=- n={n} \
+        "K ch=4 volt=5000 chg=1000 dis=500 w=500 sensor=0 iface=0 last={last} open=0 since=- first=- spms=- sdpc=- sstop=- n={n} \
          tally={tally} latest={latest}"
     )
 }
 
-const NONE: &str = "0,0,0,0,0,0,0,0,0,0,0";
+const NONE: &str = "0,0,0,0,0,0,0,0,0,0,0,0";
 
 /// "E14 holds; after 4,294,967,290 a time of 5 is accepted, 11 ms later".
 #[test]
@@ -122,7 +122,7 @@ fn every_kept_time_has_its_age() {
          frame 4 5 6b003 x 00000000000001 => A0
          frame 4 15 6b000 x 01 => A0
          record 0 => K ch=4 volt=5000 chg=1000 dis=500 w=500 sensor=0 iface=0 last=15 open=1 since=4294967200+111 first=2,1 \
-         spms=63000x:4000,-125,25,-40,1,200@4294967290+21 sdpc=6b003x:0,0,0,1,0,0,0,0@5+10 n=4 tally=0,0,0,0,0,0,0,0,0,0,0 \
+         spms=63000x:4000,-125,25,-40,1,200@4294967290+21 sdpc=6b003x:0,0,0,1,0,0,0,0@5+10 sstop=- n=4 tally=0,0,0,0,0,0,0,0,0,0,0,0 \
          latest=63000x:4000,-125,25,-40,1,200@4294967290+21;6b000x:1@15+0;6b001x:2,1@4294967200+111;\
          6b003x:0,0,0,1,0,0,0,0@5+10",
     );
@@ -175,7 +175,7 @@ fn a_hundred_days_of_hours() {
     }
     assert_eq!(rounds, 2);
     let days = 24 * 100 + 1;
-    let tally = format!("{days},{},0,0,0,0,0,0,0,0,0", 2 * days + 2 * (days - 1));
+    let tally = format!("{days},{},0,0,0,0,0,0,0,0,0,0", 2 * days + 2 * (days - 1));
     let last = (1_000_000 + 24 * 100 * hour + 601) % (1 << 32);
     let status = (last - 601, 601);
     let latest = format!("6b000x:1@{}+{};6b001x:2,1@{}+501;6b004x:0@{last}+0", status.0, status.1, last - 501);

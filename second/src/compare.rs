@@ -211,11 +211,14 @@ mod tests {
                         Some(("log", _)) => lines == 1 && bytes <= 40,
                         Some(("label", _)) => lines <= 2 && bytes <= 64,
                         Some(("sensor" | "safety" | "older", _)) => lines <= 5,
+                        // A set-up, an opening, a stop, an end and an opening before or behind it, and what shows it.
+                        Some(("stop", _)) => lines <= 6,
                         // A set-up, what moves or drops it, and what shows that.
                         Some(("index", _)) => lines <= 3,
                         // Two steps of less than 2^31 ms are less than a round.
                         Some(("clock", _)) => lines <= 6,
-                        Some(("replay", _)) => lines <= 3 && bytes <= 100,
+                        // An opening and a status of 001 have eight bytes each.
+                        Some(("replay", _)) => lines <= 3 && bytes <= 110,
                         // A batch of the largest size cannot be made smaller.
                         Some(("batch", _)) => lines <= 4,
                         // Neither can two logs around 512 records.

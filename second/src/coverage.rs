@@ -10,8 +10,10 @@ use crate::older_coverage;
 use crate::posts::Table;
 use crate::recordings_coverage;
 use crate::replay_coverage;
+use crate::rules::RULES;
 use crate::safety_coverage;
 use crate::sensor_coverage;
+use crate::stop_coverage;
 use crate::tally_coverage::{self, Since};
 
 const WORDS: [&[u8]; 21] = [
@@ -45,11 +47,12 @@ pub struct Coverage {
     since: Since,
     indexes: BTreeMap<String, u64>,
     since_index: index_coverage::Since,
+    stops: BTreeMap<String, u64>,
     replays: BTreeMap<String, u64>,
     batches: BTreeMap<String, u64>,
     clocks: BTreeMap<String, u64>,
     recordings: BTreeMap<String, u64>,
-    findings: [u64; 11],
+    findings: [u64; RULES.len()],
     clean: u64,
     accepted: u64,
     no_step: u64,
@@ -83,6 +86,9 @@ impl Coverage {
         }
         for shown in self.since_index.shown(table, step, answer) {
             *self.indexes.entry(shown).or_default() += 1;
+        }
+        for shown in stop_coverage::shown(table, step, answer) {
+            *self.stops.entry(shown).or_default() += 1;
         }
         for shown in replay_coverage::shown(step, answer) {
             *self.replays.entry(shown).or_default() += 1;
@@ -139,6 +145,7 @@ impl Coverage {
         missing.extend(older_coverage::wanted().filter(|shown| !self.older.contains_key(shown)));
         missing.extend(tally_coverage::wanted().filter(|shown| !self.counts.contains_key(shown)));
         missing.extend(index_coverage::wanted().filter(|shown| !self.indexes.contains_key(shown)));
+        missing.extend(stop_coverage::wanted().filter(|shown| !self.stops.contains_key(shown)));
         missing.extend(replay_coverage::wanted().filter(|shown| !self.replays.contains_key(shown)));
         missing.extend(batch_coverage::wanted().filter(|shown| !self.batches.contains_key(shown)));
         missing.extend(clock_coverage::wanted().filter(|shown| !self.clocks.contains_key(shown)));
@@ -191,6 +198,10 @@ impl fmt::Display for Coverage {
         write!(out, "\nindexes: ")?;
         for shown in index_coverage::wanted() {
             write!(out, " {shown} {},", self.indexes.get(&shown).unwrap_or(&0))?;
+        }
+        write!(out, "\nstops:   ")?;
+        for shown in stop_coverage::wanted() {
+            write!(out, " {shown} {},", self.stops.get(&shown).unwrap_or(&0))?;
         }
         write!(out, "\nreplays: ")?;
         for shown in replay_coverage::wanted() {

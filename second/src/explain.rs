@@ -1,6 +1,6 @@
 //! What the numbers of an answer say, in words.
 
-const FINDINGS: [&str; 11] = [
+const FINDINGS: [&str; 12] = [
     "power modules silent for longer than W in this session",
     "controller status older than 200 ms",
     "contactors closed with no session open",
@@ -12,6 +12,7 @@ const FINDINGS: [&str; 11] = [
     "insulation under 100 Ohm per volt, or Invalid by a yes/no sensor, in precharge or power transfer",
     "another protocol or plug than the session's first",
     "session finished with none open",
+    "insulation test, precharge or power transfer after an Emergency_Stop in this session",
 ];
 
 /// An answer as one word has eight bits for a start.

@@ -76,6 +76,10 @@ mod service;
 mod show;
 mod shrink;
 mod slips;
+mod stop_coverage;
+#[cfg(test)]
+mod stop_readings;
+mod stop_slips;
 mod tallies;
 mod tally_coverage;
 #[cfg(test)]

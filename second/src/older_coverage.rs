@@ -51,7 +51,7 @@ const OTHERS: [&str; 34] = [
 ];
 
 /// F3, F6 and F7 give none there.
-const FINDINGS: [u32; 8] = [1, 2, 4, 5, 8, 9, 10, 11];
+const FINDINGS: [u32; 9] = [1, 2, 4, 5, 8, 9, 10, 11, 12];
 
 /// Each of 001's messages on a post and without one, and the rest.
 pub fn wanted() -> impl Iterator<Item = String> {

@@ -19,7 +19,7 @@ fn holds_in_a_session(story: &str) {
     ));
 }
 
-const EMPTY: &str = "last=- open=0 since=- first=- spms=- sdpc=- n=0 tally=0,0,0,0,0,0,0,0,0,0,0 latest=-";
+const EMPTY: &str = "last=- open=0 since=- first=- spms=- sdpc=- sstop=- n=0 tally=0,0,0,0,0,0,0,0,0,0,0,0 latest=-";
 
 /// "Set-up names a post's interface"; another number gets 12, in 12's place.
 #[test]
@@ -134,7 +134,7 @@ fn a_frame_of_the_other_interface_leaves_nothing() {
          refused => N 1
          tick 4 100 => A0
          frame 4 100 68007 x 00 => A1024
-         record 0 => K ch=4 volt=5000 chg=1000 dis=500 w=500 sensor=0 iface=1 last=100 open=0 since=- first=- spms=- sdpc=- n=3 tally=0,0,0,0,0,0,0,0,0,0,1 latest=68007x:0@100+0",
+         record 0 => K ch=4 volt=5000 chg=1000 dis=500 w=500 sensor=0 iface=1 last=100 open=0 since=- first=- spms=- sdpc=- sstop=- n=3 tally=0,0,0,0,0,0,0,0,0,0,1,0 latest=68007x:0@100+0",
     );
 }
 
@@ -329,14 +329,14 @@ fn a_session() {
     holds_side_by_side(
         "frame 4 10 68001 x 0201 => R4
          frame 4 10 68001 x 0201a00fd0073264 => A0
-         record 0 => K ch=4 volt=5000 chg=1000 dis=500 w=500 sensor=0 iface=1 last=10 open=1 since=10+0 first=2,1 spms=- sdpc=- n=1 tally=0,0,0,0,0,0,0,0,0,0,0 latest=68001x:2,1,4000,2000,100,100@10+0
+         record 0 => K ch=4 volt=5000 chg=1000 dis=500 w=500 sensor=0 iface=1 last=10 open=1 since=10+0 first=2,1 spms=- sdpc=- sstop=- n=1 tally=0,0,0,0,0,0,0,0,0,0,0,0 latest=68001x:2,1,4000,2000,100,100@10+0
          frame 4 20 68001 x 0201000000000000 => A0
          frame 4 20 68001 x 0201ffffffffffff => A0
          frame 4 20 68001 x 0301a00fd0073264 => A512
          frame 4 20 68001 x 0200a00fd0073264 => A512
          frame 4 20 68001 x 0201a00fd0073264 => A0
          frame 4 30 68007 x 00 => A0
-         record 0 => K ch=4 volt=5000 chg=1000 dis=500 w=500 sensor=0 iface=1 last=30 open=0 since=- first=- spms=- sdpc=- n=7 tally=0,0,0,0,0,0,0,0,0,2,0 latest=68001x:2,1,4000,2000,100,100@20+10;68007x:0@30+0
+         record 0 => K ch=4 volt=5000 chg=1000 dis=500 w=500 sensor=0 iface=1 last=30 open=0 since=- first=- spms=- sdpc=- sstop=- n=7 tally=0,0,0,0,0,0,0,0,0,2,0,0 latest=68001x:2,1,4000,2000,100,100@20+10;68007x:0@30+0
          frame 4 40 68007 x 01 => A1024
          frame 4 50 68001 x 0301000000000000 => A0",
     );
@@ -489,16 +489,16 @@ fn holds_told(told: &str, most: u16) {
 #[test]
 fn the_record() {
     let post = "K ch=4 volt=5000 chg=1000 dis=500 w=500 sensor=0 iface=1";
-    let none = "0,0,0,0,0,0,0,0,0,0,0";
+    let none = "0,0,0,0,0,0,0,0,0,0,0,0";
     holds_in_a_session(&format!(
         "frame 4 1 6800e x 0000000000000000 => A0
          frame 4 2 68005 x a00f640032 => A0
          frame 4 3 8 s fe70000000000000 => A0
          frame 4 4 68003 x a00f1400 => A0
-         record 0 => {post} last=4 open=1 since=0+4 first=2,1 spms=60010x:0,0,25,-40,1,200@0+4 sdpc=68003x:4000,20@4+0 n=6 tally={none} latest=8s:-100,0,0,0,0,0,0,0,0,0,0,0@3+1;60010x:0,0,25,-40,1,200@0+4;68001x:2,1,0,0,0,0@0+4;68003x:4000,20@4+0;68005x:4000,100,50@2+2;6800ex:0,0,0@1+3
+         record 0 => {post} last=4 open=1 since=0+4 first=2,1 spms=60010x:0,0,25,-40,1,200@0+4 sdpc=68003x:4000,20@4+0 sstop=- n=6 tally={none} latest=8s:-100,0,0,0,0,0,0,0,0,0,0,0@3+1;60010x:0,0,25,-40,1,200@0+4;68001x:2,1,0,0,0,0@0+4;68003x:4000,20@4+0;68005x:4000,100,50@2+2;6800ex:0,0,0@1+3
          frame 4 5 68002 x 0000 => A0
          frame 4 5 60010 x a00f83ff41000164 => A0
-         record 0 => {post} last=5 open=1 since=0+5 first=2,1 spms=60010x:4000,-125,25,-40,1,200@5+0 sdpc=68002x:0@5+0 n=8 tally={none} latest=8s:-100,0,0,0,0,0,0,0,0,0,0,0@3+2;60010x:4000,-125,25,-40,1,200@5+0;68001x:2,1,0,0,0,0@0+5;68002x:0@5+0;68003x:4000,20@4+1;68005x:4000,100,50@2+3;6800ex:0,0,0@1+4"
+         record 0 => {post} last=5 open=1 since=0+5 first=2,1 spms=60010x:4000,-125,25,-40,1,200@5+0 sdpc=68002x:0@5+0 sstop=- n=8 tally={none} latest=8s:-100,0,0,0,0,0,0,0,0,0,0,0@3+2;60010x:4000,-125,25,-40,1,200@5+0;68001x:2,1,0,0,0,0@0+5;68002x:0@5+0;68003x:4000,20@4+1;68005x:4000,100,50@2+3;6800ex:0,0,0@1+4"
     ));
 }
 

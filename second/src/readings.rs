@@ -77,9 +77,9 @@ fn e12_channel_taken() {
     holds(&setup(
         "tick 4 10 => A0
          setup 1 4 5000 1000 500 500 => R11
-         record 0 => K ch=4 volt=5000 chg=1000 dis=500 w=500 sensor=0 iface=0 last=10 open=0 since=- first=- spms=- sdpc=- n=1 tally=0,0,0,0,0,0,0,0,0,0,0 latest=-
+         record 0 => K ch=4 volt=5000 chg=1000 dis=500 w=500 sensor=0 iface=0 last=10 open=0 since=- first=- spms=- sdpc=- sstop=- n=1 tally=0,0,0,0,0,0,0,0,0,0,0,0 latest=-
          setup 0 4 5000 1000 500 500 => A
-         record 0 => K ch=4 volt=5000 chg=1000 dis=500 w=500 sensor=0 iface=0 last=- open=0 since=- first=- spms=- sdpc=- n=0 tally=0,0,0,0,0,0,0,0,0,0,0 latest=-",
+         record 0 => K ch=4 volt=5000 chg=1000 dis=500 w=500 sensor=0 iface=0 last=- open=0 since=- first=- spms=- sdpc=- sstop=- n=0 tally=0,0,0,0,0,0,0,0,0,0,0,0 latest=-",
     ));
 }
 
@@ -220,7 +220,7 @@ fn w3_refused_ones_move_nothing() {
          tick 4 100 => A0
          frame 4 9000 6b000 x 0e => R5:0
          tick 4 400 => A0
-         record 0 => K ch=4 volt=5000 chg=1000 dis=500 w=500 sensor=0 iface=0 last=400 open=0 since=- first=- spms=- sdpc=- n=3 tally=0,0,0,0,0,0,0,0,0,0,0 latest=-",
+         record 0 => K ch=4 volt=5000 chg=1000 dis=500 w=500 sensor=0 iface=0 last=400 open=0 since=- first=- spms=- sdpc=- sstop=- n=3 tally=0,0,0,0,0,0,0,0,0,0,0,0 latest=-",
     ));
 }
 
@@ -244,7 +244,7 @@ fn w5_repeats_restart_nothing() {
          frame 4 501 6b001 x 0301 => A513
          frame 4 501 6b001 x 0201 => A1
          frame 4 501 6b001 x 0200 => A513
-         record 0 => K ch=4 volt=5000 chg=1000 dis=500 w=500 sensor=0 iface=0 last=501 open=1 since=0+501 first=2,1 spms=- sdpc=- n=5 tally=3,0,0,0,0,0,0,0,0,3,0 latest=6b001x:2,0@501+0",
+         record 0 => K ch=4 volt=5000 chg=1000 dis=500 w=500 sensor=0 iface=0 last=501 open=1 since=0+501 first=2,1 spms=- sdpc=- sstop=- n=5 tally=3,0,0,0,0,0,0,0,0,3,0,0 latest=6b001x:2,0@501+0",
     ));
 }
 
@@ -332,11 +332,11 @@ fn w11_after_the_session() {
         "frame 4 10 6b001 x 0201 => A0
          frame 4 20 63000 x a00f83ff41000164 => A0
          frame 4 30 6b003 x 00000000000001 => A0
-         record 0 => K ch=4 volt=5000 chg=1000 dis=500 w=500 sensor=0 iface=0 last=30 open=1 since=10+20 first=2,1 spms=63000x:4000,-125,25,-40,1,200@20+10 sdpc=6b003x:0,0,0,1,0,0,0,0@30+0 n=3 tally=0,0,0,0,0,0,0,0,0,0,0 latest=63000x:4000,-125,25,-40,1,200@20+10;6b001x:2,1@10+20;6b003x:0,0,0,1,0,0,0,0@30+0
+         record 0 => K ch=4 volt=5000 chg=1000 dis=500 w=500 sensor=0 iface=0 last=30 open=1 since=10+20 first=2,1 spms=63000x:4000,-125,25,-40,1,200@20+10 sdpc=6b003x:0,0,0,1,0,0,0,0@30+0 sstop=- n=3 tally=0,0,0,0,0,0,0,0,0,0,0,0 latest=63000x:4000,-125,25,-40,1,200@20+10;6b001x:2,1@10+20;6b003x:0,0,0,1,0,0,0,0@30+0
          frame 4 40 6b004 x 00 => A0
-         record 0 => K ch=4 volt=5000 chg=1000 dis=500 w=500 sensor=0 iface=0 last=40 open=0 since=- first=- spms=- sdpc=- n=4 tally=0,0,0,0,0,0,0,0,0,0,0 latest=63000x:4000,-125,25,-40,1,200@20+20;6b001x:2,1@10+30;6b003x:0,0,0,1,0,0,0,0@30+10;6b004x:0@40+0
+         record 0 => K ch=4 volt=5000 chg=1000 dis=500 w=500 sensor=0 iface=0 last=40 open=0 since=- first=- spms=- sdpc=- sstop=- n=4 tally=0,0,0,0,0,0,0,0,0,0,0,0 latest=63000x:4000,-125,25,-40,1,200@20+20;6b001x:2,1@10+30;6b003x:0,0,0,1,0,0,0,0@30+10;6b004x:0@40+0
          frame 4 50 6b004 x 01 => A1024
-         record 0 => K ch=4 volt=5000 chg=1000 dis=500 w=500 sensor=0 iface=0 last=50 open=0 since=- first=- spms=- sdpc=- n=5 tally=0,0,0,0,0,0,0,0,0,0,1 latest=63000x:4000,-125,25,-40,1,200@20+30;6b001x:2,1@10+40;6b003x:0,0,0,1,0,0,0,0@30+20;6b004x:1@50+0",
+         record 0 => K ch=4 volt=5000 chg=1000 dis=500 w=500 sensor=0 iface=0 last=50 open=0 since=- first=- spms=- sdpc=- sstop=- n=5 tally=0,0,0,0,0,0,0,0,0,0,1,0 latest=63000x:4000,-125,25,-40,1,200@20+30;6b001x:2,1@10+40;6b003x:0,0,0,1,0,0,0,0@30+20;6b004x:1@50+0",
     ));
 }
 
@@ -381,8 +381,9 @@ fn explaining() {
         "explain 0 => E none
          explain 12 => E F3 contactors closed with no session open; F4 insulation test, precharge or power transfer with no session open
          explain 1024 => E F11 session finished with none open
-         explain 2048 => ?
-         explain 2049 => ?
+         explain 2048 => E F12 insulation test, precharge or power transfer after an Emergency_Stop in this session
+         explain 4096 => ?
+         explain 4097 => ?
          explain -1 => ?
          explain R1 => E R1 channel above 31, or held by no post
          explain R4 => E R4 shorter than the table's length

@@ -1,6 +1,6 @@
 //! A post's record as one line: 01's "A post's record is", each part looked up in the list of its events.
 
-use crate::asked::{protocol_and_plug, CONTROL, STATUS};
+use crate::asked::{protocol_and_plug, CONTROL, STATUS, STOP};
 use crate::clock::{age, as_received};
 use crate::codec::Message;
 use crate::fields::form;
@@ -15,6 +15,8 @@ pub struct Form {
     pub order: fn(&Page) -> (bool, u32),
     /// What stands for DC_Power_Control in the session's part.
     pub control: &'static [Kind],
+    /// The stop in the session's part, by the post's events; none where no session is open.
+    pub stop: fn(&[Event]) -> Option<&Event>,
     /// What is told of the session's opening.
     pub first: fn(&Message) -> Vec<i64>,
     /// `T`, for the latest accepted time and the kept one, both unrolled.
@@ -26,6 +28,7 @@ pub struct Form {
 pub const FORM: Form = Form {
     order: |page| (page.extended, page.id),
     control: CONTROL,
+    stop: |past| latest(session(past)?, STOP),
     first: |opening| protocol_and_plug(opening).to_vec(),
     kept: |latest, kept| format!("{}+{}", as_received(kept), age(latest, kept)),
 };
@@ -56,6 +59,7 @@ pub fn line_in(form: &Form, post: &Post, counts: &Counts) -> String {
         format!("first={}", or_none(first.map(|first| joined(&(form.first)(&first))))),
         format!("spms={}", or_none(in_session(STATUS))),
         format!("sdpc={}", or_none(in_session(form.control))),
+        format!("sstop={}", or_none((form.stop)(past).and_then(stamped))),
         format!("n={}", counts.accepted),
         format!("tally={}", counts.tallies.map(|tally| tally.to_string()).join(",")),
         format!("latest={}", or_none(each_latest(past, form.order, stamped))),

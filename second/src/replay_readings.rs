@@ -136,7 +136,7 @@ fn a_table_of_its_own() {
          tick 4 99 => R2
          tick 4 100 => A0
          tick 5 100 => R1
-         record 0 => K ch=4 volt=5000 chg=1000 dis=500 w=500 sensor=0 iface=0 last=100 open=0 since=- first=- spms=- sdpc=- n=2 tally=0,0,0,0,0,0,0,0,0,0,0 latest=-"
+         record 0 => K ch=4 volt=5000 chg=1000 dis=500 w=500 sensor=0 iface=0 last=100 open=0 since=- first=- spms=- sdpc=- sstop=- n=2 tally=0,0,0,0,0,0,0,0,0,0,0,0 latest=-"
     ));
 }
 

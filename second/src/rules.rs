@@ -1,8 +1,8 @@
-//! The findings F1 to F11 of 01, each as a question to the history before the event and to the event.
+//! The findings F1 to F11 of 01 and F12 of 02, each as a question to the history before the event and to the event.
 
 use crate::asked::{
     function, protocol_and_plug, told, Limit, CONTROL, CONTROLLER_STATUS, DC_POWER_CONTROL, FINISHED, OPENING, STATUS,
-    TOLD,
+    STOP, TOLD,
 };
 use crate::codec::Message;
 use crate::history::{latest, latest_message, session, Event};
@@ -26,7 +26,7 @@ pub const YES_NO: u32 = 1;
 pub type Rule = fn(&Limits, &[Event], &Event) -> bool;
 
 /// Rule k stands at place k - 1, which is also its bit of the answer.
-pub const RULES: [Rule; 11] = [f1, f2, f3, f4, f5, f6, f7, f8, f9, f10, f11];
+pub const RULES: [Rule; 12] = [f1, f2, f3, f4, f5, f6, f7, f8, f9, f10, f11, f12];
 
 pub fn findings(rules: &[Rule], limits: &Limits, past: &[Event], event: &Event) -> u32 {
     let found = rules.iter().enumerate().filter(|(_, rule)| rule(limits, past, event));
@@ -101,7 +101,11 @@ fn f11(_: &Limits, past: &[Event], event: &Event) -> bool {
     event.is(FINISHED) && session(past).is_none()
 }
 
-/// F4 and F5's "insulation test, precharge or power transfer".
+fn f12(_: &Limits, past: &[Event], event: &Event) -> bool {
+    powers(event) && session(past).is_some_and(|session| latest(session, STOP).is_some())
+}
+
+/// F4, F5 and F12's "insulation test, precharge or power transfer".
 pub fn powers(event: &Event) -> bool {
     let powers = |control| matches!(function(control), "Insulation_Test" | "Precharge" | "Power_Transfer");
     event.of(CONTROL).is_some_and(powers)

@@ -66,7 +66,7 @@ fn session_and_function() {
 
 #[test]
 fn an_unknown_kind_gets_12_in_its_place() {
-    let empty = "volt=5000 chg=1000 dis=500 w=500 sensor=1 iface=0 last=7 open=0 since=- first=- spms=- sdpc=- n=1 tally=0,0,0,0,0,0,0,0,0,0,0 latest=-";
+    let empty = "volt=5000 chg=1000 dis=500 w=500 sensor=1 iface=0 last=7 open=0 since=- first=- spms=- sdpc=- sstop=- n=1 tally=0,0,0,0,0,0,0,0,0,0,0,0 latest=-";
     holds(&format!(
         "setup 0 4 5000 1000 500 500 2 => R12
          record 0 => R14
@@ -90,7 +90,7 @@ fn an_unknown_kind_gets_12_in_its_place() {
 #[test]
 fn a_second_set_up_names_the_kind_anew() {
     let record = |sensor: u32| {
-        format!("record 0 => K ch=4 volt=5000 chg=1000 dis=500 w=500 sensor={sensor} iface=0 last=- open=0 since=- first=- spms=- sdpc=- n=0 tally=0,0,0,0,0,0,0,0,0,0,0 latest=-")
+        format!("record 0 => K ch=4 volt=5000 chg=1000 dis=500 w=500 sensor={sensor} iface=0 last=- open=0 since=- first=- spms=- sdpc=- sstop=- n=0 tally=0,0,0,0,0,0,0,0,0,0,0,0 latest=-")
     };
     let (measuring, yes_no) = (record(0), record(1));
     holds(&format!(

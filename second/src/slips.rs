@@ -19,6 +19,7 @@ use crate::replay_slips;
 use crate::rules::{self, limit, live, poor_insulation, powers, under_power, Limits, Rule};
 use crate::safety_slips;
 use crate::sensor_slips;
+use crate::stop_slips;
 use crate::tally_slips;
 
 /// Name, and the rule that stands in for the right one of that number.
@@ -50,6 +51,7 @@ pub fn names() -> Vec<&'static str> {
     let early = early.chain(tally_slips::names()).chain(clock_slips::names());
     let later = safety_slips::names().chain(replay_slips::names()).chain(batch_slips::names());
     let later = later.chain(recordings_slips::names()).chain(older_slips::names()).chain(index_slips::names());
+    let later = later.chain(stop_slips::names());
     rules.chain([SHARED_CLOCK]).chain(early).chain(later).collect()
 }
 
@@ -73,6 +75,7 @@ pub fn desk(name: &str) -> Option<Desk> {
             recordings_slips::put_into,
             older_slips::put_into,
             index_slips::put_into,
+            stop_slips::put_into,
         ];
         put.iter().find_map(|put_into| put_into(&mut desk, name))?;
     }

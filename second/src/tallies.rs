@@ -11,7 +11,7 @@ pub const LARGEST: u32 = u32::MAX;
 /// others".
 pub const FULL: Refusal = Refusal::Number(25);
 
-/// 02: "eleven counts, one per finding, and the count of accepted frames and ticks since set-up".
+/// 02: "eleven counts, one per finding, and the count of accepted frames and ticks since set-up", and "F12 has its own tally".
 pub struct Counts {
     pub accepted: u32,
     pub tallies: [u32; RULES.len()],

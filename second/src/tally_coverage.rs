@@ -6,6 +6,7 @@
 use std::collections::BTreeSet;
 
 use crate::posts::{Request, Table};
+use crate::rules::RULES;
 use crate::safety_coverage::those;
 use crate::tallies::LARGEST;
 
@@ -38,7 +39,7 @@ const RECORDS: [&str; 5] = [
     "an event before a release",
 ];
 
-const FINDINGS: std::ops::RangeInclusive<usize> = 1..=11;
+const FINDINGS: std::ops::RangeInclusive<usize> = 1..=RULES.len();
 
 pub fn wanted() -> impl Iterator<Item = String> {
     let records = RECORDS.into_iter().map(|shown| format!("record with {shown}"));

@@ -15,12 +15,12 @@ fn holds_on_a_post(story: &str) {
 /// A record with nothing but its counts.
 fn record(n: u32, tally: &str, last: &str) -> String {
     format!(
-        "K ch=4 volt=5000 chg=1000 dis=500 w=500 sensor=0 iface=0 last={last} open=0 since=- first=- spms=- sdpc=- n={n} \
+        "K ch=4 volt=5000 chg=1000 dis=500 w=500 sensor=0 iface=0 last={last} open=0 since=- first=- spms=- sdpc=- sstop=- n={n} \
          tally={tally} latest=-"
     )
 }
 
-const NONE: &str = "0,0,0,0,0,0,0,0,0,0,0";
+const NONE: &str = "0,0,0,0,0,0,0,0,0,0,0,0";
 
 #[test]
 fn each_finding_has_a_tally_of_its_own() {
@@ -30,8 +30,8 @@ fn each_finding_has_a_tally_of_its_own() {
          frame 4 0 6b000 x 01 => A0
          tick 4 201 => A2
          frame 4 202 6b004 x 00 => A1026
-         record 0 => K ch=4 volt=5000 chg=1000 dis=500 w=500 sensor=0 iface=0 last=202 open=0 since=- first=- spms=- sdpc=- n=5 \
-         tally=0,2,1,1,0,0,0,0,0,0,2 latest=6b000x:1@0+202;6b003x:4000,0,0,8,0,0,1,0@0+202;6b004x:0@202+0",
+         record 0 => K ch=4 volt=5000 chg=1000 dis=500 w=500 sensor=0 iface=0 last=202 open=0 since=- first=- spms=- sdpc=- sstop=- n=5 \
+         tally=0,2,1,1,0,0,0,0,0,0,2,0 latest=6b000x:1@0+202;6b003x:4000,0,0,8,0,0,1,0@0+202;6b004x:0@202+0",
     );
 }
 
@@ -132,7 +132,7 @@ fn the_refused_count_stays_past_set_up_and_release() {
 /// No step on one post changes another's counts.
 #[test]
 fn posts_have_counts_of_their_own() {
-    let one = record(1, "0,0,0,0,0,0,0,0,0,0,1", "0").replace("latest=-", "latest=6b004x:0@0+0");
+    let one = record(1, "0,0,0,0,0,0,0,0,0,0,1,0", "0").replace("latest=-", "latest=6b004x:0@0+0");
     holds_on_a_post(&format!(
         "setup 1 5 5000 1000 500 500 => A
          frame 4 0 6b004 x 00 => A1024
@@ -217,7 +217,7 @@ fn the_largest_count_has_32_bits() {
 struct Answered {
     handed_in: u64,
     accepted: u64,
-    posts: [[u64; 12]; POSTS],
+    posts: [[u64; 13]; POSTS],
 }
 
 impl Answered {
@@ -227,7 +227,7 @@ impl Answered {
         if let Some(place) = place.filter(|_| word < 65_536) {
             self.accepted += 1;
             self.posts[place][0] += 1;
-            for number in 1..12 {
+            for number in 1..13 {
                 self.posts[place][number] += u64::from(word >> (number - 1) & 1);
             }
         }
@@ -257,7 +257,7 @@ fn counts_are_what_the_answers_come_to() {
             match (fields[0], answer.split(' ').next().unwrap_or("")) {
                 (_, "?") => {}
                 ("frame" | "tick", _) => answered.arrival(desk.table.holder(number(1) as u32), word(&answer)),
-                ("setup" | "release", "A") => answered.posts[number(1)] = [0; 12],
+                ("setup" | "release", "A") => answered.posts[number(1)] = [0; 13],
                 ("batch", "A") => {
                     for (holder, word) in holders.into_iter().zip(answer.split(' ').skip(1)) {
                         answered.arrival(holder, word.parse().expect("a word"));

@@ -1,4 +1,4 @@
-/* Who holds a channel, and the latest status and control of an open session, asked from C: on posts that were set up, and on tables of random numbers which
+/* Who holds a channel, and the latest status, control and stop of an open session, asked from C: on posts that were set up, and on tables of random numbers which
  * may only be read. Prints a line for each part and 'ok', or says what was wrong and where, and exits 1. */
 #include "tables.h"
 
@@ -50,7 +50,7 @@ static void any_holder(void) {
     puts("any table's holders: the post that the index names, where it holds the channel; the table only read");
 }
 
-/* ---- 01: "the latest Power_Modules_Status and DC_Power_Control accepted in that session, each possibly none" */
+/* ---- 01: "the latest Power_Modules_Status and DC_Power_Control accepted in that session, each possibly none", and Req 14's stop */
 
 static const uint8_t status[8] = {0x88, 0x13, 0, 0, 65, 65, 1, 25}, other[8] = {0x89, 0x13, 0, 0, 65, 65, 1, 25}, control[7] = {0x88, 0x13, 0, 0, 0, 0, 4};
 
@@ -72,10 +72,10 @@ static void part_is(int line, const rokemaipu_table *t, uint32_t part, uint32_t 
 static void in_session(void) {
     rokemaipu_table t;
     memset(&t, 0, sizeof t);
-    IS(rokemaipu_in_session(&t, 16, 2, NULL, 0, NULL, 0), R(9)); /* 9, 14 and 3 before 8 */
-    IS(rokemaipu_in_session(&t, 0, 2, NULL, 0, NULL, 0), R(14));
+    IS(rokemaipu_in_session(&t, 16, 3, NULL, 0, NULL, 0), R(9)); /* 9, 14 and 3 before 8 */
+    IS(rokemaipu_in_session(&t, 0, 3, NULL, 0, NULL, 0), R(14));
     IS(rokemaipu_set_up(&t, 0, 4, 5000, 1000, 500, 500, 0, 0), 0);
-    IS(rokemaipu_in_session(&t, 0, 2, NULL, 0, NULL, 0), R(3));
+    IS(rokemaipu_in_session(&t, 0, 3, NULL, 0, NULL, 0), R(3));
     IS(rokemaipu_in_session(&t, 0, ROKEMAIPU_KEPT, NULL, 0, NULL, 0), R(3));
     IS(rokemaipu_in_session(&t, 0, 0, NULL, 0, NULL, 0), 0); /* none, whatever is lent */
     IS(rokemaipu_frame(&t, 4, 10, 0x63000, true, other, 8), 0);
@@ -83,6 +83,7 @@ static void in_session(void) {
     IS(rokemaipu_frame(&t, 4, 20, 0x6b001, true, (const uint8_t[]){2, 1}, 2), 0);
     NONE(ROKEMAIPU_KEPT_STATUS);
     NONE(ROKEMAIPU_KEPT_CONTROL);
+    NONE(ROKEMAIPU_KEPT_STOP);
     IS(rokemaipu_frame(&t, 4, 30, 0x63000, true, other, 8), 0);
     IS(rokemaipu_frame(&t, 4, 40, 0x63000, true, status, 8), 0);
     PART(ROKEMAIPU_KEPT_STATUS, 40, 0, ROKEMAIPU_POWER_MODULES_STATUS, status);

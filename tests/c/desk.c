@@ -173,8 +173,9 @@ static void record(uint32_t post) {
         printf(" open=1 since=%" PRIu32 "+%" PRIu32 " first=%" PRIu32 ",%" PRIu32, n[ROKEMAIPU_SINCE], n[ROKEMAIPU_SINCE_AGE], n[ROKEMAIPU_PROTOCOL], n[ROKEMAIPU_PLUG]);
         put_part("spms", post, ROKEMAIPU_KEPT_STATUS);
         put_part("sdpc", post, ROKEMAIPU_KEPT_CONTROL);
+        put_part("sstop", post, ROKEMAIPU_KEPT_STOP);
     } else
-        printf(" open=0 since=- first=- spms=- sdpc=-");
+        printf(" open=0 since=- first=- spms=- sdpc=- sstop=-");
     put_counts(post);
     printf(" latest=");
     for (uint32_t i = 0; i < ROKEMAIPU_KINDS; i++) { /* the standard ones come first; a post has the older interface's or the newer one's */

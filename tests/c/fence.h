@@ -25,7 +25,7 @@ static void is(int line, const char *what, uint64_t got, uint64_t want) {
 
 /* ---- memory with a page behind it that may not be touched: one byte too many ends the test */
 
-static uint8_t *fenced(size_t size) {
+static inline uint8_t *fenced(size_t size) {
     size_t page = (size_t)sysconf(_SC_PAGESIZE), body = (size + page - 1) / page * page;
     uint8_t *p = mmap(NULL, body + 2 * page, PROT_READ | PROT_WRITE, MAP_PRIVATE | MAP_ANONYMOUS, -1, 0);
     if (p == MAP_FAILED || mprotect(p + page + body, page, PROT_NONE) || mprotect(p, page, PROT_NONE)) {

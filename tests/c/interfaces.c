@@ -123,8 +123,10 @@ static void rules(void) {
     IS(OLDER(130, 0x68001, 2, 1, 1, 2, 3, 4, 5, 6), 0); /* "F10 compares protocol and plug only" */
     IS(OPENS(130, 3, 1), ROKEMAIPU_F(10));
     IS(OPENS(130, 2, 2), ROKEMAIPU_F(10));
+    IS(OLDER(140, 0x68006, 1), 0);
+    IS(OLDER(140, 0x68003, 0, 0, 0, 0), ROKEMAIPU_F(12));
     IS(OLDER(140, 0x68007, 0), 0);
-    puts("rules: F4, F5, F9, F10 and F11 on a post of the older interface, and no F3, F6, F7");
+    puts("rules: F4, F5, F9, F10, F11 and F12 on a post of the older interface, and no F3, F6, F7");
 }
 
 static void limits(void) {

@@ -14,7 +14,7 @@ static bool same_table(const rokemaipu_table *a, const rokemaipu_table *b) { ret
 
 static void layout(void) {
     IS(rokemaipu_layout(), ROKEMAIPU_LAYOUT);
-    IS(rokemaipu_layout(), 11656 + 16 * (1ull << 32) + 21 * (1ull << 40) + 5 * (1ull << 48));
+    IS(rokemaipu_layout(), 12040 + 16 * (1ull << 32) + 21 * (1ull << 40) + 6 * (1ull << 48));
     rokemaipu_table t, zero;
     memset(&t, 0, sizeof t);
     memset(&zero, 0, sizeof zero);
@@ -48,8 +48,12 @@ static void layout(void) {
     IS(memcmp(&t.posts[15].head.parameters, &t.posts[15].latest[ROKEMAIPU_DC_POWER_PARAMETERS], sizeof(rokemaipu_slot)), 0);
     IS(rokemaipu_frame(&t, 31, 11, 8, false, (const uint8_t[]){1, 2, 3, 4, 5, 6, 7, 8}, 8), 0);
     IS(t.posts[15].latest[ROKEMAIPU_PT1000_STATE].raw, 0x0102030405060708u); /* byte 0 highest */
-    IS(t.posts[15].head.counts[0], 5);
-    IS(t.posts[15].head.counts[8], 1);
+    IS(t.posts[15].head.session.kept[ROKEMAIPU_KEPT_STOP].known, 0);
+    IS(rokemaipu_frame(&t, 31, 12, 0x6b005, true, (const uint8_t[]){3}, 1), 0);
+    IS(t.posts[15].head.session.kept[ROKEMAIPU_KEPT_STOP].raw, 3);
+    IS(memcmp(&t.posts[15].head.session.kept[ROKEMAIPU_KEPT_STOP], &t.posts[15].latest[ROKEMAIPU_EMERGENCY_STOP], sizeof(rokemaipu_slot)), 0);
+    IS(rokemaipu_frame(&t, 31, 12, 0x6b003, true, (const uint8_t[]){0, 0, 0, 0, 0, 0, 4}, 7), ROKEMAIPU_F(12));
+    for (int k = 0; k < ROKEMAIPU_COUNTS; k++) IS(t.posts[15].head.counts[k], !k ? 7 : k == 8 || k == 12);
     IS(rokemaipu_tick(&t, 30, 12), R(1));
     IS(t.refused, 1);
     IS(rokemaipu_start(&t), 0);
@@ -370,7 +374,7 @@ static void looks(void) {
     puts("look-ups: E8's and E12's posts, their numbers and their latest frames");
 }
 
-/* ---- 02: "eleven counts, one per finding, and the count of accepted frames and ticks since set-up"; "of frames and ticks refused" */
+/* ---- 02: "eleven counts, one per finding, and the count of accepted frames and ticks since set-up", and Req 14's twelfth; "of frames and ticks refused" */
 
 static void counts_are(int line, const rokemaipu_table *t, uint32_t post, const uint32_t want[ROKEMAIPU_COUNTS]) {
     uint32_t got[ROKEMAIPU_COUNTS + 1];
@@ -513,7 +517,7 @@ static void anything(void) {
         if (rokemaipu_refusal(r) && !same_table(t, &before)) IS(r, 0);
         if (what > 1 && !rokemaipu_refusal(r)) indexed(&before, post, what > 2 ? &channel : NULL);
         IS(memcmp(t->index, before.index, sizeof t->index), 0);
-        if (!rokemaipu_refusal(r) && r > 2047) IS(r, 2047);
+        if (!rokemaipu_refusal(r) && r > 4095) IS(r, 4095);
         for (int i = 0, changed = 0; i < ROKEMAIPU_POSTS; i++) {
             changed += !same_post(&t->posts[i], &before.posts[i]);
             if (changed > 1) IS(changed, 1);
@@ -527,7 +531,7 @@ static void anything(void) {
 /* any frame, read and watched as plain C does it */
 static void any_frame(void) {
     uint8_t *end = fenced(12) + 12;
-    uint32_t seen[32] = {0}, starts[256] = {0}, low[2][2] = {{0}}, found[2][12] = {{0}}, other[2] = {0}, time = 0;
+    uint32_t seen[32] = {0}, starts[256] = {0}, low[2][2] = {{0}}, found[2][ROKEMAIPU_COUNTS] = {{0}}, other[2] = {0}, time = 0;
     rokemaipu_table ours, plain;
     memset(&ours, 0, sizeof ours);
     IS(rokemaipu_set_up(&ours, 0, 4, 5000, 1000, 500, 500, 0, ROKEMAIPU_NEWER), 0);
@@ -552,12 +556,12 @@ static void any_frame(void) {
         IS(rokemaipu_frame(&ours, 4 + post, time, id, extended, payload, length), word);
         if (!same_table(&ours, &plain)) IS(turn, -1);
         if (rokemaipu_refusal(word)) other[post] += rokemaipu_refusal(word) == 29;
-        else for (int k = 1; k <= 11; k++) found[post][k] += (word & ROKEMAIPU_F(k)) != 0;
+        else for (int k = 1; k <= ROKEMAIPU_FINDINGS; k++) found[post][k] += (word & ROKEMAIPU_F(k)) != 0;
         if (!rokemaipu_refusal(word) && (word & ROKEMAIPU_F(9))) low[plain.posts[post].head.limits.sensor == ROKEMAIPU_YES_NO][!payload[0] && !payload[1]]++;
     }
     IS(seen[0] && seen[3] && seen[4] && seen[6] && seen[15], true);
-    for (int k = 1; k <= 11; k++) IS(found[0][k] > 0, true);
-    for (int k = 1; k <= 11; k++) IS(found[1][k] > 0, k != 3 && k != 6 && k != 7); /* 02: "F3, F6 and F7 give no finding there" */
+    for (int k = 1; k <= ROKEMAIPU_FINDINGS; k++) IS(found[0][k] > 0, true);
+    for (int k = 1; k <= ROKEMAIPU_FINDINGS; k++) IS(found[1][k] > 0, k != 3 && k != 6 && k != 7); /* 02: "F3, F6 and F7 give no finding there" */
     IS(other[0] && other[1], true);
     IS(starts[0] && starts[8] && starts[48], true);
     IS(low[0][0] && !low[0][1] && low[1][0] && low[1][1], true);

@@ -109,7 +109,7 @@ def faults(header, pages, refusals):
     if len(have) != len(wanted) or any(v != n or not alike(name, f'R{n}{w}') for (name, v, _), (n, w) in zip(have, wanted)):
         said.append(f'the refusals are {[h[:2] for h in have]}, the list has {wanted}')
     have = enum(header, 'finding')
-    if [v for _, v, _ in have] != [1 << k for k in range(11)] or any(not name.startswith(f'F{k}_') for k, (name, _, _) in enumerate(have, 1)):
+    if [v for _, v, _ in have] != [1 << k for k in range(12)] or any(not name.startswith(f'F{k}_') for k, (name, _, _) in enumerate(have, 1)):
         said.append(f'the findings are {[h[:2] for h in have]}')
     if [seen, older] != [[61, 62], [78, 66]]:
         said.append(f'{seen} and {older} signals and labels were compared, not 61 and 62, and 78 and 66')

@@ -90,3 +90,6 @@ class Grows(unittest.TestCase):
 
     def test_sixteen(self):
         self.appended('sixteen', 400)
+
+    def test_stop(self):
+        self.appended('stop', 300)

@@ -56,7 +56,9 @@ class Record:
         _, signals = PAGES['6b001x']
         within = [f'{kept.name} {told(kept.time)}, {lasting(kept.age)} old' if kept else f'no {name} yet'
                   for kept, name in ((self.message(self.fields['spms']), 'power modules status'), (self.message(self.fields['sdpc']), 'power control'))]
-        return (f'Session open since {told(since)} ({lasting(age)}): {signals[0][3][protocol]}, {signals[1][3][plug]}', f'In it: {within[0]}; {within[1]}')
+        if stop := self.message(self.fields['sstop']):
+            within.append(f'{stop.name} {told(stop.time)}, {lasting(stop.age)} old')
+        return f'Session open since {told(since)} ({lasting(age)}): {signals[0][3][protocol]}, {signals[1][3][plug]}', f'In it: {"; ".join(within)}'
 
     def tallies(self):
         return [[f'F{k}', int(count)] for k, count in enumerate(self.fields['tally'].split(','), 1)]
@@ -92,7 +94,7 @@ class Record:
         if controller := self.messages.get('Advantics_Controller_Status'):
             row(controller, 'Controller', controller.said('State'))
         if stop := self.messages.get('Emergency_Stop'):
-            row(stop, 'Emergency stop', stop.said('Origin'), told(stop.time), self.fields['open'] == '1' and stop.age <= self.when('since')[1])
+            row(stop, 'Emergency stop', stop.said('Origin'), told(stop.time), self.fields['sstop'] != '-')
         return rows
 
     def asked(self):

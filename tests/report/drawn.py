@@ -2,15 +2,15 @@
 import re
 from collections import Counter
 
-from said import SENTENCES
+from said import PAPERS, SENTENCES
 from tabled import TIME
 from told import ROUND, Finding, clock, ms
 
 # what lengths are rounded to
 NEAR = 0.2
 
-ONE = re.compile(rf'({TIME}), record (\d+), post (\d+)\nF(\d+) (.*)\n01: "(.*)"(?:\n02: ".*")?\n.+')
-SEVERAL = re.compile(rf'({TIME}) to ({TIME}), (\d+) records from (\d+) to (\d+), post (\d+)\nF(\d+) (.*)\n01: "(.*)"(?:\n02: ".*")?')
+ONE = re.compile(rf'({TIME}), record (\d+), post (\d+)\nF(\d+) (.*)\n(0[12]: ".*")(?:\n02: ".*")?\n.+')
+SEVERAL = re.compile(rf'({TIME}) to ({TIME}), (\d+) records from (\d+) to (\d+), post (\d+)\nF(\d+) (.*)\n(0[12]: ".*")(?:\n02: ".*")?')
 REFUSED = re.compile(rf'({TIME}), record (\d+)\nR(\d+) (.*)\n(.*)')
 SEVERAL_REFUSED = re.compile(r'(\d+) records from (\d+) to (\d+)\nR(\d+) (.*)')
 
@@ -59,7 +59,8 @@ def findings(page, told, names, rows):
                          and (int(begin), int(end)) == (alike[0].count, alike[-1].count) and mark.one('text').text() == f'×{len(alike):,}')
             else:
                 sound = False
-            sound = sound and int(of) == post and alike[0].number == int(number) and name == names.get(int(number)) and sentence == SENTENCES.get(int(number))
+            sound = sound and int(of) == post and alike[0].number == int(number) and name == names.get(int(number))
+            sound = sound and sentence == f'{PAPERS[int(number)]}: "{SENTENCES[int(number)]}"'
             if not sound or not near(span(mark), (place(told.at[alike[0].count]), place(told.at[alike[-1].count]))):
                 faults.append(f'mark {title!r} to {mark["href"]}')
             shown.update(alike)

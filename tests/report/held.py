@@ -32,7 +32,7 @@ def listed_once(told, rows):
 def rules(page, told):
     rows = [tabled.cells(row) for row in tabled.table(page, 'The rules')]
     numbers = [finding.number for finding in told.findings]
-    want = [[f'F{k}', NAMES[k], f'01: {said.SENTENCES[k]}{said.mended(k, told.older)}', f'{numbers.count(k):,}'] for k in sorted(set(numbers))]
+    want = [[f'F{k}', NAMES[k], f'{said.PAPERS[k]}: {said.SENTENCES[k]}{said.mended(k, told.older)}', f'{numbers.count(k):,}'] for k in sorted(set(numbers))]
     return [] if rows == want else [f'rules: {rows}']
 
 

@@ -6,6 +6,7 @@ import unittest
 from pathlib import Path
 
 import held
+import said
 from browser import dumped, pictured
 from pictures import FEW, differing
 from second import ROOT, records, replay
@@ -36,12 +37,12 @@ class Pages(unittest.TestCase):
         picture = TARGET / 'march.png'
         picture.unlink(missing_ok=True)
         page, told = paged('march', TARGET, '--screenshot', picture)
-        self.assertEqual([(finding.post, finding.number) for finding in told.findings], [(1, 9)] * 4)
+        self.assertEqual([(finding.post, finding.number) for finding in told.findings], [(1, 9), (1, 9), (1, 9), (1, 12), (1, 9)])
         self.assertEqual([len(sessions) for sessions in told.sessions.values()], [1, 1])
         self.assertEqual(held.faults(dumped(page), told), [])
         self.assertIn('>insulation under 100 Ohm per volt, or Invalid by a yes/no sensor, in …<', page.read_text(), 'no room for all of the name in its lane')
         width, height, rows = pictured(picture)
-        self.assertEqual((width, height), (1120, 2330))
+        self.assertEqual((width, height), (1120, 2400))
         self.assertGreater(rows, 300, 'hardly anything on the picture')
         self.hold_stored_picture(page, picture)
 
@@ -49,18 +50,18 @@ class Pages(unittest.TestCase):
         """All findings, all refusals that a replay gives but 25, which no night is long enough for, and nothing of either."""
         findings, refusals = set(), set()
         with tempfile.TemporaryDirectory() as folder:
-            for name in ('faults', 'damaged', 'clean', 'safety', 'round', 'older', 'sixteen'):
+            for name in ('faults', 'damaged', 'clean', 'safety', 'round', 'older', 'sixteen', 'stop'):
                 page, told = paged(name, folder)
                 self.assertEqual(held.faults(dumped(page), told), [], name)
                 findings |= {finding.number for finding in told.findings}
                 refusals |= {refusal.number for refusal in told.refusals}
-        self.assertEqual(findings, set(range(1, 12)))
+        self.assertEqual(findings, set(said.FINDINGS))
         self.assertEqual(refusals, {1, 2, 3, 4, 5, 6, 15, 29})
 
     def hold_stored_picture(self, page, picture):
         """docs/report.png is this page; of a page that lacks a finding's row it is not."""
         stored = ROOT / 'docs/report.png'
-        self.assertLess(stored.stat().st_size, 300000)
+        self.assertLess(stored.stat().st_size, 350000)
         self.assertLessEqual(differing(stored, picture), FEW, 'docs/report.png is not the page of the March night: make report PICTURE=docs/report.png')
         with tempfile.TemporaryDirectory() as folder:
             other, shot = Path(folder) / 'other.html', Path(folder) / 'other.png'
@@ -80,7 +81,7 @@ class Wrong(unittest.TestCase):
 
     def test_parts_taken_out_or_changed(self):
         with tempfile.TemporaryDirectory() as folder:
-            for name, least in (('march', 40), ('faults', 150), ('damaged', 100), ('round', 20), ('older', 40), ('sixteen', 40)):
+            for name, least in (('march', 40), ('faults', 150), ('damaged', 100), ('round', 20), ('older', 40), ('sixteen', 40), ('stop', 40)):
                 page, told = paged(name, folder)
                 text = page.read_text()
                 self.assertEqual(held.faults(text, told), [])
@@ -116,7 +117,7 @@ def wrongs(text):
             for time in set(TIME.findall(part)):
                 yield f'another time than {time} in {part}', put(text, found, part.replace(time, clock(ms(time) + 1), 1))
     for found in MARK.finditer(text):
-        for old, new in ((r'F(\d)', r'F1\1'), ('record', 'rekord'), ('01: "', '01: "not '), (r'(href="#post-\d+-f)', r'\g<1>0'),
+        for old, new in ((r'F(\d)', r'F1\1'), ('record', 'rekord'), (r'(0[12]: ")', r'\1not '), (r'(href="#post-\d+-f)', r'\g<1>0'),
                          (r'(d="M|x=")(\d)', r'\g<1>1\2')):
             yield f'{new} for {old} in {found[0]}', put(text, found, re.sub(old, new, found[0], count=1))
     for found in ROW.finditer(text):

@@ -1,4 +1,4 @@
-"""Names of findings and words of refusals from the second program; of 01's sentences that they hold what the nights quote."""
+"""Names of findings and words of refusals from the second program; of the papers' sentences that they hold what the nights quote."""
 import sys
 
 from second import ROOT, answers
@@ -6,10 +6,12 @@ from second import ROOT, answers
 # behind the tests' own modules
 sys.path += [str(ROOT), str(ROOT / 'nights')]
 from report import words
-from says import SAYS
+from says import SAYS, SAYS_02
 
-FINDINGS, REFUSALS = range(1, 12), (1, 2, 3, 4, 5, 6, 15, 25, 29)
+FINDINGS, REFUSALS = range(1, 13), (1, 2, 3, 4, 5, 6, 15, 25, 29)
 SENTENCES = {k: rule.sentence for k, rule in words.FINDINGS.items()}
+# whose sentence it is
+PAPERS = {k: '01' if f'F{k}' in SAYS else '02' for k in FINDINGS}
 
 
 def names():
@@ -24,9 +26,9 @@ def refusals(numbers=REFUSALS):
 
 
 def quoted(k):
-    """Whether the sentence has what the nights quote of 01, where `[...]` leaves something out."""
+    """Whether the sentence has what the nights quote of 01 or 02, where `[...]` leaves something out."""
     at = 0
-    for part in SAYS[f'F{k}'].split(' [...] '):
+    for part in (SAYS if PAPERS[k] == '01' else SAYS_02)[f'F{k}'].split(' [...] '):
         at = SENTENCES[k].find(part, at)
         if at < 0:
             return False

@@ -2,6 +2,7 @@
 import re
 from collections import Counter
 
+from said import FINDINGS
 from told import Finding, clock, ms
 
 TIME = r'\d+:\d\d:\d\d\.\d{3}'
@@ -54,7 +55,7 @@ def listed(times, most=200):
 def tally_rows(page, told):
     """02, Req 08: of each post what it accepted, and of these how many have each finding."""
     found = Counter((finding.post, finding.number) for finding in told.findings)
-    want = [[str(post), *(f'{count:,}' for count in (told.accepted[post], *(found[post, k] for k in range(1, 12))))] for post in sorted(told.channels)]
+    want = [[str(post), *(f'{count:,}' for count in (told.accepted[post], *(found[post, k] for k in FINDINGS)))] for post in sorted(told.channels)]
     got = [cells(row) for row in table(page, 'The tallies of each post')]
     return [] if got == want else [f'tallies: {got}']
 

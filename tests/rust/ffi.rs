@@ -5,7 +5,8 @@
 pub const POSTS: usize = 16;
 pub const KINDS: usize = 30;
 pub const PLACES: usize = 21;
-pub const KEPT: usize = 2;
+pub const FINDINGS: usize = 12;
+pub const KEPT: usize = 3;
 pub const SIGNALS: usize = 16;
 pub const RECORD_BYTES: usize = 20;
 pub const BATCH_BYTES: usize = 4096;
@@ -15,7 +16,7 @@ pub const COMPARE_RECORDS: usize = 512;
 pub const COMPARED_NUMBERS: usize = 2;
 pub const NUMBERS: usize = 14;
 pub const TIMES: usize = 3;
-pub const COUNTS: usize = 12;
+pub const COUNTS: usize = 13;
 pub const ENTRY_NUMBERS: usize = 8;
 pub const REFUSED: u32 = 65536;
 pub const NEWER: u32 = 0;
@@ -56,12 +57,12 @@ pub struct Head {
     pub used: u32,
     pub channel: u32,
     pub limits: Limits,
-    pub heard: u64,
+    pub heard: u32,
+    pub counts: [u32; COUNTS],
     pub time: u64,
     pub controller: Slot,
     pub parameters: Slot,
     pub session: Session,
-    pub counts: [u32; COUNTS],
 }
 
 #[repr(C)]
@@ -88,7 +89,7 @@ pub struct Replay {
 }
 
 /// What `rokemaipu_layout` answers where the library has this table.
-pub const LAYOUT: u64 = std::mem::size_of::<Table>() as u64 + ((POSTS as u64) << 32) + ((PLACES as u64) << 40) + (5 << 48);
+pub const LAYOUT: u64 = std::mem::size_of::<Table>() as u64 + ((POSTS as u64) << 32) + ((PLACES as u64) << 40) + (6 << 48);
 
 impl Table {
     /// Zeroed memory is the empty table.

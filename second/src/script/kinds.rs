@@ -5,16 +5,17 @@ use crate::pages::{Kind, OLDER};
 /// Weights of the messages that the rules ask for: while a session is open, and while none is.
 type Weighted = (u64, u64, Kind);
 
-const NEWER_ASKED: [Weighted; 6] = [
+const NEWER_ASKED: [Weighted; 7] = [
     (12, 30, Kind::NewChargeSession),
     (18, 15, Kind::AdvanticsControllerStatus),
     (24, 12, Kind::PowerModulesStatus),
     (22, 18, Kind::DcPowerControl),
     (7, 6, Kind::DcPowerParameters),
+    (5, 3, Kind::EmergencyStop),
     (4, 5, Kind::ChargeSessionFinished),
 ];
 
-const OLDER_ASKED: [Weighted; 8] = [
+const OLDER_ASKED: [Weighted; 9] = [
     (12, 30, Kind::OlderNewChargeSession),
     (18, 15, Kind::OlderAdvanticsControllerStatus),
     (24, 12, Kind::OlderPowerModulesStatus),
@@ -22,19 +23,18 @@ const OLDER_ASKED: [Weighted; 8] = [
     (7, 6, Kind::Precharge),
     (9, 7, Kind::ChargingLoop),
     (9, 6, Kind::PowerModulesLimits),
+    (5, 3, Kind::OlderEmergencyStop),
     (4, 5, Kind::OlderChargeSessionFinished),
 ];
 
 const SAFETY: [(u64, Kind); 3] = [(4, Kind::ChargeControl1), (4, Kind::ChargeState1), (4, Kind::Pt1000State)];
 
-const NEWER_OTHERS: [(u64, Kind); 3] =
-    [(2, Kind::ChargeStatusChange), (2, Kind::EmergencyStop), (1, Kind::EvIdCcsPart2Din)];
+const NEWER_OTHERS: [(u64, Kind); 2] = [(2, Kind::ChargeStatusChange), (1, Kind::EvIdCcsPart2Din)];
 
-const OLDER_OTHERS: [(u64, Kind); 10] = [
+const OLDER_OTHERS: [(u64, Kind); 9] = [
     (2, Kind::SequenceControl),
     (2, Kind::AdmCsSeccOutputs),
     (2, Kind::OlderChargeStatusChange),
-    (2, Kind::OlderEmergencyStop),
     (2, Kind::AdmCoCui1Inputs),
     (2, Kind::AdmCsSeccInputs),
     (2, Kind::OlderEvIdCcsPart2Din),

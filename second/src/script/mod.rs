@@ -205,9 +205,9 @@ impl Generator {
 
     fn explain(&mut self) -> String {
         let number = match self.rng.below(4) {
-            0 => self.rng.below(2048),
-            1 => 1 << self.rng.below(13),
-            2 => self.rng.pick(&[0, 2047, 2048, 4_294_967_295, 4_294_967_296]),
+            0 => self.rng.below(4096),
+            1 => 1 << self.rng.below(14),
+            2 => self.rng.pick(&[0, 2048, 4095, 4096, 4_294_967_295, 4_294_967_296]),
             _ if self.rng.chance(60) => return format!("explain R{}", self.rng.below(32)),
             _ => return self.explain_start(),
         };

@@ -2,6 +2,7 @@
 
 use super::logs::bad_record;
 use super::Generator;
+use crate::clock::ROUND;
 use crate::desk;
 use crate::fields::hex;
 use crate::log;
@@ -11,6 +12,7 @@ impl Generator {
     pub fn replay(&mut self) -> String {
         let mut night = Generator::new(self.rng.next(), self.extras);
         let set_ups = night.night_set_ups().join(";");
+        night.shortly_before_the_round();
         let log = night.night_log();
         format!("replay {} {}", hex(&log), if set_ups.is_empty() { "-" } else { &set_ups })
     }
@@ -33,6 +35,14 @@ impl Generator {
             _ => self.set_up(),
         };
         fields(&line)
+    }
+
+    /// Now and then, so that the night goes across it.
+    fn shortly_before_the_round(&mut self) {
+        if self.rng.chance(20) {
+            let short = self.rng.pick(&[1, 1, 2, 50, 150, 300]);
+            self.posts.iter_mut().flatten().for_each(|post| post.now = ROUND - short);
+        }
     }
 
     fn night_log(&mut self) -> Vec<u8> {
