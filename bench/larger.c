@@ -16,7 +16,8 @@ enum { PAGE = 4096, PLACES = 16, STEP = PAGE / PLACES + 8, TURNS = 1000, AGAIN =
 static _Alignas(PAGE) uint8_t room[4 * PAGE], large_room[11 * PAGE];
 static uint64_t sum;
 
-_Static_assert((PLACES - 1) * STEP + sizeof(rokemaipu_table) <= sizeof room && (PLACES - 1) * STEP + sizeof(larger_table) <= sizeof large_room, "the tables have room");
+_Static_assert((PLACES - 1) * STEP + sizeof(rokemaipu_table) <= sizeof room, "the tables have room");
+_Static_assert((PLACES - 1) * STEP + sizeof(larger_table) <= sizeof large_room, "the larger tables have room");
 
 static uint64_t frames(rokemaipu_table *t, larger_table *l, bool large, uint32_t channel, uint32_t time) {
     uint64_t seen = 0;
@@ -55,7 +56,8 @@ static void line(bool tick, uint32_t posts) {
             }
         for (int large = 0; large < 2; large++) mean[large] += best[large] / PLACES;
     }
-    printf("%s, %u post%s set up %7.1f ns of 32 with 42 places  %7.1f ns of 16 with 21, %5.2f times\n", tick ? "tick" : "frame", posts, posts > 1 ? "s" : "", mean[1], mean[0], mean[1] / mean[0]);
+    printf("%s, %u post%s set up %7.1f ns of 32 with 42 places  %7.1f ns of 16 with 21, %5.2f times\n", tick ? "tick" : "frame", posts, posts > 1 ? "s" : "",
+        mean[1], mean[0], mean[1] / mean[0]);
 }
 
 int main(void) {

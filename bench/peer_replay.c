@@ -103,8 +103,8 @@ static void set_ups(const char *name) {
         uint32_t post, channel;
         rokemaipu_limits l = {0};
         if (text[0] == '#' || text[0] == '\n') continue;
-        if (sscanf(text, "setup %u %u %u %u %u %u %u %u", &post, &channel, &l.voltage, &l.charge, &l.discharge, &l.silence, &l.sensor, &l.interface) < 6 || post >= ROKEMAIPU_POSTS
-            || channel >= ROKEMAIPU_CHANNELS) {
+        int read = sscanf(text, "setup %u %u %u %u %u %u %u %u", &post, &channel, &l.voltage, &l.charge, &l.discharge, &l.silence, &l.sensor, &l.interface);
+        if (read < 6 || post >= ROKEMAIPU_POSTS || channel >= ROKEMAIPU_CHANNELS) {
             fprintf(stderr, "%s: no set-up: %s", name, text);
             exit(1);
         }

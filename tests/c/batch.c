@@ -94,7 +94,8 @@ static void taken(int line, const records *r, size_t places) {
 
 static void set_up(void) {
     rokemaipu_start(the_table());
-    for (uint32_t i = 0; i < ROKEMAIPU_POSTS; i++) IS(rokemaipu_set_up(the_table(), i, i, 5000, 1000, 500, 500, i % 2, i / 4 % 2), 0); /* posts of either interface */
+    for (uint32_t i = 0; i < ROKEMAIPU_POSTS; i++) /* posts of either interface */
+        IS(rokemaipu_set_up(the_table(), i, i, 5000, 1000, 500, 500, i % 2, i / 4 % 2), 0);
 }
 
 /* ---- the parts */

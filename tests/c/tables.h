@@ -37,7 +37,10 @@ static void random_head(rokemaipu_head *h) {
     for (int k = 0; k < ROKEMAIPU_COUNTS; k++) h->counts[k] = some_count();
 }
 
-static inline bool holds(const rokemaipu_table *t, uint32_t post, uint32_t channel) { return t->posts[post].head.used == 1 && t->posts[post].head.channel == channel; }
+static inline bool holds(const rokemaipu_table *t, uint32_t post, uint32_t channel) {
+    const rokemaipu_head *h = &t->posts[post].head;
+    return h->used == 1 && h->channel == channel;
+}
 
 /* what a search over the posts finds, as the index says it: 0, or one more than the first post that holds the channel */
 static inline uint32_t searched(const rokemaipu_table *t, uint32_t channel) {
@@ -46,12 +49,13 @@ static inline uint32_t searched(const rokemaipu_table *t, uint32_t channel) {
     return 0;
 }
 
-/* the post that the index names, and the first where it names none; whether it holds the channel is asked of it */
-static inline uint32_t named(const rokemaipu_table *t, uint32_t channel) { return t->index[channel] - 1 < ROKEMAIPU_POSTS ? t->index[channel] - 1 : 0; }
+/* the post that the index names, and some post where it names none, since the numbers come round; whether it holds the channel is asked of it */
+static inline uint32_t named(const rokemaipu_table *t, uint32_t channel) { return (t->index[channel] - 1) % ROKEMAIPU_POSTS; }
 
 /* mostly true, and any number may stand there */
 static void random_index(rokemaipu_table *t) {
-    for (uint32_t channel = 0; channel < ROKEMAIPU_CHANNELS; channel++) t->index[channel] = below(3) ? searched(t, channel) : below(8) ? below(ROKEMAIPU_POSTS + 3) : (uint32_t)next();
+    for (uint32_t channel = 0; channel < ROKEMAIPU_CHANNELS; channel++)
+        t->index[channel] = below(3) ? searched(t, channel) : below(8) ? below(ROKEMAIPU_POSTS + 3) : (uint32_t)next();
 }
 
 static inline void random_table(rokemaipu_table *t) {

@@ -501,7 +501,8 @@ static void anything(void) {
         size_t length = below(12);
         uint8_t *payload = end - length; /* ends at the fence */
         for (size_t i = 0; i < length; i++) payload[i] = below(3) ? (uint8_t)below(6) : (uint8_t)next();
-        uint32_t post = below(20), channel = below(40), time = below(2) ? (uint32_t)next() : (uint32_t)t->posts[below(ROKEMAIPU_POSTS)].head.time, which = below(IDS), what = below(4), r;
+        uint32_t post = below(20), channel = below(40), which = below(IDS), what = below(4), r;
+        uint32_t time = below(2) ? (uint32_t)next() : (uint32_t)t->posts[below(ROKEMAIPU_POSTS)].head.time;
         switch (what) {
         case 0: r = rokemaipu_frame(t, channel, time, ids[which], some_form(which), payload, length); break;
         case 1: r = rokemaipu_tick(t, channel, time); break;

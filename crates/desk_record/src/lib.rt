@@ -88,15 +88,21 @@ fn put_open(out: &mut [u8], pen: Pen, s: OpenSession) -> Pen {
     let plug = s.plug;
     let status = s.status;
     let control = s.control;
+    let stop = s.stop;
     let p = put_time(out, pen, b" open=1 since=", s.since, s.age);
     let q = put_first(out, p, protocol, plug);
     let r = put_part(out, q, b" spms=", status);
-    put_part(out, r, b" sdpc=", control)
+    let t = put_part(out, r, b" sdpc=", control);
+    put_part(out, t, b" sstop=", stop)
 }
 
 fn put_session(out: &mut [u8], pen: Pen, s: SessionPart) -> Pen {
     match s {
-        SessionPart::Closed => text_pen::put(out, pen, b" open=0 since=- first=- spms=- sdpc=-"),
+        SessionPart::Closed => text_pen::put(
+            out,
+            pen,
+            b" open=0 since=- first=- spms=- sdpc=- sstop=-",
+        ),
         SessionPart::Opened(o) => put_open(out, pen, o),
     }
 }
@@ -251,13 +257,12 @@ fn put_holder(out: &mut [u8], pen: Pen, name: u32) -> Pen {
     named(out, pen, b" ", name - 1)
 }
 
-fn put_index(table: Table, out: &mut [u8], pen: Pen) -> Pen {
+fn put_index(out: &mut [u8], pen: Pen, index: [u32; CHANNELS]) -> Pen {
     let mut p = pen;
     let mut c = 0;
     while c < CHANNELS {
-        let name = table.index[c];
+        p = put_holder(out, p, index[c]);
         c += 1;
-        p = put_holder(out, p, name);
     }
     p
 }
@@ -267,7 +272,8 @@ pub fn index(table: Table, s: &[u8], at: usize, out: &mut [u8], pen: Pen) -> Pen
     if at <= s.len() {
         return answer::unknown(out, pen);
     }
+    let names = table.index;
     let p = text_pen::put(out, pen, b"I");
-    let q = put_index(table, out, p);
+    let q = put_index(out, p, names);
     text_pen::put(out, q, b"\n")
 }

@@ -40,7 +40,7 @@ fn findings_of(l: Last) -> Asked {
     let Last::Is(n) = l else {
         return Asked::Nothing;
     };
-    if n > 2047 {
+    if n > 4095 {
         return Asked::Nothing;
     }
     Asked::Findings(n)

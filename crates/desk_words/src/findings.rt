@@ -4,7 +4,7 @@ use notation_answers::answer;
 use text_pen::Pen;
 
 // The highest finding.
-const LAST: u32 = 11;
+const LAST: u32 = 12;
 
 fn put_words(out: &mut [u8], pen: Pen, k: u32) -> Pen {
     sentence::put(
@@ -20,7 +20,8 @@ target voltage above the voltage limit\n\
 current above the charge limit or below minus the discharge limit\n\
 insulation under 100 Ohm per volt, or Invalid by a yes/no sensor, in precharge or power transfer\n\
 another protocol or plug than the session's first\n\
-session finished with none open\n",
+session finished with none open\n\
+insulation test, precharge or power transfer after an Emergency_Stop in this session\n",
         k,
     )
 }

@@ -23,7 +23,7 @@ use Rattle.rule_asks.specs.Judgements.{lowersBadly, outside, leaking, badInsula
 use Rattle.rules.specs.History.{History, sinceFinished, opening, inSession}
 use Rattle.rules.specs.Times.{earlierIn}
 use Rattle.rules.specs.History as history
-use Rattle.rules.specs.Rules.{sessionStatus, sessionControl, limitOf, f1, f2, f3, f4, f5, f6, f7, f8, f9, f10, f11, findings01}
+use Rattle.rules.specs.Rules.{sessionStatus, sessionControl, sessionStop, limitOf, f1, f2, f3, f4, f5, f6, f7, f8, f9, f10, f11, f12, findings01}
 use Rattle.rules.specs.Counts.{talliesOf, countsOf}
 use Rattle.rules.specs.After.{countCount}
 use Rattle.watch_rules.specs.declared.LookedUp.{LookedUp}
@@ -49,24 +49,24 @@ heard = history.tick 1000 ∷ history.frame 10 3 257 ∷ history.frame 0 3 258 �
 
 -- three were accepted; finding 1 once, and finding 10 once
 abbrev counts : List ℕ
-counts = 3 ∷ 1 ∷ 0 ∷ 0 ∷ 0 ∷ 0 ∷ 0 ∷ 0 ∷ 0 ∷ 0 ∷ 1 ∷ 0 ∷ []
+counts = 3 ∷ 1 ∷ 0 ∷ 0 ∷ 0 ∷ 0 ∷ 0 ∷ 0 ∷ 0 ∷ 0 ∷ 1 ∷ 0 ∷ 0 ∷ []
 
 computed : (standing 0 (accepted night) ≡ held 4 limits heard) × (countsOf limits heard ≡ counts) × (refusedEver night ≡ 2) × (lookUp01 (accepted night) 0 .answer ≡ setting.Done)
     × (acceptedEver night ≡ 3) × (handedIn night ≡ 5)
-unfolding standing findFrom holder otherHolds feed01 setUp01 lookUp01 feedSteps setUpSteps limitsFit accepted sinceFinished opening inSession earlierIn lowersBadly outside leaking badInsulation differs sessionStatus sessionControl limitOf f1 f2 f3 f4 f5 f6 f7 f8 f9 f10 f11 findings01 talliesOf rows ofKind firstAt covered unlabelled strayBelow judgedNumber judgeOn isForeign judgeFor wholesOf pad rawsOf getBits leNumber toSigned roleOf statusBy limitsBy openingBy commandBy statusIn parametersIn sessionIn controlIn
+unfolding standing findFrom holder otherHolds feed01 setUp01 lookUp01 feedSteps setUpSteps limitsFit accepted sinceFinished opening inSession earlierIn lowersBadly outside leaking badInsulation differs sessionStatus sessionControl sessionStop limitOf f1 f2 f3 f4 f5 f6 f7 f8 f9 f10 f11 f12 findings01 talliesOf rows ofKind firstAt covered unlabelled strayBelow judgedNumber judgeOn isForeign judgeFor wholesOf pad rawsOf getBits leNumber toSigned roleOf statusBy limitsBy openingBy commandBy statusIn parametersIn sessionIn controlIn
 computed = (refl, refl, refl, refl, refl, refl)
 
 first : 0 < postCount
 first = ltb-true 0 postCount refl
 
--- twelve places and two more, all 7
+-- thirteen places and two more, all 7
 abbrev places : List ℕ
-places = replicate 14 7
+places = replicate 15 7
 
--- the counts come over the first twelve
+-- the counts come over the first thirteen
 pub night-counts : (countsWord (run night) 0 places ≡ 0) × (countsAfter (run night) 0 places ≡ counts ++ (7 ∷ 7 ∷ []))
 night-counts =
-    let z = counts-of-run night 0 4 limits heard first (computed .0) places (leb-true countCount 14 refl) in
+    let z = counts-of-run night 0 4 limits heard first (computed .0) places (leb-true countCount 15 refl) in
     (z .0, z .1 ∙ ap (λ (cs : List ℕ). cs ++ (7 ∷ 7 ∷ [])) (computed .1))
 
 pub night-behind : drop countCount (countsAfter (run night) 0 places) ≡ 7 ∷ 7 ∷ []
@@ -79,21 +79,21 @@ night-refused = refused-of-run night ∙ omega (arith, computed .2)
 pub night-accounted : 3 + refusedIn (run night) ≡ 5
 night-accounted = omega (arith, accounted night (omega (arith, computed .2)), computed .4, computed .5)
 
--- eleven places are too few: 8, and nothing changes
+-- twelve places are too few: 8, and nothing changes
 answered : lookUpOf (run night) 0 .answer ≡ setting.Done
 answered = ap (λ (x : LookedUp). x .answer) (every-record night 0) ∙ computed .3
 
-eleven : countsWord (run night) 0 (replicate 11 7) ≡ 65544
+twelve : countsWord (run night) 0 (replicate 12 7) ≡ 65544
 unfolding countsWord
-eleven = rw answered
+twelve = rw answered
 
-pub night-short : countsAfter (run night) 0 (replicate 11 7) ≡ replicate 11 7
-night-short = counts-refused (run night) 0 (replicate 11 7) (subst (λ (a : ℕ). 65536 ≤ a) (sym eleven) (omega arith))
+pub night-short : countsAfter (run night) 0 (replicate 12 7) ≡ replicate 12 7
+night-short = counts-refused (run night) 0 (replicate 12 7) (subst (λ (a : ℕ). 65536 ≤ a) (sym twelve) (omega arith))
 
 -- and so for the post's numbers
-no-number : lookUpWord (run night) 0 (replicate 11 7) ≡ 65544
+no-number : lookUpWord (run night) 0 (replicate 12 7) ≡ 65544
 unfolding lookUpWord
 no-number = rw answered
 
-pub night-numbers : numbersAfter (run night) 0 (replicate 11 7) ≡ replicate 11 7
-night-numbers = look-up-refused (run night) 0 (replicate 11 7) (subst (λ (a : ℕ). 65536 ≤ a) (sym no-number) (omega arith))
+pub night-numbers : numbersAfter (run night) 0 (replicate 12 7) ≡ replicate 12 7
+night-numbers = look-up-refused (run night) 0 (replicate 12 7) (subst (λ (a : ℕ). 65536 ≤ a) (sym no-number) (omega arith))

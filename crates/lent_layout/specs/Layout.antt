@@ -15,9 +15,9 @@ sessionBytes = 24 + keptCount * slotBytes
 abbrev pub countBytes : ℕ
 countBytes = 4
 
--- set up or not, and the channel; six limits; heard or not; the time; the latest controller status and limits told; the session; the counts
+-- set up or not, and the channel; six limits; heard or not, and the counts; the time; the latest controller status and limits told; the session
 abbrev pub headBytes : ℕ
-headBytes = 8 + 24 + 8 + 8 + 2 * slotBytes + sessionBytes + countCount * countBytes
+headBytes = 8 + 24 + 4 + countCount * countBytes + 8 + 2 * slotBytes + sessionBytes
 
 abbrev pub postBytes : ℕ
 postBytes = headBytes + placeCount * slotBytes
@@ -31,7 +31,7 @@ tableBytes = postCount * postBytes + channelCount * entryBytes + 8
 
 -- another one wherever a place of the table means something else
 abbrev pub layoutNumber : ℕ
-layoutNumber = 5
+layoutNumber = 6
 
 abbrev pub layoutWord : ℕ
 layoutWord = tableBytes + postCount * 2 ^ 32 + placeCount * 2 ^ 40 + layoutNumber * 2 ^ 48

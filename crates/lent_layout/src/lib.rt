@@ -6,10 +6,10 @@ use rules::PLACES;
 use watch_rules::POSTS;
 
 // Bytes of a table.
-const TABLE: u64 = 11656;
+const TABLE: u64 = 12040;
 
 // Another number wherever a place of the table means something else.
-const LAYOUT: u64 = 5;
+const LAYOUT: u64 = 6;
 
 #[no_mangle]
 pub extern "C" fn rokemaipu_layout() -> u64

@@ -1,4 +1,4 @@
--- How large a reply can be, whatever the table holds: the findings of any step are at most 2,047 (`found-small`), and the start that a refusal
+-- How large a reply can be, whatever the table holds: the findings of any step are at most 4,095 (`found-small`), and the start that a refusal
 -- carries is one of a payload's 64 bits (`reply-within`).
 use Prim.Native.Nat.{ℕ, _+_, _<_, _≤_}
 use native.Mathlib.Omega.{arith}
@@ -22,10 +22,10 @@ use Rattle.rule_limits.specs.Sensor.{sensorOf, interfaceOf}
 use Rattle.rule_asks.specs.Judgements.{isClose, isPowered, isOff, lowersBadly, outside, badInsulation, differs, isSet, bit}
 use Rattle.message_parts.specs.Parts.{sessionIn}
 use Rattle.rule_pages.specs.declared.Role.{Role}
-use Rattle.rule_pages.specs.declared.Role.the-variants.{Other, Status, Limits, Controller, Opening, Command, Finished}
+use Rattle.rule_pages.specs.declared.Role.the-variants.{Other, Status, Limits, Controller, Opening, Command, Finished, Stop}
 use Rattle.rule_pages.specs.Roles.{roleOf}
 use Rattle.rule_pages.specs.Said.{statusBy, openingBy, commandBy}
-use Rattle.rules.specs.After.{silentIn, lateAfter, limitIn, unreadyIn, carryingIn, anyFindings, controlFindings, statusFindings, openingFindings, finishedFindings, findingsBy, messageFindings, isFullIn, afterTick, afterFrame, agedTo, stampIn, isEarly}
+use Rattle.rules.specs.After.{silentIn, lateAfter, limitIn, unreadyIn, stoppedIn, carryingIn, anyFindings, controlFindings, statusFindings, openingFindings, finishedFindings, findingsBy, messageFindings, isFullIn, afterTick, afterFrame, agedTo, stampIn, isEarly}
 use Rattle.watch_rules.specs.declared.Table.{Table}
 use Rattle.watch_rules.specs.declared.Answer.{Answer}
 use Rattle.watch_rules.specs.declared.Answer.the-variants.{Findings, Refused}
@@ -49,10 +49,10 @@ two-le : (a b : Bool) (v w : ℕ) → bit a v + bit b w ≤ v + w
 two-le a b v w = omega (arith, bit-le a v, bit-le b w)
 
 -- those of DC_Power_Control
-five-le : (a b c d e : Bool) → bit a 4 + bit b 8 + bit c 16 + bit d 32 + bit e 64 ≤ 124
-five-le a b c d e = omega (arith, bit-le a 4, bit-le b 8, bit-le c 16, bit-le d 32, bit-le e 64)
+six-le : (a b c d e f : Bool) → bit a 4 + bit b 8 + bit c 16 + bit d 32 + bit e 64 + bit f 2048 ≤ 2172
+six-le a b c d e f = omega (arith, bit-le a 4, bit-le b 8, bit-le c 16, bit-le d 32, bit-le e 64, bit-le f 2048)
 
-under : {n : ℕ} (m : ℕ) → n ≤ m → m ≤ 1024 → n ≤ 1024
+under : {n : ℕ} (m : ℕ) → n ≤ m → m ≤ 2172 → n ≤ 2172
 under m l h = omega arith
 
 -- ---- any head
@@ -63,7 +63,7 @@ module _ (p : Head) where
   any-small = two-le (silentIn (p .session) (p .limits .silence) (p .time)) (lateAfter (p .controller) (p .time)) 1 2
 
   abbrev Small : ℕ → Type 0
-  Small n = n ≤ 1024
+  Small n = n ≤ 2172
 
   zero-small : Small 0
   zero-small = omega arith
@@ -81,14 +81,13 @@ module _ (p : Head) where
   control-small : (d : DcPowerControl) → Small (controlFindings p d)
   unfolding controlFindings
   control-small d =
-      under 124
-      (five-le
+      (six-le
       (isClose (d .contactors) && not (isSet (p .session .opened)))
       (isPowered (d .function) && not (isSet (p .session .opened)))
       (isPowered (d .function) && unreadyIn (p .session))
       (lowersBadly d)
-      (not (isOff (d .function)) && ltb (limitIn (p .limits .voltage) (λ q. q .voltage) (p .parameters)) (d .target)))
-      (omega arith)
+      (not (isOff (d .function)) && ltb (limitIn (p .limits .voltage) (λ q. q .voltage) (p .parameters)) (d .target))
+      (isPowered (d .function) && stoppedIn (p .session)))
 
   opening-small : (n : NewChargeSession) → Small (openingFindings (p .session) n)
   unfolding openingFindings
@@ -96,7 +95,7 @@ module _ (p : Head) where
 
   finished-small : Small (finishedFindings (p .session))
   unfolding finishedFindings
-  finished-small = bit-le (not (isSet (p .session .opened))) 1024
+  finished-small = under 1024 (bit-le (not (isSet (p .session .opened))) 1024) (omega arith)
 
   role-small : (r : Role) (k raw : ℕ) → Small (findingsBy r p k raw)
   role-small Status k raw = status-small (statusBy k raw)
@@ -105,6 +104,7 @@ module _ (p : Head) where
   role-small Finished k raw = finished-small
   role-small Limits k raw = zero-small
   role-small Controller k raw = zero-small
+  role-small Stop k raw = zero-small
   role-small Other k raw = zero-small
 
   message-small : (k raw : ℕ) → Small (messageFindings p k raw)
@@ -114,14 +114,14 @@ module _ (p : Head) where
 -- ---- any table
 
 abbrev pub Found : Answer → Type 0
-Found (Findings n) = n ≤ 2047
+Found (Findings n) = n ≤ 4095
 Found (Refused w) = Unit {0}
 
-tick-small : (p : Head) (t : ℕ) → afterTick p t .findings ≤ 2047
+tick-small : (p : Head) (t : ℕ) → afterTick p t .findings ≤ 4095
 unfolding afterTick
 tick-small p t = omega (arith, any-small (agedTo p (stampIn p t)))
 
-frame-small : (p : Head) (t k n : ℕ) → afterFrame p t k n .findings ≤ 2047
+frame-small : (p : Head) (t k n : ℕ) → afterFrame p t k n .findings ≤ 4095
 unfolding afterFrame
 frame-small p t k n = omega (arith, any-small (agedTo p (stampIn p t)), message-small (agedTo p (stampIn p t)) k n)
 
@@ -131,8 +131,8 @@ Reads P Tick = Unit {0}
 Reads P (Frame k n) = Unit {0}
 Reads P (Unread w) = P (Refused w)
 
--- what holds of 25, of any findings up to 2,047 and of what is not read holds of a head's answer
-judged-says : (P : Answer → Type 0) → P (Refused CountFull) → ((n : ℕ) → n ≤ 2047 → P (Findings n)) → (p : Head) (t : ℕ) (a : Arrival) → Reads P a
+-- what holds of 25, of any findings up to 4,095 and of what is not read holds of a head's answer
+judged-says : (P : Answer → Type 0) → P (Refused CountFull) → ((n : ℕ) → n ≤ 4095 → P (Findings n)) → (p : Head) (t : ℕ) (a : Arrival) → Reads P a
     → P (judgedOf p t a .answer)
 judged-says P full found p t Tick l = either (λ (r : Heard). P (r .answer)) (isFullIn p) full (found _ (tick-small p t))
 judged-says P full found p t (Frame k n) l = either (λ (r : Heard). P (r .answer)) (isFullIn p) full (found _ (frame-small p t k n))
@@ -161,7 +161,7 @@ found-small t c time a = feed-says Found t c time a tt tt (λ p. judged-says Fou
 -- ---- what comes to a word, of any table
 
 abbrev FedWithin : Answer → Type 0
-FedWithin r = Within 2047 (answerOutcome r)
+FedWithin r = Within 4095 (answerOutcome r)
 
 -- an arrival that is not read is refused with the start of a row, or with none
 frame-readable : (b : ℕ) (j : Judged) → SmallBelow b j → Reads FedWithin (arrivalOf j)

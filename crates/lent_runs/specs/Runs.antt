@@ -21,7 +21,7 @@ unfoldable pub lentRun : Table → List Request → Table
 lentRun t [] = startOf t .table
 lentRun t (a ∷ earlier) = lentBy (lentRun t earlier) a .table
 
--- what a reply comes to, as one word, and the most that an accepted one answers: 0, or all eleven findings
+-- what a reply comes to, as one word, and the most that an accepted one answers: 0, or all twelve findings
 abbrev pub outcomeOf : Reply → Outcome
 outcomeOf (set r) = settingOutcome r
 outcomeOf (fed r) = answerOutcome r
@@ -32,5 +32,5 @@ wordOf r = outcomeWord (outcomeOf r)
 abbrev pub mostOf : Request → ℕ
 mostOf (setUp i c lim) = 0
 mostOf (release i) = 0
-mostOf (frame c time m x bs) = 2047
-mostOf (tick c time) = 2047
+mostOf (frame c time m x bs) = 4095
+mostOf (tick c time) = 4095

@@ -1,4 +1,5 @@
--- The laws of an open session's part on a night: post 0 on channel 4, a session opened at 0 ms, a Power_Modules_Status at 10 ms in it, and a tick at 25 ms.
+-- The laws of an open session's part on a night: post 0 on channel 4, a session opened at 0 ms, a Power_Modules_Status at 10 ms in it, an Emergency_Stop at
+-- 20 ms, and a tick at 25 ms.
 -- Each premise holds there.
 use Prim.Native.Nat.{ℕ, zero, suc, _<_, _≤_}
 use native.Mathlib.Omega.{arith}
@@ -28,12 +29,12 @@ use Rattle.rules.specs.History.{History, saidAt, sinceFinished, opening, inSess
 use Rattle.rules.specs.Times.{earlierIn}
 use Rattle.rules.specs.History as history
 use Rattle.rule_asks.specs.Judgements.{lowersBadly, outside, leaking, badInsulation, differs}
-use Rattle.rules.specs.Rules.{sessionStatus, sessionControl, limitOf, f1, f2, f3, f4, f5, f6, f7, f8, f9, f10, f11, findings01}
+use Rattle.rules.specs.Rules.{sessionStatus, sessionControl, sessionStop, limitOf, f1, f2, f3, f4, f5, f6, f7, f8, f9, f10, f11, f12, findings01}
 use Rattle.rules.specs.declared.Post.{Post}
 use Rattle.rules.specs.declared.Dated.the-variants as dated
 use Rattle.rules.specs.Record.{isSet, unknown, slotAt, session01, headAt, latests}
 use Rattle.rules.proofs.Excludes.{excludes}
-use Rattle.rules.specs.After.{statusPlace, controlPlace, keptCount, datedIn}
+use Rattle.rules.specs.After.{statusPlace, controlPlace, stopPlace, keptCount, datedIn}
 use Rattle.watch_rules.specs.declared.Setting.the-variants as setting
 use Rattle.watch_rules.specs.declared.Setting.{Setting}
 use Rattle.watch_rules.specs.declared.LookedUp.{LookedUp}
@@ -60,18 +61,19 @@ allowed = 18375039702077014016
 
 -- newest first
 abbrev night : List Request
-night = tick 4 25 ∷ frame 4 10 0x63000 true status ∷ frame 4 0 0x6b001 true (2 ∷ 1 ∷ []) ∷ setUp 0 4 limits ∷ []
+night = tick 4 25 ∷ frame 4 20 0x6b005 true (3 ∷ []) ∷ frame 4 10 0x63000 true status ∷ frame 4 0 0x6b001 true (2 ∷ 1 ∷ []) ∷ setUp 0 4 limits ∷ []
 
 abbrev heard : History
-heard = history.tick 25 ∷ history.frame 10 0 allowed ∷ history.frame 0 3 258 ∷ []
+heard = history.tick 25 ∷ history.frame 20 7 3 ∷ history.frame 10 0 allowed ∷ history.frame 0 3 258 ∷ []
 
 abbrev buffer : List ℕ
 buffer = replicate 10 7
 
 computed : (standing 0 (accepted night) ≡ held 4 limits heard) × (opening heard ≡ some (saidAt 0 3 258)) × (sessionStatus heard ≡ some (saidAt 10 0 allowed)) × (sessionControl heard ≡ none)
     × (judgeFor Newer 0x63000 true status ≡ judged.Frame 0 allowed) × (lookUp01 (accepted night) 0 .answer ≡ setting.Done) × (hands setting.Done true (slotAt 10 0 allowed) 3 10 ≡ true)
-unfolding standing findFrom holder otherHolds feed01 setUp01 lookUp01 feedSteps setUpSteps limitsFit accepted sinceFinished opening inSession earlierIn lowersBadly outside leaking badInsulation differs sessionStatus sessionControl limitOf f1 f2 f3 f4 f5 f6 f7 f8 f9 f10 f11 findings01 rows ofKind firstAt covered lengthOf unlabelled strayBelow judgedNumber judgeOn isForeign judgeFor wholesOf pad rawsOf getBits leNumber toSigned roleOf statusBy limitsBy openingBy commandBy statusIn parametersIn sessionIn controlIn
-computed = (refl, refl, refl, refl, refl, refl, refl)
+    × (sessionStop heard ≡ some (saidAt 20 7 3))
+unfolding standing findFrom holder otherHolds feed01 setUp01 lookUp01 feedSteps setUpSteps limitsFit accepted sinceFinished opening inSession earlierIn lowersBadly outside leaking badInsulation differs sessionStatus sessionControl sessionStop limitOf f1 f2 f3 f4 f5 f6 f7 f8 f9 f10 f11 f12 findings01 rows ofKind firstAt covered lengthOf unlabelled strayBelow judgedNumber judgeOn isForeign judgeFor wholesOf pad rawsOf getBits leNumber toSigned roleOf statusBy limitsBy openingBy commandBy statusIn parametersIn sessionIn controlIn
+computed = (refl, refl, refl, refl, refl, refl, refl, refl)
 
 first : 0 < postCount
 first = ltb-true 0 postCount refl
@@ -82,6 +84,10 @@ kept-status = part-right (run night) (accepted night) (run-kept night) 0 4 limit
 -- no DC_Power_Control was accepted
 pub kept-control : partOf (run night) 0 controlPlace ≡ unknown
 kept-control = part-right (run night) (accepted night) (run-kept night) 0 4 limits heard first (computed .0) (saidAt 0 3 258) controlPlace (computed .1) (ltb-true controlPlace keptCount refl) ∙ rw (computed .3)
+
+-- the stop, at its place
+pub kept-stop : partOf (run night) 0 stopPlace ≡ slotAt 20 7 3
+kept-stop = part-right (run night) (accepted night) (run-kept night) 0 4 limits heard first (computed .0) (saidAt 0 3 258) stopPlace (computed .1) (ltb-true stopPlace keptCount refl) ∙ rw (computed .7)
 
 handed : handsPart (run night) 0 statusPlace (99 ∷ 99 ∷ 99 ∷ []) buffer ≡ true
 handed =

@@ -27,7 +27,7 @@ use Rattle.rules.specs.History.{History, saidAt, newest, sinceFinished, opening
 use Rattle.rules.specs.History as history
 use Rattle.rules.specs.Times.{earlierIn}
 use Rattle.rule_asks.specs.Judgements.{lowersBadly, outside, leaking, badInsulation, differs}
-use Rattle.rules.specs.Rules.{sessionStatus, sessionControl, limitOf, f1, f2, f3, f4, f5, f6, f7, f8, f9, f10, f11, findings01}
+use Rattle.rules.specs.Rules.{sessionStatus, sessionControl, sessionStop, limitOf, f1, f2, f3, f4, f5, f6, f7, f8, f9, f10, f11, f12, findings01}
 use Rattle.rules.specs.Record.{unknown, slotAt}
 use Rattle.rules.specs.After.{controlPlace, keptCount}
 use Rattle.watch_rules.specs.declared.Answer.the-variants.{Refused}
@@ -66,7 +66,7 @@ heard = history.frame 10 older.insulationKind tested ∷ history.frame 0 older.s
 
 computed : (standing 0 (accepted night) ≡ held 4 limits heard) × (opening heard ≡ some (saidAt 0 older.sessionKind 258)) × (sessionControl heard ≡ some (saidAt 10 older.insulationKind tested))
     × (reply01 (accepted before) foreign ≡ fed (Refused OtherInterface))
-unfolding standing findFrom holder otherHolds feed01 setUp01 lookUp01 feedSteps setUpSteps limitsFit accepted sinceFinished opening inSession earlierIn lowersBadly outside leaking badInsulation differs sessionStatus sessionControl limitOf f1 f2 f3 f4 f5 f6 f7 f8 f9 f10 f11 findings01 rows ofKind firstAt covered lengthOf unlabelled strayBelow judgedNumber judgeOn isForeign judgeFor wholesOf pad rawsOf getBits leNumber toSigned roleOf statusBy limitsBy openingBy commandBy statusIn parametersIn sessionIn controlIn
+unfolding standing findFrom holder otherHolds feed01 setUp01 lookUp01 feedSteps setUpSteps limitsFit accepted sinceFinished opening inSession earlierIn lowersBadly outside leaking badInsulation differs sessionStatus sessionControl sessionStop limitOf f1 f2 f3 f4 f5 f6 f7 f8 f9 f10 f11 f12 findings01 rows ofKind firstAt covered lengthOf unlabelled strayBelow judgedNumber judgeOn isForeign judgeFor wholesOf pad rawsOf getBits leNumber toSigned roleOf statusBy limitsBy openingBy commandBy statusIn parametersIn sessionIn controlIn
 computed = (refl, refl, refl, refl)
 
 pub foreign-29 : reply (run before) foreign ≡ fed (Refused OtherInterface)

@@ -24,9 +24,9 @@ use Rattle.rules.specs.declared.Post.{Post}
 use Rattle.rules.specs.declared.Session.{Session}
 use Rattle.rules.specs.History.{History, Said, opening, inSession}
 use Rattle.rules.specs.Times.{receivedOf, ageOf}
-use Rattle.rules.specs.Rules.{sessionStatus, sessionControl}
+use Rattle.rules.specs.Rules.{sessionStatus, sessionControl, sessionStop}
 use Rattle.rules.specs.Record.{isSet, unknown, slotAt, slotOf, keptOf, session01, headAt, postOf}
-use Rattle.rules.specs.After.{statusPlace, controlPlace, keptCount, datedIn, partIn, postRecord}
+use Rattle.rules.specs.After.{statusPlace, controlPlace, stopPlace, keptCount, datedIn, partIn, postRecord}
 use Rattle.watch_rules.specs.declared.Table.{Table}
 use Rattle.watch_rules.specs.Table.{postCount, noPost, postIn, isPost, lookUpOf}
 use Rattle.watch_rules.specs.Steps.{Steps, held, standing, keptPost, Kept}
@@ -65,7 +65,14 @@ part-kept t i j times buf = handed-behind (handsPart t i j times buf) (nowOf t i
 -- the message of a place of the record's session part
 abbrev pub shownAt : SessionPart → ℕ → Dated
 shownAt part.Closed j = dated.Nothing
-shownAt (part.Opened s) j = cond (eqb j statusPlace) (s .status) (s .control)
+shownAt (part.Opened s) j = cond (eqb j statusPlace) (s .status) (cond (eqb j controlPlace) (s .control) (s .stop))
+
+-- a place that is neither of the first two
+third : (j : ℕ) → j < keptCount → eqb j statusPlace ≡ false → eqb j controlPlace ≡ false → j ≡ stopPlace
+third j l f g =
+    let n : j ≡ statusPlace → ⊥ = eqb-false j statusPlace f in
+    let m : j ≡ controlPlace → ⊥ = eqb-false j controlPlace g in
+    omega arith
 
 shown-part : (now : ℕ) (s : Session) (j : ℕ) → j < keptCount → shownAt (partIn now s) j ≡ datedIn now (openKept s j)
 shown-part now s j l = go (isSet (s .opened)) (eqb j statusPlace) (eqb j controlPlace) refl refl refl
@@ -74,10 +81,7 @@ shown-part now s j l = go (isSet (s .opened)) (eqb j statusPlace) (eqb j control
     go false a b e f g = rw e
     go true true b e f g = rw (e, eqb-true j statusPlace f)
     go true false true e f g = rw (e, eqb-true j controlPlace g)
-    go true false false e f g =
-        let n : j ≡ statusPlace → ⊥ = eqb-false j statusPlace f in
-        let m : j ≡ controlPlace → ⊥ = eqb-false j controlPlace g in
-        absurd (let z : ⊥ = omega arith in z)
+    go true false false e f g = rw (e, third j l f g)
 
 pub part-shown : (t : Table) (i j : ℕ) → isPost i ≡ true → isSet (postIn t i .head .used) ≡ true → j < keptCount
     → shownAt (lookUpOf t i .shown .session) j ≡ datedIn (nowOf t i) (partOf t i j)
@@ -92,21 +96,18 @@ closed t i j times buf l u m c = rw (set-up t i l u, lt-ltb j keptCount m, c)
 
 -- ---- over a post's history
 
--- "the latest Power_Modules_Status and DC_Power_Control accepted in that session, each possibly none"
+-- "the latest Power_Modules_Status and DC_Power_Control accepted in that session, each possibly none"; 02, Req 14: and the stop
 abbrev pub latest01 : History → ℕ → Option Said
-latest01 h j = cond (eqb j statusPlace) (sessionStatus h) (sessionControl h)
+latest01 h j = cond (eqb j statusPlace) (sessionStatus h) (cond (eqb j controlPlace) (sessionControl h) (sessionStop h))
 
 kept-look : (h : History) (o : Said) (j : ℕ) → opening h ≡ some o → j < keptCount → openKept (session01 h) j ≡ slotOf (latest01 h j)
-unfolding session01 sessionStatus sessionControl
+unfolding session01 sessionStatus sessionControl sessionStop
 kept-look h o j e l = go (eqb j statusPlace) (eqb j controlPlace) refl refl
   where
     go : (a b : Bool) → eqb j statusPlace ≡ a → eqb j controlPlace ≡ b → openKept (session01 h) j ≡ slotOf (latest01 h j)
     go true b f g = rw (e, eqb-true j statusPlace f)
     go false true f g = rw (e, eqb-true j controlPlace g)
-    go false false f g =
-        let n : j ≡ statusPlace → ⊥ = eqb-false j statusPlace f in
-        let m : j ≡ controlPlace → ⊥ = eqb-false j controlPlace g in
-        absurd (let z : ⊥ = omega arith in z)
+    go false false f g = rw (e, third j l f g)
 
 module _ (t : Table) (s : Steps) (kept : Kept t s) (i c : ℕ) (lim : PlainLimits) (h : History) (low : i < postCount) (own : standing i s ≡ held c lim h) where
   there : postIn t i .head .session ≡ session01 h

@@ -1,5 +1,5 @@
--- The latest Power_Modules_Status and DC_Power_Control accepted in the open session, or what stands for them on a post of the older interface, over the C
--- interface: answered, refused and handed out as the latest frame of a kind (`lent_latest`), from what the session keeps.
+-- The latest Power_Modules_Status, DC_Power_Control and Emergency_Stop accepted in the open session, or what stands for them on a post of the older interface,
+-- over the C interface: answered, refused and handed out as the latest frame of a kind (`lent_latest`), from what the session keeps.
 -- 01: "With no session open all of the session's part is none."
 use Prim.Native.Nat.{ℕ}
 use mathlib.Core.Bool.{Bool, cond}

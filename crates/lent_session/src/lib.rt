@@ -1,5 +1,5 @@
-// The latest Power_Modules_Status and DC_Power_Control of an open session over the C interface, or what stands for them on a post of the older interface, as
-// `lent_latest` hands out the latest frame of a kind: its time as received, its age and its kind, and its bytes as they came.
+// The latest Power_Modules_Status, DC_Power_Control and Emergency_Stop of an open session over the C interface, or what stands for them on a post of the older
+// interface, as `lent_latest` hands out the latest frame of a kind: its time as received, its age and its kind, and its bytes as they came.
 // The lent table is only read. For C callers; a caller in Rattle asks `watch::look_up`.
 ghost use mathlib.Core.Path.{_≡_};
 ghost use Prim.Native.Nat.{_<_};

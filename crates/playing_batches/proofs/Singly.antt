@@ -46,7 +46,7 @@ called-word : (t : Table) (x : Rec) → calledWith t x .answer ≡ answerWord (f
 called-word t (tick time c) = lent-word t (request.tick c time)
 called-word t (frame time c x m bs) = lent-word t (request.frame c time m x bs)
 
-within : (t : Table) (x : Rec) → Within 2047 (answerOutcome (fedWith t x .answer))
+within : (t : Table) (x : Rec) → Within 4095 (answerOutcome (fedWith t x .answer))
 within t (tick time c) = reply-within t (request.tick c time)
 within t (frame time c x m bs) = reply-within t (request.frame c time m x bs)
 
@@ -79,11 +79,11 @@ by-cases n i w true false e f = rw (e, f)
 by-cases n i w false true e f = rw (e, f)
 by-cases n i w false false e f = rw (e, f)
 
-pub line-of-word : (n i : ℕ) (a : Answer) → Within 2047 (answerOutcome a) → wordLine n i (answerWord a) ≡ lineOf n i a
+pub line-of-word : (n i : ℕ) (a : Answer) → Within 4095 (answerOutcome a) → wordLine n i (answerWord a) ≡ lineOf n i a
 unfolding wordLine answerText postText lineOf textOf
 line-of-word n i (answer.Findings f) h = let l : ltb f 65536 ≡ true = lt-ltb f 65536 (omega arith) in rw l
 line-of-word n i (answer.Refused w) h =
-    let t = word-tells 2047 (refuses w) (omega arith) h in
+    let t = word-tells 4095 (refuses w) (omega arith) h in
     ap (λ (x : List ℕ). numeral 10 n ++ (space ∷ (postText i (eqb (numberIn (refusalWord w)) 1) ++ (space ∷ x)))) (ap (λ (b : Bool). cond b (foundText (refusalWord w)) (refusedText (numberIn (refusalWord w)) (startIn (refusalWord w)))) (t .told))
     ∙ ap₂ (λ (k s : ℕ). numeral 10 n ++ (space ∷ (postText i (eqb k 1) ++ (space ∷ refusedText k s)))) (t .number) (t .start)
     ∙ by-cases n i w (eqb (numberOf w) 1) (eqb (numberOf w) 5) refl refl
@@ -101,7 +101,7 @@ words-lines (x ∷ xs) r ps rest h =
     (ap₂ (λ (i w : ℕ). wordLine n i w) (h (channelOf x)) (called-word t x) ∙ line-of-word n (placeOf (t .posts) (channelOf x)) (fedWith t x .answer) (within t x))
     (ap (λ (u : Table). wordLines ps n xs (wordsOf u xs ++ rest)) (called-table t x) ∙ words-lines xs (fedOne r x) ps rest (λ c. h c ∙ sym (place-kept t x c)))
 
-in-words : (a : Answer) → Within 2047 (answerOutcome a) → InWords a
+in-words : (a : Answer) → Within 4095 (answerOutcome a) → InWords a
 in-words (answer.Findings n) h = omega arith
 in-words (answer.Refused w) h = (omega (arith, number-small w), omega arith)
 

@@ -1,7 +1,7 @@
 // A replay's records (02, Req 05): a night log is fed to a table that was set up, one record a call, and each record gets a line in a lent buffer. For every
 // program that plays a log. The public function takes any input.
 ghost use mathlib.Core.Path.{_≡_};
-ghost use Prim.Native.Nat.{_≤_};
+ghost use Prim.Native.Nat.{_≤_, _<_};
 ghost use lib.ListN.{length};
 ghost use Rattle.log_records.specs.Reading.{recOf, foundAt};
 ghost use Rattle.playing_line.specs.Lines.{lineRoom, lineOf, laid};

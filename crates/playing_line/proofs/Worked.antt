@@ -30,5 +30,5 @@ pub first-line : length (lineOf 1 0 (Findings 0)) ≤ lineRoom
 first-line = line-short 1 0 (Findings 0) (omega arith) (omega arith) (omega arith)
 
 -- 02, Req 13: the longest count with a post of two digits
-pub last-post : length (lineOf 18446744073709551615 15 (Findings 2047)) ≤ lineRoom
-last-post = line-short 18446744073709551615 15 (Findings 2047) (omega arith) (omega arith) (omega arith)
+pub last-post : length (lineOf 18446744073709551615 15 (Findings 4095)) ≤ lineRoom
+last-post = line-short 18446744073709551615 15 (Findings 4095) (omega arith) (omega arith) (omega arith)

@@ -22,7 +22,7 @@ use Rattle.rules.specs.History.{Event, History, frame, tick}
 use Rattle.rules.specs.Times.{stampOf, earlierIn}
 use Rattle.rule_asks.specs.Judgements.{bit}
 use Rattle.rules.specs.Counts.{isFull}
-use Rattle.rules.specs.Rules.{f1, f2, f3, f4, f5, f6, f7, f8, f9, f10, f11, findings01}
+use Rattle.rules.specs.Rules.{f1, f2, f3, f4, f5, f6, f7, f8, f9, f10, f11, f12, findings01}
 use Rattle.log_records.specs.declared.Found.{Found as Seen}
 use Rattle.log_records.specs.declared.Found.the-variants as found
 use Rattle.log_records.specs.Record.{Rec}
@@ -31,7 +31,7 @@ use Rattle.log_records.specs.Reading.{foundAt, onward, readFrom, logOf, records
 use Rattle.watch_rules.specs.declared.Answer.the-variants.{Refused}
 use Rattle.watch_rules.specs.declared.Arrival.{Arrival}
 use Rattle.watch_rules.specs.declared.Arrival.the-variants.{Tick, Frame, Unread}
-use Rattle.watch_rules.specs.Table.{isChannel, arrivalOf, Arriving}
+use Rattle.watch_rules.specs.Table.{postCount, isChannel, arrivalOf, Arriving}
 use Rattle.watch_rules.specs.Steps.{Steps, Standing, free, held, standing, holder, found01, answerIn, feed01, feedSteps}
 use Rattle.playing_line.specs.Lines.{lineRoom, InWords, AllShort}
 use Rattle.playing_nights.specs.Fed.{timeOf, channelOf, arrivalIn, lines01From}
@@ -71,6 +71,7 @@ findings-small lim h e =
       bit-le (f9 lim h e) 256,
       bit-le (f10 lim h e) 512,
       bit-le (f11 lim h e) 1024,
+      bit-le (f12 lim h e) 2048,
     )
 
 -- ---- the reader's refusals

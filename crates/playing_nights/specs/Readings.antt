@@ -25,12 +25,13 @@ use Rattle.playing_nights.specs.Night.{Wanted, Night, setUpsFrom, callsF
 
 abbrev forms : List (ℕ × ℕ × Answer × List ℕ)
 forms =
-    -- "1 0 A0", "2 - R1", "3 0 R5 48", "4 7 R2", "10 3 A1027"
+    -- "1 0 A0", "2 - R1", "3 0 R5 48", "4 7 R2", "10 3 A1027", "11 15 R2"
     (1, 0, Findings 0, 49 ∷ 32 ∷ 48 ∷ 32 ∷ 65 ∷ 48 ∷ 10 ∷ [])
-    ∷ (2, 8, Refused ChannelFree, 50 ∷ 32 ∷ 45 ∷ 32 ∷ 82 ∷ 49 ∷ 10 ∷ [])
+    ∷ (2, 16, Refused ChannelFree, 50 ∷ 32 ∷ 45 ∷ 32 ∷ 82 ∷ 49 ∷ 10 ∷ [])
     ∷ (3, 0, Refused (NoLabel 48), 51 ∷ 32 ∷ 48 ∷ 32 ∷ 82 ∷ 53 ∷ 32 ∷ 52 ∷ 56 ∷ 10 ∷ [])
     ∷ (4, 7, Refused Earlier, 52 ∷ 32 ∷ 55 ∷ 32 ∷ 82 ∷ 50 ∷ 10 ∷ [])
     ∷ (10, 3, Findings 1027, 49 ∷ 48 ∷ 32 ∷ 51 ∷ 32 ∷ 65 ∷ 49 ∷ 48 ∷ 50 ∷ 55 ∷ 10 ∷ [])
+    ∷ (11, 15, Refused Earlier, 49 ∷ 49 ∷ 32 ∷ 49 ∷ 53 ∷ 32 ∷ 82 ∷ 50 ∷ 10 ∷ [])
     ∷ []
 
 pub line-forms : map (λ e. lineOf (e .0) (e .1) (e .2)) forms ≡ map (λ e. e .3) forms
@@ -81,10 +82,12 @@ cases =
     -- channel 32 in a log: "the byte where that record began"
     ∷ (set-up 0 2 ∷ [], ticks ++ (0x00 ∷ 0x20 ∷ []), lineRoom, record { lines = told; ending = Bad LogChannel 10 })
     -- "a refused one ends the replay with its number and no line", also where a later one would be accepted
-    ∷ (set-up 8 2 ∷ set-up 0 2 ∷ [], ticks, lineRoom, record { lines = []; ending = SetUp NoSuchPost })
+    ∷ (set-up 16 2 ∷ set-up 0 2 ∷ [], ticks, lineRoom, record { lines = []; ending = SetUp NoSuchPost })
     ∷ (set-up 0 2 ∷ set-up 1 2 ∷ [], ticks, lineRoom, record { lines = []; ending = SetUp ChannelTaken })
     -- "a line buffer under 40 bytes gets 8 first"
-    ∷ (set-up 8 2 ∷ [], ticks, 39, record { lines = []; ending = Short })
+    ∷ (set-up 16 2 ∷ [], ticks, 39, record { lines = []; ending = Short })
+    -- Req 13: "1 15 A0", "2 8 A0"
+    ∷ (set-up 8 3 ∷ set-up 15 2 ∷ [], ticks, lineRoom, record { lines = (49 ∷ 32 ∷ 49 ∷ 53 ∷ 32 ∷ 65 ∷ 48 ∷ 10 ∷ []) ∷ (50 ∷ 32 ∷ 56 ∷ 32 ∷ 65 ∷ 48 ∷ 10 ∷ []) ∷ []; ending = End })
     -- Req 11: an older post and a newer one, each with the other's frame
     ∷ (older 0 2 ∷ set-up 1 3 ∷ [], statuses, lineRoom, record { lines = foreign; ending = End })
     ∷ []

@@ -27,11 +27,11 @@ fn new_post(used: u32, channel: u32, limits: PlainLimits) -> Post
         channel,
         limits,
         heard: 0,
+        counts: [0; COUNTS],
         time: 0,
         controller: none,
         parameters: none,
         session,
-        counts: [0; COUNTS],
     };
     Post {
         head,

@@ -10,6 +10,7 @@ use rules::CONTROL_PLACE;
 use rules::Head;
 use rules::KEPT;
 use rules::STATUS_PLACE;
+use rules::STOP_PLACE;
 use rules::Session;
 use rules::Slot;
 
@@ -106,6 +107,9 @@ pub fn with_frame(h: Head, kind: usize, n: Slot) -> Head
         }
         Role::Finished => {
             g.session = no_session();
+        }
+        Role::Stop => {
+            g.session = kept_put(s, STOP_PLACE, n);
         }
         Role::Other => {}
     }

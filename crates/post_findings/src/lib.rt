@@ -1,7 +1,7 @@
-// F3 to F11: what is found of a frame by its message, on a head that was aged to the frame's time. For the post's step.
+// F3 to F12: what is found of a frame by its message, on a head that was aged to the frame's time. For the post's step.
 ghost use mathlib.Core.Path.{_≡_};
 ghost use Prim.Native.Nat.{_≤_};
-ghost use Rattle.rules.specs.After.{unreadyAfter, unreadyIn, carryingAfter, carryingIn, limitIn, controlFindings, statusFindings, openingFindings, finishedFindings, messageFindings};
+ghost use Rattle.rules.specs.After.{unreadyAfter, unreadyIn, stoppedIn, carryingAfter, carryingIn, limitIn, controlFindings, statusFindings, openingFindings, finishedFindings, messageFindings};
 use message_types::DcPowerControl;
 use message_types::NewChargeSession;
 use message_types::PowerModulesStatus;
@@ -17,6 +17,7 @@ use rule_pages::status_by;
 use rules::CONTROL_PLACE;
 use rules::Head;
 use rules::STATUS_PLACE;
+use rules::STOP_PLACE;
 use rules::Session;
 use rules::Slot;
 
@@ -75,8 +76,20 @@ fn unready(s: Session) -> bool
     }
 }
 
+// 02, Req 14: "after an Emergency_Stop accepted in it"
+fn stopped(s: Session) -> bool
+    ensures { λ r. ⌜ r ≡ stoppedIn s ⌝ }
+{
+    let l = s.kept[STOP_PLACE];
+    if is_set(s.opened) {
+        is_set(l.known as u64)
+    } else {
+        false
+    }
+}
+
 fn control_findings(h: Head, d: DcPowerControl) -> u32
-    ensures { λ r. ⌜ (r ≡ controlFindings h d) × (r ≤ 124) ⌝ }
+    ensures { λ r. ⌜ (r ≡ controlFindings h d) × (r ≤ 2172) ⌝ }
 {
     let s = h.session;
     let x = d.contactors;
@@ -90,6 +103,7 @@ fn control_findings(h: Head, d: DcPowerControl) -> u32
         + flag(both(powered(f), unready(s)), 16)
         + flag(lowers_badly(d), 32)
         + flag(both(negated(off(f)), above), 64)
+        + flag(both(powered(f), stopped(s)), 2048)
 }
 
 // ---- Power_Modules_Status
@@ -151,7 +165,7 @@ fn finished_findings(s: Session) -> u32
 }
 
 pub fn message_findings(h: Head, kind: usize, raw: u64) -> u32
-    ensures { λ r. ⌜ (r ≡ messageFindings h kind raw) × (r ≤ 1024) ⌝ }
+    ensures { λ r. ⌜ (r ≡ messageFindings h kind raw) × (r ≤ 2172) ⌝ }
 {
     let s = h.session;
     match role_of(kind) {
@@ -161,6 +175,7 @@ pub fn message_findings(h: Head, kind: usize, raw: u64) -> u32
         Role::Finished => finished_findings(s),
         Role::Limits => 0,
         Role::Controller => 0,
+        Role::Stop => 0,
         Role::Other => 0,
     }
 }

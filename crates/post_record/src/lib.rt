@@ -4,10 +4,11 @@ ghost use mathlib.Core.List.{map};
 ghost use mathlib.Core.Path.{_≡_};
 ghost use Prim.Native.Nat.{_+_};
 ghost use Rattle.rules.specs.History.{countFrom};
-ghost use Rattle.rules.specs.Times.{receivedOf, ageOf};
 ghost use Rattle.rules.specs.Record.{placeCount, datedAt, unknown};
 ghost use Rattle.rules.specs.Right.{RecordRight};
 ghost use Rattle.rules.specs.After.{datedIn, partIn, lastIn, findingCount, postRecord};
+use post_ages::age;
+use post_ages::received;
 use rule_asks::is_set;
 use rule_limits::kept::limits_in;
 use rules::CONTROL_PLACE;
@@ -22,30 +23,10 @@ use rules::PLACES;
 use rules::Post;
 use rules::Record;
 use rules::STATUS_PLACE;
+use rules::STOP_PLACE;
 use rules::Session;
 use rules::SessionPart;
 use rules::Slot;
-
-// A kept time as it was received.
-pub fn received(time: u64) -> u32
-    ensures { λ r. ⌜ r ≡ receivedOf time ⌝ }
-{
-    (time % 4294967296) as u32
-}
-
-// The ms from a kept time to the post's latest: "an age stops growing at 4,294,967,295" (02, Req 09).
-pub fn age(now: u64, from: u64) -> u32
-    ensures { λ r. ⌜ r ≡ ageOf now from ⌝ }
-{
-    if now <= from {
-        return 0;
-    }
-    let ms = now - from;
-    if 4294967295 < ms {
-        return 4294967295;
-    }
-    ms as u32
-}
 
 // A frame by its message: of documents 000 and 004, or of 001.
 fn dated_at(time: u32, ms: u32, kind: usize, raw: u64) -> Dated
@@ -76,11 +57,13 @@ fn part(now: u64, s: Session) -> SessionPart
     }
     let st = s.kept[STATUS_PLACE];
     let ct = s.kept[CONTROL_PLACE];
+    let em = s.kept[STOP_PLACE];
     let n = message_parts::session_in(s.first);
     let protocol = n.protocol;
     let plug = n.plug;
     let status = dated(now, st);
     let control = dated(now, ct);
+    let stop = dated(now, em);
     SessionPart::Opened(OpenSession {
         since: received(s.since),
         age: age(now, s.since),
@@ -88,13 +71,14 @@ fn part(now: u64, s: Session) -> SessionPart
         plug,
         status,
         control,
+        stop,
     })
 }
 
 fn last_time(h: Head) -> LastTime
     ensures { λ r. ⌜ r ≡ lastIn h ⌝ }
 {
-    if is_set(h.heard) {
+    if is_set(h.heard as u64) {
         LastTime::At(received(h.time))
     } else {
         LastTime::Never

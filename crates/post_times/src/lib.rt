@@ -47,7 +47,7 @@ pub fn stamp(h: Head, time: u32) -> u64
 pub fn is_early(h: Head, time: u32) -> bool
     ensures { λ r. ⌜ r ≡ isEarly h time ⌝ }
 {
-    if is_set(h.heard) {
+    if is_set(h.heard as u64) {
         is_earlier(time, h.time)
     } else {
         false

@@ -24,6 +24,8 @@ const PRECHARGE: u32 = 0x68003;
 
 const CHARGING: u32 = 0x68005;
 
+const STOP: u32 = 0x68006;
+
 const FINISHED: u32 = 0x68007;
 
 const CONTROLLER: u32 = 0x68009;
@@ -120,8 +122,30 @@ fn told() {
     record(t, 0);
 }
 
+// 02, Req 14: what stands for DC_Power_Control after an Emergency_Stop of the older pages.
+fn stops() {
+    text(
+        b"Req 14 an older post: the three functions before a stop, after it, and in the next session\n",
+    );
+    let mut t = side_by_side();
+    t = frame(t, 4, 0, SESSION, &[2u8, 1, 0, 0, 0, 0, 0, 0]);
+    t = frame(t, 4, 1, STATUS, &[0u8, 0, 0, 0, 65, 65, 1, 255]);
+    t = frame(t, 4, 2, CHARGING, &[0u8, 0, 0, 0, 0]);
+    t = frame(t, 4, 3, STOP, &[1u8]);
+    t = frame(t, 4, 4, INSULATION, &[0u8, 0]);
+    t = frame(t, 4, 5, PRECHARGE, &[0u8, 0, 0, 0]);
+    t = frame(t, 4, 6, CHARGING, &[0u8, 0, 0, 0, 0]);
+    record(t, 0);
+    t = frame(t, 4, 7, FINISHED, &[0u8]);
+    t = frame(t, 4, 8, SESSION, &[2u8, 1, 0, 0, 0, 0, 0, 0]);
+    t = frame(t, 4, 9, STATUS, &[0u8, 0, 0, 0, 65, 65, 1, 255]);
+    t = frame(t, 4, 10, CHARGING, &[0u8, 0, 0, 0, 0]);
+    record(t, 0);
+}
+
 pub fn all() {
     others();
     session();
     told();
+    stops();
 }

@@ -25,6 +25,8 @@ const CONTROL: u32 = 0x6b003;
 
 const FINISHED: u32 = 0x6b004;
 
+const STOP: u32 = 0x6b005;
+
 fn insulation() {
     text(b"E8 under precharge at 500.0 V: insulation raw 25, raw 24; after the session no F9\n");
     let mut t = set_up(watch::empty(), 0, 4, limits());
@@ -198,6 +200,34 @@ fn safety() {
     record(t, 0);
 }
 
+// 02, Req 14: "F12 is a DC_Power_Control with insulation test, precharge or power transfer in a session after an Emergency_Stop accepted in it".
+fn stops() {
+    text(
+        b"Req 14 a stop before the session; power transfer; a stop in it: off, standby, insulation test, precharge, power transfer; the next session\n",
+    );
+    let mut t = set_up(watch::empty(), 0, 4, limits());
+    t = frame(t, 4, 0, STOP, &[1u8]);
+    t = frame(t, 4, 1, CONTROL, &[0x88u8, 0x13, 0, 0, 0, 0, 0x08]);
+    t = frame(t, 4, 2, SESSION, &[2u8, 1]);
+    t = frame(t, 4, 3, STATUS, &[0u8, 0, 0, 0, 65, 65, 1, 255]);
+    t = frame(t, 4, 4, CONTROL, &[0x88u8, 0x13, 0, 0, 0, 0, 0x08]);
+    record(t, 0);
+    t = frame(t, 4, 5, STOP, &[1u8]);
+    t = frame(t, 4, 6, CONTROL, &[0x88u8, 0x13, 0, 0, 0, 0, 0x00]);
+    t = frame(t, 4, 7, CONTROL, &[0x88u8, 0x13, 0, 0, 0, 0, 0x01]);
+    t = frame(t, 4, 8, CONTROL, &[0x88u8, 0x13, 0, 0, 0, 0, 0x02]);
+    t = frame(t, 4, 9, CONTROL, &[0x88u8, 0x13, 0, 0, 0, 0, 0x04]);
+    t = frame(t, 4, 10, CONTROL, &[0x88u8, 0x13, 0, 0, 0, 0, 0x08]);
+    t = frame(t, 4, 11, STOP, &[3u8]);
+    record(t, 0);
+    t = frame(t, 4, 12, FINISHED, &[0u8]);
+    t = frame(t, 4, 13, CONTROL, &[0x88u8, 0x13, 0, 0, 0, 0, 0x08]);
+    t = frame(t, 4, 14, SESSION, &[2u8, 1]);
+    t = frame(t, 4, 15, STATUS, &[0u8, 0, 0, 0, 65, 65, 1, 255]);
+    t = frame(t, 4, 16, CONTROL, &[0x88u8, 0x13, 0, 0, 0, 0, 0x08]);
+    record(t, 0);
+}
+
 pub fn all() {
     insulation();
     sensors();
@@ -205,4 +235,5 @@ pub fn all() {
     orders();
     channels();
     safety();
+    stops();
 }

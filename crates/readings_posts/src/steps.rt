@@ -166,10 +166,13 @@ fn session(s: SessionPart) {
 fn kept(o: OpenSession) {
     let status = o.status;
     let control = o.control;
+    let stop = o.stop;
     text(b"    status: ");
     dated(status);
     text(b"    control: ");
     dated(control);
+    text(b"    stop: ");
+    dated(stop);
 }
 
 pub fn record(t: Table, post: u32) {

@@ -1,4 +1,4 @@
--- 02, Req 11 on both sides of each point: what a frame of 001 says to the rules, closed by computing.
+-- 02, Req 11 and 14 on both sides of each point: what a frame of 001, and an Emergency_Stop of either, says to the rules, closed by computing.
 use Prim.Native.Nat.{ℕ}
 use mathlib.Core.Path.{_≡_, refl}
 use Rattle.signal.specs.Signal.{getBits}
@@ -6,18 +6,20 @@ use Rattle.signal.specs.Twos.{toSigned}
 use Rattle.page_rows.specs.Table.{rows, ofKind}
 use Rattle.page_write.specs.Raws.{wholesOf, pad, rawsOf}
 use Rattle.message_types.specs.declared.PowerFunction.the-variants.{InsulationTest, Precharge, PowerTransfer}
+use Rattle.message_types.specs.KindNumbers as newer
 use Rattle.older_types.specs.KindNumbers as older
-use Rattle.rule_pages.specs.declared.Role.the-variants.{Other, Status, Limits, Controller, Opening, Command, Finished}
+use Rattle.rule_pages.specs.declared.Role.the-variants.{Other, Status, Limits, Controller, Opening, Command, Finished, Stop}
 use Rattle.rule_pages.specs.Roles.{roleOf}
 use Rattle.rule_pages.specs.Said.{limitsIn, limitsBy, commandBy}
 use Rattle.rule_pages.specs.Places.{placeBy}
 
--- the nine messages of 001 that a rule asks for, and three that none does
+-- the nine messages of 001 that a rule asks for, and two that none does; Emergency_Stop by the pages of 000, and the messages beside it there
 pub roles : (roleOf older.statusKind ≡ Status) × (roleOf older.limitsKind ≡ Limits) × (roleOf older.controllerKind ≡ Controller) × (roleOf older.sessionKind ≡ Opening)
     × (roleOf older.insulationKind ≡ Command) × (roleOf older.prechargeKind ≡ Command) × (roleOf older.chargingKind ≡ Command) × (roleOf older.finishedKind ≡ Finished)
-    × (roleOf older.stopKind ≡ Other) × (roleOf older.changeKind ≡ Other) × (roleOf older.sequenceKind ≡ Other)
+    × (roleOf older.stopKind ≡ Stop) × (roleOf older.changeKind ≡ Other) × (roleOf older.sequenceKind ≡ Other)
+    × (roleOf newer.stopKind ≡ Stop) × (roleOf newer.finishedKind ≡ Finished) × (roleOf newer.idKind ≡ Other)
 unfolding roleOf
-roles = (refl, refl, refl, refl, refl, refl, refl, refl, refl, refl, refl)
+roles = (refl, refl, refl, refl, refl, refl, refl, refl, refl, refl, refl, refl, refl, refl)
 
 -- "Charging_Loop counts as power transfer also at 0 V and 0 A", and no number of it is a target
 pub functions : (commandBy older.insulationKind 0 .function ≡ InsulationTest) × (commandBy older.prechargeKind 0 .function ≡ Precharge)

@@ -6,9 +6,9 @@ use lib.Dec.{eqb}
 use Rattle.message_types.specs.KindNumbers as newer
 use Rattle.older_types.specs.KindNumbers as older
 use Rattle.rule_pages.specs.declared.Role.{Role}
-use Rattle.rule_pages.specs.declared.Role.the-variants.{Other, Status, Limits, Controller, Opening, Command, Finished}
+use Rattle.rule_pages.specs.declared.Role.the-variants.{Other, Status, Limits, Controller, Opening, Command, Finished, Stop}
 
--- "Insulation_Test, Precharge and Charging_Loop count as the three functions, the latest of them standing for DC_Power_Control"
+-- 02, Req 14: an Emergency_Stop, which a session keeps. Req 11: "Insulation_Test, Precharge and Charging_Loop count as the three functions, the latest of them standing for DC_Power_Control"
 unfoldable pub roleOf : ℕ → Role
 roleOf k =
     cond (eqb k newer.statusKind) Status
@@ -17,6 +17,7 @@ roleOf k =
     (cond (eqb k newer.sessionKind) Opening
     (cond (eqb k newer.controlKind) Command
     (cond (eqb k newer.finishedKind) Finished
+    (cond (eqb k newer.stopKind) Stop
     (cond (eqb k older.statusKind) Status
     (cond (eqb k older.limitsKind) Limits
     (cond (eqb k older.controllerKind) Controller
@@ -25,4 +26,5 @@ roleOf k =
     (cond (eqb k older.prechargeKind) Command
     (cond (eqb k older.chargingKind) Command
     (cond (eqb k older.finishedKind) Finished
-    Other)))))))))))))
+    (cond (eqb k older.stopKind) Stop
+    Other)))))))))))))))

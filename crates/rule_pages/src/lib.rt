@@ -20,6 +20,7 @@ use message_types::PowerFunction;
 use message_types::PowerModulesStatus;
 use message_types::SESSION;
 use message_types::STATUS;
+use message_types::STOP;
 use message_types::SetpointsMode;
 use older_types::PowerModulesLimits;
 
@@ -36,6 +37,7 @@ pub enum Role {
     Opening,
     Command,
     Finished,
+    Stop,
 }
 
 pub fn role_of(kind: usize) -> Role
@@ -48,6 +50,7 @@ pub fn role_of(kind: usize) -> Role
         SESSION => Role::Opening,
         CONTROL => Role::Command,
         FINISHED => Role::Finished,
+        STOP => Role::Stop,
         older_types::STATUS => Role::Status,
         older_types::LIMITS => Role::Limits,
         older_types::CONTROLLER => Role::Controller,
@@ -56,6 +59,7 @@ pub fn role_of(kind: usize) -> Role
         older_types::PRECHARGE => Role::Command,
         older_types::CHARGING => Role::Command,
         older_types::FINISHED => Role::Finished,
+        older_types::STOP => Role::Stop,
         _ => Role::Other,
     }
 }

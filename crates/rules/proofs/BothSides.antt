@@ -7,7 +7,7 @@ use Rattle.signal.specs.Signal.{getBits}
 use Rattle.signal.specs.Twos.{toSigned}
 use Rattle.page_rows.specs.Table.{rows, ofKind, firstAt}
 use Rattle.page_write.specs.Raws.{wholesOf, pad, rawsOf}
-use Rattle.message_types.specs.KindNumbers.{safetyControlKind, safetyStateKind, probesKind}
+use Rattle.message_types.specs.KindNumbers.{stopKind, safetyControlKind, safetyStateKind, probesKind}
 use Rattle.message_parts.specs.Parts.{statusKind, parametersKind, controllerKind, sessionKind, controlKind, finishedKind, statusIn, parametersIn, sessionIn, controlIn}
 use Rattle.older_types.specs.KindNumbers as older
 use Rattle.rule_limits.specs.declared.PlainLimits.{PlainLimits}
@@ -17,9 +17,9 @@ use Rattle.rule_asks.specs.Judgements.{lowersBadly, outside, leaking, badInsula
 use Rattle.rules.specs.declared.Head.{Head}
 use Rattle.rules.specs.declared.AfterEvent.{AfterEvent}
 use Rattle.rules.specs.History.{Event, frame, tick, History, sinceFinished, opening, inSession}
-use Rattle.rules.specs.Rules.{sessionStatus, sessionControl, limitOf, f1, f2, f3, f4, f5, f6, f7, f8, f9, f10, f11, findings01}
+use Rattle.rules.specs.Rules.{sessionStatus, sessionControl, sessionStop, limitOf, f1, f2, f3, f4, f5, f6, f7, f8, f9, f10, f11, f12, findings01}
 use Rattle.rules.specs.Counts.{talliesOf, countsOf}
-use Rattle.rules.specs.After.{sessionAfter, stampIn, agedTo, withFrame, silentIn, lateAfter, anyFindings, unreadyIn, carryingIn, controlFindings, statusFindings, openingFindings, finishedFindings, messageFindings, counted, withCounts, afterTick, afterFrame, newHead}
+use Rattle.rules.specs.After.{sessionAfter, stampIn, agedTo, withFrame, silentIn, lateAfter, anyFindings, unreadyIn, carryingIn, stoppedIn, controlFindings, statusFindings, openingFindings, finishedFindings, messageFindings, counted, withCounts, afterTick, afterFrame, newHead}
 
 -- ---- the findings of events in order of arrival
 
@@ -61,6 +61,13 @@ standby t target = frame t controlKind (0x01000000000000 + target)
 
 abbrev transfer : ℕ → Event
 transfer t = frame t controlKind 0x48000000001388
+
+-- with open contactors and any function at 0 V: 2 is insulation test, 4 precharge, 8 power transfer. Emergency_Stop
+abbrev acting : ℕ → ℕ → Event
+acting t function = frame t controlKind (function * 0x1000000000000)
+
+abbrev stop : ℕ → Event
+stop t = frame t stopKind 1
 
 abbrev parameters : ℕ → ℕ → Event
 parameters t most = frame t parametersKind most
@@ -118,6 +125,24 @@ table =
     -- F10 of another plug, and not of what stands behind it; F1 from 501 ms on; F2 from 201 ms on
     ∷ (olderSession 0 0 ∷ olderSession 1 77 ∷ frame 2 older.sessionKind 0x0202 ∷ tick 500 ∷ tick 501 ∷ [], 0 ∷ 0 ∷ 512 ∷ 0 ∷ 1 ∷ [])
     ∷ (frame 1000 older.controllerKind 7 ∷ tick 1200 ∷ tick 1201 ∷ [], 0 ∷ 0 ∷ 2 ∷ [])
+    -- 02, Req 14: no F12 of the three functions without a stop, nor of a stop before the opening; F12 of each after a stop in the session, not off, and not standby
+    ∷ (session 0 ∷ status 1 ∷ acting 2 2 ∷ acting 3 4 ∷ acting 4 8 ∷ [], 0 ∷ 0 ∷ 0 ∷ 0 ∷ 0 ∷ [])
+    ∷ (stop 0 ∷ acting 1 8 ∷ session 2 ∷ status 3 ∷ acting 4 8 ∷ [], 0 ∷ 8 ∷ 0 ∷ 0 ∷ 0 ∷ [])
+    ∷ (
+      session 0 ∷ status 1 ∷ acting 2 8 ∷ stop 3 ∷ acting 4 0 ∷ acting 5 1 ∷ acting 6 2 ∷ acting 7 4 ∷ acting 8 8 ∷ stop 9 ∷ acting 10 8 ∷ [],
+      0 ∷ 0 ∷ 0 ∷ 0 ∷ 0 ∷ 0 ∷ 2048 ∷ 2048 ∷ 2048 ∷ 0 ∷ 2048 ∷ [],
+    )
+    -- with F5 before Allowed; a repeat of New_Charge_Session keeps the stop; F4 and no F12 once the session closed, and no F12 in the one that opens anew
+    ∷ (
+      session 0 ∷ stop 1 ∷ acting 2 8 ∷ status 3 ∷ session 4 ∷ acting 5 8 ∷ finished 6 ∷ acting 7 8 ∷ session 8 ∷ status 9 ∷ acting 10 8 ∷ [],
+      0 ∷ 0 ∷ 2064 ∷ 0 ∷ 0 ∷ 2048 ∷ 0 ∷ 8 ∷ 0 ∷ 0 ∷ 0 ∷ [],
+    )
+    -- by the pages of 001: the three functions after its Emergency_Stop
+    ∷ (
+      olderSession 0 0 ∷ olderStatus 1 0 0 255 ∷ charging 2 ∷ frame 3 older.stopKind 1 ∷ frame 4 older.insulationKind 0 ∷ frame 5 older.prechargeKind 0 ∷ charging 6
+          ∷ frame 7 older.finishedKind 0 ∷ olderSession 8 0 ∷ olderStatus 9 0 0 255 ∷ charging 10 ∷ [],
+      0 ∷ 0 ∷ 0 ∷ 0 ∷ 2048 ∷ 2048 ∷ 2048 ∷ 0 ∷ 0 ∷ 0 ∷ 0 ∷ [],
+    )
     ∷ []
 
 abbrev pub All : List (List Event × List ℕ) → Type 0
@@ -125,8 +150,8 @@ All [] = Unit {0}
 All (x ∷ xs) = ((lookedBack limits [] (x .0) ≡ x .1) × (inTurn (newHead 1 4 limits) (x .0) ≡ x .1)) × All xs
 
 pub both-sides : All table
-unfolding roleOf statusBy openingBy limitsIn limitsBy commandBy sinceFinished opening inSession lowersBadly outside leaking badInsulation differs sessionStatus sessionControl limitOf f1 f2 f3 f4 f5 f6 f7 f8 f9 f10 f11 findings01 sessionAfter stampIn agedTo withFrame silentIn lateAfter anyFindings unreadyIn carryingIn controlFindings statusFindings openingFindings finishedFindings messageFindings withCounts afterTick afterFrame statusIn parametersIn sessionIn controlIn rows ofKind firstAt wholesOf pad rawsOf getBits toSigned
-both-sides = ((refl, refl), ((refl, refl), ((refl, refl), ((refl, refl), ((refl, refl), ((refl, refl), ((refl, refl), ((refl, refl), ((refl, refl), ((refl, refl), ((refl, refl), ((refl, refl), ((refl, refl), ((refl, refl), tt))))))))))))))
+unfolding roleOf statusBy openingBy limitsIn limitsBy commandBy sinceFinished opening inSession lowersBadly outside leaking badInsulation differs sessionStatus sessionControl sessionStop limitOf f1 f2 f3 f4 f5 f6 f7 f8 f9 f10 f11 f12 findings01 sessionAfter stampIn agedTo withFrame silentIn lateAfter anyFindings unreadyIn carryingIn stoppedIn controlFindings statusFindings openingFindings finishedFindings messageFindings withCounts afterTick afterFrame statusIn parametersIn sessionIn controlIn rows ofKind firstAt wholesOf pad rawsOf getBits toSigned
+both-sides = ((refl, refl), ((refl, refl), ((refl, refl), ((refl, refl), ((refl, refl), ((refl, refl), ((refl, refl), ((refl, refl), ((refl, refl), ((refl, refl), ((refl, refl), ((refl, refl), ((refl, refl), ((refl, refl), ((refl, refl), ((refl, refl), ((refl, refl), ((refl, refl), ((refl, refl), tt)))))))))))))))))))
 
 -- ---- 02, Req 08: the counts of such events, the newest first, and of the head that they leave
 
@@ -139,14 +164,22 @@ abbrev late : List Event
 late = tick 1202 ∷ controller 1201 ∷ tick 1201 ∷ tick 1200 ∷ controller 1000 ∷ []
 
 abbrev lateCounts : List ℕ
-lateCounts = 5 ∷ 0 ∷ 2 ∷ 0 ∷ 0 ∷ 0 ∷ 0 ∷ 0 ∷ 0 ∷ 0 ∷ 0 ∷ 0 ∷ []
+lateCounts = 5 ∷ 0 ∷ 2 ∷ 0 ∷ 0 ∷ 0 ∷ 0 ∷ 0 ∷ 0 ∷ 0 ∷ 0 ∷ 0 ∷ 0 ∷ []
 
 abbrev powered : List Event
 powered = tick 1 ∷ transfer 0 ∷ []
 
 abbrev poweredCounts : List ℕ
-poweredCounts = 2 ∷ 0 ∷ 0 ∷ 1 ∷ 1 ∷ 0 ∷ 0 ∷ 0 ∷ 0 ∷ 0 ∷ 0 ∷ 0 ∷ []
+poweredCounts = 2 ∷ 0 ∷ 0 ∷ 1 ∷ 1 ∷ 0 ∷ 0 ∷ 0 ∷ 0 ∷ 0 ∷ 0 ∷ 0 ∷ 0 ∷ []
+
+-- F12 twice in its own place, F11 once
+abbrev stopped : List Event
+stopped = finished 6 ∷ finished 5 ∷ acting 4 8 ∷ acting 3 4 ∷ stop 2 ∷ status 1 ∷ session 0 ∷ []
+
+abbrev stoppedCounts : List ℕ
+stoppedCounts = 7 ∷ 0 ∷ 0 ∷ 0 ∷ 0 ∷ 0 ∷ 0 ∷ 0 ∷ 0 ∷ 0 ∷ 0 ∷ 1 ∷ 2 ∷ []
 
 pub counts-both-sides : ((countsOf limits late ≡ lateCounts) × (leaves late .counts ≡ lateCounts)) × ((countsOf limits powered ≡ poweredCounts) × (leaves powered .counts ≡ poweredCounts))
-unfolding roleOf statusBy openingBy limitsIn limitsBy commandBy sinceFinished opening inSession lowersBadly outside leaking badInsulation differs sessionStatus sessionControl limitOf f1 f2 f3 f4 f5 f6 f7 f8 f9 f10 f11 findings01 talliesOf sessionAfter stampIn agedTo withFrame silentIn lateAfter anyFindings unreadyIn carryingIn controlFindings statusFindings openingFindings finishedFindings messageFindings counted withCounts afterTick afterFrame statusIn parametersIn sessionIn controlIn rows ofKind firstAt wholesOf pad rawsOf getBits toSigned
-counts-both-sides = ((refl, refl), (refl, refl))
+    × ((countsOf limits stopped ≡ stoppedCounts) × (leaves stopped .counts ≡ stoppedCounts))
+unfolding roleOf statusBy openingBy limitsIn limitsBy commandBy sinceFinished opening inSession lowersBadly outside leaking badInsulation differs sessionStatus sessionControl sessionStop limitOf f1 f2 f3 f4 f5 f6 f7 f8 f9 f10 f11 f12 findings01 talliesOf sessionAfter stampIn agedTo withFrame silentIn lateAfter anyFindings unreadyIn carryingIn stoppedIn controlFindings statusFindings openingFindings finishedFindings messageFindings counted withCounts afterTick afterFrame statusIn parametersIn sessionIn controlIn rows ofKind firstAt wholesOf pad rawsOf getBits toSigned
+counts-both-sides = ((refl, refl), (refl, refl), (refl, refl))

@@ -5,7 +5,7 @@ use mathlib.Core.Bool.{Bool, true, false, _&&_}
 use mathlib.Core.Option.{Option, none, some}
 use Rattle.rule_limits.specs.declared.PlainLimits.{PlainLimits}
 use Rattle.rules.specs.History.{Event, History, Said, opening}
-use Rattle.rules.specs.Rules.{ask, isOpen, f1, f3, f4, f5, f8, f9, f10, f11}
+use Rattle.rules.specs.Rules.{ask, isOpen, f1, f3, f4, f5, f8, f9, f10, f11, f12}
 
 none-open : (o : Option Said) → isOpen o ≡ false → o ≡ none
 none-open none closed = refl
@@ -20,11 +20,11 @@ and-false true = refl
 and-false false = refl
 
 pub excludes : (lim : PlainLimits) (h : History) (e : Event)
-    → (isOpen (opening h) ≡ false → (f1 lim h e ≡ false) × (f5 lim h e ≡ false) × (f8 lim h e ≡ false) × (f9 lim h e ≡ false) × (f10 lim h e ≡ false))
+    → (isOpen (opening h) ≡ false → (f1 lim h e ≡ false) × (f5 lim h e ≡ false) × (f8 lim h e ≡ false) × (f9 lim h e ≡ false) × (f10 lim h e ≡ false) × (f12 lim h e ≡ false))
     × (isOpen (opening h) ≡ true → (f3 lim h e ≡ false) × (f4 lim h e ≡ false) × (f11 lim h e ≡ false))
-unfolding f1 f3 f4 f5 f8 f9 f10 f11
+unfolding f1 f3 f4 f5 f8 f9 f10 f11 f12
 excludes lim h e = (
   λ closed. let no : opening h ≡ none = none-open (opening h) closed in
-      (simp no, simp (no, and-false, ask-false), simp (no, ask-false), simp (no, ask-false), simp (no, ask-false)),
+      (simp no, simp (no, and-false, ask-false), simp (no, ask-false), simp (no, ask-false), simp (no, ask-false), simp (no, and-false, ask-false)),
   λ opened. (simp (opened, and-false, ask-false), simp (opened, and-false, ask-false), simp (opened, ask-false)),
 )

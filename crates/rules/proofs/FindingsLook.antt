@@ -11,17 +11,17 @@ use Rattle.message_types.specs.declared.NewChargeSession.{NewChargeSession}
 use Rattle.message_parts.specs.Parts.{sessionIn}
 use Rattle.rule_limits.specs.declared.PlainLimits.{PlainLimits}
 use Rattle.rule_pages.specs.declared.Role.{Role}
-use Rattle.rule_pages.specs.declared.Role.the-variants.{Other, Status, Limits, Controller, Opening, Command, Finished}
+use Rattle.rule_pages.specs.declared.Role.the-variants.{Other, Status, Limits, Controller, Opening, Command, Finished, Stop}
 use Rattle.rule_pages.specs.Roles.{roleOf}
 use Rattle.rule_pages.specs.Said.{statusBy, openingBy, commandBy}
 use Rattle.rule_pages.proofs.Alike.{opening-alike}
-use Rattle.rules.specs.History.{Event, frame, tick, History, Said, timeOf, newest, statusOf, commandOf}
+use Rattle.rules.specs.History.{Event, frame, tick, History, Said, timeOf, newest, statusOf, commandOf, stopOf}
 use Rattle.rules.specs.Times.{elapsed}
 use Rattle.rule_asks.specs.Judgements.{bit, differs, isCarrying}
 use Rattle.rules.specs.declared.Session.{Session}
-use Rattle.rules.specs.Rules.{ask, isOpen, sessionStatus, sessionControl, laterTime, limitBy, limitOf, unready, f1, f2, f3, f4, f5, f6, f7, f8, f9, f10, f11, findings01}
+use Rattle.rules.specs.Rules.{ask, isOpen, sessionStatus, sessionControl, sessionStop, laterTime, limitBy, limitOf, unready, f1, f2, f3, f4, f5, f6, f7, f8, f9, f10, f11, isStopped, f12, findings01}
 use Rattle.rules.specs.Record.{isSet, slotOf, keptOf, sessionOf, session01, headAt}
-use Rattle.rules.specs.After.{laterOf, silentIn, lateAfter, anyFindings, limitIn, unreadyAfter, unreadyIn, carryingAfter, carryingIn, controlFindings, statusFindings, openingFindings, finishedFindings, findingsBy, messageFindings}
+use Rattle.rules.specs.After.{laterOf, silentIn, lateAfter, anyFindings, limitIn, unreadyAfter, unreadyIn, stoppedIn, carryingAfter, carryingIn, controlFindings, statusFindings, openingFindings, finishedFindings, findingsBy, messageFindings}
 use Rattle.rules.proofs.Unasked.{Quiet, unasked-frame, messageBits, no-bits, only-f1-f2}
 
 -- ---- what is read of a slot
@@ -63,6 +63,15 @@ unfolding unreadyIn
 unready-look none a = refl
 unready-look (some o) a = unready-slot (newest statusOf a)
 
+stopped-slot : (s : Option Said) → isSet (slotOf s .known) ≡ isStopped s
+stopped-slot none = refl
+stopped-slot (some s) = refl
+
+stopped-look : (o : Option Said) (a : History) → stoppedIn (part o a) ≡ (isOpen o && isStopped (newest stopOf a))
+unfolding stoppedIn
+stopped-look none a = refl
+stopped-look (some o) a = stopped-slot (newest stopOf a)
+
 carrying-slot : (d : Option Said) → carryingAfter (slotOf d) ≡ ask d (λ l. isCarrying (commandBy (l .kind) (l .raw) .function))
 carrying-slot none = refl
 carrying-slot (some d) = refl
@@ -87,19 +96,19 @@ module _ (c : ℕ) (lim : PlainLimits) (cs : List ℕ) (h : History) where
   -- as of any time `now`: these rules ask for none
   module _ (now t k raw : ℕ) where
     status-look : roleOf k ≡ Status → statusFindings (headAt c lim cs true now h) (statusBy k raw) ≡ messageBits lim h (frame t k raw)
-    unfolding statusFindings headAt session01 sessionStatus sessionControl limitOf f3 f4 f5 f6 f7 f8 f9 f10 f11
+    unfolding statusFindings headAt session01 sessionStatus sessionControl sessionStop limitOf f3 f4 f5 f6 f7 f8 f9 f10 f11 f12
     status-look e = rw e (simp (open-look, carrying-look, limit-look) (omega arith))
 
     opening-look : roleOf k ≡ Opening → openingFindings (session01 h) (openingBy k raw) ≡ messageBits lim h (frame t k raw)
-    unfolding session01 f3 f4 f5 f6 f7 f8 f9 f10 f11
+    unfolding session01 f3 f4 f5 f6 f7 f8 f9 f10 f11 f12
     opening-look e = rw e (simp differs-look (omega arith))
 
     command-look : roleOf k ≡ Command → controlFindings (headAt c lim cs true now h) (commandBy k raw) ≡ messageBits lim h (frame t k raw)
-    unfolding controlFindings headAt session01 sessionStatus sessionControl limitOf f3 f4 f5 f6 f7 f8 f9 f10 f11
-    command-look e = rw e (simp (open-look, unready-look, limit-look) (omega arith))
+    unfolding controlFindings headAt session01 sessionStatus sessionControl sessionStop limitOf f3 f4 f5 f6 f7 f8 f9 f10 f11 f12
+    command-look e = rw e (simp (open-look, unready-look, stopped-look, limit-look) (omega arith))
 
     finished-look : roleOf k ≡ Finished → finishedFindings (session01 h) ≡ messageBits lim h (frame t k raw)
-    unfolding finishedFindings session01 f3 f4 f5 f6 f7 f8 f9 f10 f11
+    unfolding finishedFindings session01 f3 f4 f5 f6 f7 f8 f9 f10 f11 f12
     finished-look e = rw e (simp open-look (omega arith))
 
     nothing : (r : Role) → roleOf k ≡ r → Quiet r → 0 ≡ messageBits lim h (frame t k raw)
@@ -113,6 +122,7 @@ module _ (c : ℕ) (lim : PlainLimits) (cs : List ℕ) (h : History) where
     message-role Finished e = finished-look e
     message-role Limits e = nothing Limits e tt
     message-role Controller e = nothing Controller e tt
+    message-role Stop e = nothing Stop e tt
     message-role Other e = nothing Other e tt
 
     message-look : messageFindings (headAt c lim cs true now h) k raw ≡ messageBits lim h (frame t k raw)

@@ -18,7 +18,7 @@ use Rattle.rule_limits.specs.declared.PlainLimits.{PlainLimits}
 use Rattle.rules.specs.declared.Latest.{Latest}
 use Rattle.rules.specs.History.{frame, tick, History, Said, roleNumber, asked, newest, sinceFinished, opening, inSession, countFrom}
 use Rattle.rules.specs.Times.{earlierIn, stampOf, latestTime, Unrolled}
-use Rattle.rules.specs.Rules.{sessionStatus, sessionControl, findings01}
+use Rattle.rules.specs.Rules.{sessionStatus, sessionControl, sessionStop, findings01}
 use Rattle.rules.specs.Counts.{timesFound, talliesOf, countsOf, isFull}
 use Rattle.rules.specs.Record.{placeCount, datedOf, atPlace, lastOf, partOf, recordAsOf, recordOf, unknown, slotAt, slotOf, keptOf, sessionOf, session01, headAt, headOf, latests, postOf}
 use Rattle.rules.specs.After.{stampIn, putFor, agedTo, withFrame, isEarly, counted, isFullIn, tallyIn, findingCount, withCounts, afterTick, afterFrame, keepIn, stored, freshPost, latestIn, datedIn, partIn, lastIn, postRecord}
@@ -72,8 +72,8 @@ dated-look : (now : ℕ) (o : Option Said) → datedIn now (slotOf o) ≡ datedO
 dated-look now none = refl
 dated-look now (some o) = refl
 
-part-look : (now : ℕ) (h : History) (o : Option Said) → partIn now (sessionOf o (keptOf (inSession h))) ≡ partOf now o (sessionStatus h) (sessionControl h)
-unfolding sessionStatus sessionControl
+part-look : (now : ℕ) (h : History) (o : Option Said) → partIn now (sessionOf o (keptOf (inSession h))) ≡ partOf now o (sessionStatus h) (sessionControl h) (sessionStop h)
+unfolding sessionStatus sessionControl sessionStop
 part-look now h none = refl
 part-look now h (some o) = rw (opening-alike (o .kind) (o .raw)) (simp dated-look)
 
@@ -90,7 +90,7 @@ module _ (c : ℕ) (lim : PlainLimits) where
 
   head-tick : (cs : List ℕ) (h : History) (t : ℕ) → headAt c lim cs true t h ≡ headAt c lim cs true t (tick t ∷ h)
   unfolding headAt
-  head-tick cs h t = rw (session-stays h (tick t) (refl, refl, refl, refl))
+  head-tick cs h t = rw (session-stays h (tick t) (refl, refl, refl, refl) refl)
 
   counted-look : (cs : List ℕ) (t n : ℕ) (h : History) → withCounts (headAt c lim cs true t h) n ≡ headAt c lim (counted n cs) true t h
   unfolding withCounts headAt
@@ -121,7 +121,7 @@ module _ (c : ℕ) (lim : PlainLimits) where
   messages-look now h =
       count-same (shownIn now h) (shownOf now h) 0 placeCount (λ k low high. rw (latest-look h k (omega arith), dated-look now (newest (atPlace k) h)))
 
-  session-look : (now : ℕ) (h : History) → partIn now (headOf c lim h .session) ≡ partOf now (opening h) (sessionStatus h) (sessionControl h)
+  session-look : (now : ℕ) (h : History) → partIn now (headOf c lim h .session) ≡ partOf now (opening h) (sessionStatus h) (sessionControl h) (sessionStop h)
   unfolding headAt session01
   session-look now h = part-look now h (opening h)
 

@@ -11,7 +11,7 @@ use Rattle.older_types.specs.KindNumbers as older
 use Rattle.rule_limits.specs.declared.PlainLimits.{PlainLimits}
 use Rattle.rule_asks.specs.Judgements.{lowersBadly}
 use Rattle.rule_pages.specs.declared.Role.{Role}
-use Rattle.rule_pages.specs.declared.Role.the-variants.{Other, Status, Limits, Controller, Opening, Command, Finished}
+use Rattle.rule_pages.specs.declared.Role.the-variants.{Other, Status, Limits, Controller, Opening, Command, Finished, Stop}
 use Rattle.rule_pages.specs.Roles.{roleOf}
 use Rattle.rule_pages.specs.Said.{commandBy}
 use Rattle.rules.specs.History.{frame, History, roleNumber, commandOf}
@@ -43,6 +43,7 @@ module _ (k : ℕ) (old : 12 ≤ k) (no-test : eqb k older.insulationKind ≡ fa
         not-newer 3 (omega arith),
         not-newer 5 (omega arith),
         not-newer 6 (omega arith),
+        not-newer 7 (omega arith),
         no-test,
         no-precharge,
         no-loop,
@@ -51,7 +52,8 @@ module _ (k : ℕ) (old : 12 ≤ k) (no-test : eqb k older.insulationKind ≡ fa
       (either (eqb k older.limitsKind) Limits _ refl
       (either (eqb k older.controllerKind) Controller _ refl
       (either (eqb k older.sessionKind) Opening _ refl
-      (either (eqb k older.finishedKind) Finished Other refl refl)))))
+      (either (eqb k older.finishedKind) Finished _ refl
+      (either (eqb k older.stopKind) Stop Other refl refl))))))
 
 -- ---- none of the three findings
 

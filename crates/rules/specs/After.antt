@@ -16,7 +16,7 @@ use Rattle.rule_limits.specs.Limits.{capped}
 use Rattle.rule_limits.specs.Sensor.{sensorOf, limitsOf}
 use Rattle.rule_asks.specs.Judgements.{isAllowed, isClose, isPowered, isCarrying, isOff, lowersBadly, outside, badInsulation, differs, bit}
 use Rattle.rule_pages.specs.declared.Role.{Role}
-use Rattle.rule_pages.specs.declared.Role.the-variants.{Other, Status, Limits, Controller, Opening, Command, Finished}
+use Rattle.rule_pages.specs.declared.Role.the-variants.{Other, Status, Limits, Controller, Opening, Command, Finished, Stop}
 use Rattle.rule_pages.specs.Roles.{roleOf}
 use Rattle.rule_pages.specs.Said.{statusBy, limitsBy, openingBy, commandBy}
 use Rattle.rule_pages.specs.Places.{placeBy}
@@ -46,8 +46,11 @@ statusPlace = 0
 abbrev pub controlPlace : ℕ
 controlPlace = 1
 
+abbrev pub stopPlace : ℕ
+stopPlace = 2
+
 abbrev pub keptCount : ℕ
-keptCount = 2
+keptCount = 3
 
 abbrev pub keptIn : Session → ℕ → Slot
 keptIn s j = getD (s .kept) j unknown
@@ -63,6 +66,7 @@ sessionBy Status s n = keptPut s statusPlace n
 sessionBy Opening s n = openedBy s n
 sessionBy Command s n = keptPut s controlPlace n
 sessionBy Finished s n = closedSession
+sessionBy Stop s n = keptPut s stopPlace n
 sessionBy Limits s n = s
 sessionBy Controller s n = s
 sessionBy Other s n = s
@@ -83,11 +87,11 @@ agedTo p t =
       channel = p .channel;
       limits = p .limits;
       heard = 1;
+      counts = p .counts;
       time = t;
       controller = p .controller;
       parameters = p .parameters;
       session = p .session;
-      counts = p .counts;
     }
 
 -- what the head keeps the latest of that answers the question r
@@ -101,11 +105,11 @@ withFrame p k n =
       channel = p .channel;
       limits = p .limits;
       heard = p .heard;
+      counts = p .counts;
       time = p .time;
       controller = putFor Controller k n (p .controller);
       parameters = putFor Limits k n (p .parameters);
       session = sessionAfter (p .session) k n;
-      counts = p .counts;
     }
 
 abbrev pub isEarly : Head → ℕ → Bool
@@ -140,6 +144,9 @@ carryingAfter l = isSet (l .known) && isCarrying (commandBy (l .kind) (l .raw) .
 unfoldable pub carryingIn : Session → Bool
 carryingIn s = isSet (s .opened) && carryingAfter (keptIn s controlPlace)
 
+unfoldable pub stoppedIn : Session → Bool
+stoppedIn s = isSet (s .opened) && isSet (keptIn s stopPlace .known)
+
 unfoldable pub controlFindings : Head → DcPowerControl → ℕ
 controlFindings p d =
     bit (isClose (d .contactors) && not (isSet (p .session .opened))) 4
@@ -147,6 +154,7 @@ controlFindings p d =
     + bit (isPowered (d .function) && unreadyIn (p .session)) 16
     + bit (lowersBadly d) 32
     + bit (not (isOff (d .function)) && ltb (limitIn (p .limits .voltage) (λ q. q .voltage) (p .parameters)) (d .target)) 64
+    + bit (isPowered (d .function) && stoppedIn (p .session)) 2048
 
 unfoldable pub statusFindings : Head → PowerModulesStatus → ℕ
 statusFindings p s =
@@ -166,6 +174,7 @@ findingsBy Command p k raw = controlFindings p (commandBy k raw)
 findingsBy Finished p k raw = finishedFindings (p .session)
 findingsBy Limits p k raw = 0
 findingsBy Controller p k raw = 0
+findingsBy Stop p k raw = 0
 findingsBy Other p k raw = 0
 
 unfoldable pub messageFindings : Head → ℕ → ℕ → ℕ
@@ -198,11 +207,11 @@ withCounts p n =
       channel = p .channel;
       limits = p .limits;
       heard = p .heard;
+      counts = counted n (p .counts);
       time = p .time;
       controller = p .controller;
       parameters = p .parameters;
       session = p .session;
-      counts = counted n (p .counts);
     }
 
 -- ---- the steps
@@ -244,10 +253,10 @@ noLimits = record { voltage = 0; charge = 0; discharge = 0; silence = 0; sensor 
 
 -- place 0 and a place for each finding
 abbrev pub findingCount : ℕ
-findingCount = 11
+findingCount = 12
 
 abbrev pub countCount : ℕ
-countCount = 12
+countCount = 13
 
 abbrev pub newHead : ℕ → ℕ → PlainLimits → Head
 newHead used c lim =
@@ -256,11 +265,11 @@ newHead used c lim =
       channel = c;
       limits = lim;
       heard = 0;
+      counts = replicate countCount 0;
       time = 0;
       controller = unknown;
       parameters = unknown;
       session = closedSession;
-      counts = replicate countCount 0;
     }
 
 abbrev pub newPost : ℕ → ℕ → PlainLimits → Post
@@ -292,6 +301,7 @@ partIn now s =
       plug = sessionIn (s .first) .plug;
       status = datedIn now (keptIn s statusPlace);
       control = datedIn now (keptIn s controlPlace);
+      stop = datedIn now (keptIn s stopPlace);
     }))
     part.Closed
 

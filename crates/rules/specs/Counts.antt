@@ -1,5 +1,5 @@
 -- 02, Req 08: "Keep in each post's record eleven counts, one per finding, and the count of accepted frames and ticks since set-up, each 32 bits.
--- Every operation keeps them equal to the count over that post's history".
+-- Every operation keeps them equal to the count over that post's history". Req 14: "F12 has its own tally."
 use Prim.Native.Nat.{ℕ, _+_}
 use mathlib.Core.List.{List, [], _∷_, map}
 use mathlib.Core.Bool.{Bool}

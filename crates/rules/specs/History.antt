@@ -5,7 +5,7 @@ use mathlib.Core.Bool.{cond}
 use mathlib.Core.Option.{Option, none, some}
 use lib.Dec.{eqb}
 use Rattle.rule_pages.specs.declared.Role.{Role}
-use Rattle.rule_pages.specs.declared.Role.the-variants.{Other, Status, Limits, Controller, Opening, Command, Finished}
+use Rattle.rule_pages.specs.declared.Role.the-variants.{Other, Status, Limits, Controller, Opening, Command, Finished, Stop}
 use Rattle.rule_pages.specs.Roles.{roleOf}
 
 -- a frame by its time, its kind and its payload number (its message is that of the two), or a tick
@@ -78,6 +78,7 @@ roleNumber Controller = 3
 roleNumber Opening = 4
 roleNumber Command = 5
 roleNumber Finished = 6
+roleNumber Stop = 7
 
 -- a frame that answers the question r
 abbrev pub asked : Role → Event → Option Said
@@ -107,6 +108,10 @@ openingOf = asked Opening
 -- "Charge_Session_Finished"
 abbrev pub finishedOf : Event → Option Said
 finishedOf = asked Finished
+
+-- 02, Req 14: "an Emergency_Stop"
+abbrev pub stopOf : Event → Option Said
+stopOf = asked Stop
 
 -- ---- the session
 

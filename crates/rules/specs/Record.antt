@@ -2,7 +2,8 @@
 -- the latest accepted message of each kind with its time,
 -- whether a session is open, since when and with which first protocol and plug, and the latest Power_Modules_Status and DC_Power_Control accepted in that
 -- session, each possibly none.
--- With no session open all of the session's part is none." 02, Req 08: and the counts of what was accepted and found.
+-- With no session open all of the session's part is none." 02, Req 08: and the counts of what was accepted and found; Req 14: "the record's session part
+-- keeps the stop".
 -- 02, Req 09: "the record keeps times as received and ages beside them".
 use Prim.Native.Nat.{ℕ}
 use mathlib.Core.List.{List, [], _∷_, map}
@@ -31,9 +32,9 @@ use Rattle.rules.specs.declared.Dated.the-variants as dated
 use Rattle.rules.specs.declared.SessionPart.{SessionPart}
 use Rattle.rules.specs.declared.SessionPart.the-variants as part
 use Rattle.rules.specs.declared.Record.{Record}
-use Rattle.rules.specs.History.{Event, frame, tick, History, Said, saidAt, timeOf, newest, statusOf, commandOf, limitsTold, controllerOf, opening, inSession, countFrom}
+use Rattle.rules.specs.History.{Event, frame, tick, History, Said, saidAt, timeOf, newest, statusOf, commandOf, limitsTold, controllerOf, stopOf, opening, inSession, countFrom}
 use Rattle.rules.specs.Times.{receivedOf, latestTime, ageOf}
-use Rattle.rules.specs.Rules.{sessionStatus, sessionControl}
+use Rattle.rules.specs.Rules.{sessionStatus, sessionControl, sessionStop}
 use Rattle.rules.specs.Counts.{talliesOf, countsOf}
 
 -- ---- as it is handed out, at the time `now` of the post's latest event
@@ -55,9 +56,9 @@ abbrev pub lastOf : History → LastTime
 lastOf [] = last.Never
 lastOf (e ∷ h) = last.At (receivedOf (timeOf e))
 
-abbrev pub partOf : ℕ → Option Said → Option Said → Option Said → SessionPart
-partOf now none s d = part.Closed
-partOf now (some o) s d =
+abbrev pub partOf : ℕ → Option Said → Option Said → Option Said → Option Said → SessionPart
+partOf now none s d m = part.Closed
+partOf now (some o) s d m =
     part.Opened
     (record {
       since = receivedOf (o .time);
@@ -66,6 +67,7 @@ partOf now (some o) s d =
       plug = openingBy (o .kind) (o .raw) .plug;
       status = datedOf now s;
       control = datedOf now d;
+      stop = datedOf now m;
     })
 
 unfoldable pub recordAsOf : ℕ → PlainLimits → ℕ → History → Record
@@ -75,7 +77,7 @@ recordAsOf c lim now h =
       limits = limitsOf lim;
       last = lastOf h;
       latest = map (λ j. record { message = datedOf now (newest (atPlace j) h) }) (countFrom 0 placeCount);
-      session = partOf now (opening h) (sessionStatus h) (sessionControl h);
+      session = partOf now (opening h) (sessionStatus h) (sessionControl h) (sessionStop h);
       accepted = length h;
       tallies = talliesOf lim h;
     }
@@ -97,7 +99,7 @@ slotOf (some m) = slotAt (m .time) (m .kind) (m .raw)
 
 -- what a session keeps the latest of
 abbrev pub kept01 : List (Event → Option Said)
-kept01 = statusOf ∷ commandOf ∷ []
+kept01 = statusOf ∷ commandOf ∷ stopOf ∷ []
 
 abbrev pub keptOf : History → List (Option Said)
 keptOf h = map (λ (asked : Event → Option Said). newest asked h) kept01
@@ -124,11 +126,11 @@ headAt c lim cs heard now h =
       channel = c;
       limits = lim;
       heard = bit heard 1;
+      counts = cs;
       time = now;
       controller = slotOf (newest controllerOf h);
       parameters = slotOf (newest limitsTold h);
       session = session01 h;
-      counts = cs;
     }
 
 abbrev pub headOf : ℕ → PlainLimits → History → Head

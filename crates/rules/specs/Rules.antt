@@ -1,4 +1,4 @@
--- 01, "What the session watch finds": each rule over the history before the event and the event itself.
+-- 01, "What the session watch finds", and 02, Req 14: each rule over the history before the event and the event itself.
 use Prim.Native.Nat.{ℕ, _+_, max}
 use mathlib.Core.List.{List, [], _∷_, map}
 use mathlib.Core.Bool.{Bool, true, false, not, _&&_}
@@ -7,7 +7,7 @@ use lib.Dec.{ltb}
 use Rattle.message_types.specs.declared.DcPowerParameters.{DcPowerParameters}
 use Rattle.rule_pages.specs.Said.{statusBy, limitsBy, openingBy, commandBy}
 use Rattle.rule_limits.specs.declared.PlainLimits.{PlainLimits}
-use Rattle.rules.specs.History.{Event, History, Said, timeOf, newest, statusOf, commandOf, limitsTold, controllerOf, openingOf, finishedOf, opening, inSession}
+use Rattle.rules.specs.History.{Event, History, Said, timeOf, newest, statusOf, commandOf, limitsTold, controllerOf, openingOf, finishedOf, stopOf, opening, inSession}
 use Rattle.rules.specs.Times.{elapsed}
 use Rattle.rule_limits.specs.Sensor.{sensorOf}
 use Rattle.rule_asks.specs.Judgements.{isAllowed, isClose, isPowered, isCarrying, isOff, lowersBadly, outside, badInsulation, differs, bit}
@@ -28,6 +28,10 @@ sessionStatus h = newest statusOf (inSession h)
 
 unfoldable pub sessionControl : History → Option Said
 sessionControl h = newest commandOf (inSession h)
+
+-- 02, Req 14: "an Emergency_Stop accepted in it", the latest
+unfoldable pub sessionStop : History → Option Said
+sessionStop h = newest stopOf (inSession h)
 
 -- "the later of the opening and the latest Power_Modules_Status in this session"
 abbrev pub laterTime : ℕ → Option Said → ℕ
@@ -103,11 +107,19 @@ f10 lim h e = ask (openingOf e) (λ n. ask (opening h) (λ o. differs (openingBy
 unfoldable pub f11 : Rule
 f11 lim h e = ask (finishedOf e) (λ f. not (isOpen (opening h)))
 
+abbrev pub isStopped : Option Said → Bool
+isStopped none = false
+isStopped (some s) = true
+
+-- 02, Req 14: "F12 is a DC_Power_Control with insulation test, precharge or power transfer in a session after an Emergency_Stop accepted in it"
+unfoldable pub f12 : Rule
+f12 lim h e = ask (commandOf e) (λ d. isPowered (commandBy (d .kind) (d .raw) .function) && (isOpen (opening h) && isStopped (sessionStop h)))
+
 -- ---- the findings of an event
 
 -- finding 1 first
 abbrev pub rules01 : List Rule
-rules01 = f1 ∷ f2 ∷ f3 ∷ f4 ∷ f5 ∷ f6 ∷ f7 ∷ f8 ∷ f9 ∷ f10 ∷ f11 ∷ []
+rules01 = f1 ∷ f2 ∷ f3 ∷ f4 ∷ f5 ∷ f6 ∷ f7 ∷ f8 ∷ f9 ∷ f10 ∷ f11 ∷ f12 ∷ []
 
 abbrev pub found : List Rule → PlainLimits → History → Event → List Bool
 found rs lim h e = map (λ (f : Rule). f lim h e) rs

@@ -1,7 +1,7 @@
 // 01's session watch, one post: definitions and laws, and no function. Read with 01 beside it, in this order:
 //   specs/History.antt    a post's accepted frames and ticks, newest first, and looking back over them: the session
 //   specs/Times.antt      their times, which do not come round as those that are received do
-//   specs/Rules.antt      F1 to F11, each over the history before an event and the event
+//   specs/Rules.antt      F1 to F12, each over the history before an event and the event
 //   specs/Counts.antt     02's counts: the events of a history, and of how many of them a rule finds something
 //   specs/Record.antt     the record that is handed out, and the post that the table keeps, each read off the history
 //   specs/After.antt       the same step by step, as the code of `post` takes it; proofs/Look.antt has the laws that make it looking back
@@ -13,10 +13,10 @@ use rule_limits::Limits;
 use rule_limits::PlainLimits;
 pub use rule_pages::PLACES;
 
-pub const FINDINGS: usize = 11;
+pub const FINDINGS: usize = 12;
 
 // A post counts its accepted frames and ticks in place 0, and finding k in place k (02, Req 08).
-pub const COUNTS: usize = 12;
+pub const COUNTS: usize = 13;
 
 // ---- a post as the table keeps it: plain data, so that a table of posts can be lent from C. A flag is a whole word, 0 or 1, and times are as wide as words:
 // nothing that is stepped by value has padding, which the compiler would carry along byte by byte.
@@ -30,13 +30,15 @@ pub struct Slot {
     pub raw: u64,
 }
 
-// A session keeps the latest Power_Modules_Status and the latest DC_Power_Control that were accepted in it, or what stands for them on a post of the older
-// interface.
+// A session keeps the latest Power_Modules_Status, the latest DC_Power_Control and the latest Emergency_Stop (02, Req 14) that were accepted in it, or what
+// stands for them on a post of the older interface.
 pub const STATUS_PLACE: usize = 0;
 
 pub const CONTROL_PLACE: usize = 1;
 
-pub const KEPT: usize = 2;
+pub const STOP_PLACE: usize = 2;
+
+pub const KEPT: usize = 3;
 
 // All zero where none is open. `first` is the payload number of the New_Charge_Session that opened it.
 #[repr(C)]
@@ -54,12 +56,12 @@ pub struct Head {
     pub used: u32,
     pub channel: u32,
     pub limits: PlainLimits,
-    pub heard: u64,
+    pub heard: u32,
+    pub counts: [u32; COUNTS],
     pub time: u64,
     pub controller: Slot,
     pub parameters: Slot,
     pub session: Session,
-    pub counts: [u32; COUNTS],
 }
 
 #[repr(C)]
@@ -101,6 +103,7 @@ pub struct OpenSession {
     pub plug: Plug,
     pub status: Dated,
     pub control: Dated,
+    pub stop: Dated,
 }
 
 pub enum SessionPart {

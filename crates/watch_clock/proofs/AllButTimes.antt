@@ -51,13 +51,13 @@ latests-only (x ∷ a) (y ∷ b) p q =
     ap₂ _∷_ (ap (λ (d : Dated). record { message = d }) same) (latests-only a b (cc) (cc))
 
 open-is : (s z : OpenSession) → s .since ≡ z .since → s .age ≡ z .age → s .protocol ≡ z .protocol → s .plug ≡ z .plug → s .status ≡ z .status → s .control ≡ z .control
-    → s ≡ z
-open-is s z a b c d e f = go (s .since) (s .age) (s .protocol) (s .plug) (s .status) (s .control) a b c d e f
+    → s .stop ≡ z .stop → s ≡ z
+open-is s z a b c d e f g = go (s .since) (s .age) (s .protocol) (s .plug) (s .status) (s .control) (s .stop) a b c d e f g
   where
-    go : (since age : ℕ) (protocol : Protocol) (plug : Plug) (status control : Dated) → since ≡ z .since → age ≡ z .age → protocol ≡ z .protocol → plug ≡ z .plug
-        → status ≡ z .status → control ≡ z .control
-        → _≡_ {A = OpenSession} (record { since = since; age = age; protocol = protocol; plug = plug; status = status; control = control }) z
-    go since age protocol plug status control a′ b′ c′ d′ e′ f′ = rw (a′, b′, c′, d′, e′, f′)
+    go : (since age : ℕ) (protocol : Protocol) (plug : Plug) (status control stop : Dated) → since ≡ z .since → age ≡ z .age → protocol ≡ z .protocol → plug ≡ z .plug
+        → status ≡ z .status → control ≡ z .control → stop ≡ z .stop
+        → _≡_ {A = OpenSession} (record { since = since; age = age; protocol = protocol; plug = plug; status = status; control = control; stop = stop }) z
+    go since age protocol plug status control stop a′ b′ c′ d′ e′ f′ g′ = rw (a′, b′, c′, d′, e′, f′, g′)
 
 part-only : (a b : SessionPart) → stillPart a ≡ stillPart b → partTimes a ≡ partTimes b → a ≡ b
 part-only part.Closed part.Closed p q = refl
@@ -66,12 +66,13 @@ part-only (part.Opened s) part.Closed p q = cc
 part-only (part.Opened s) (part.Opened z) p q =
     let w : stillOpen s ≡ stillOpen z = cc in
     ap part.Opened
-    (open-is s z (ap (λ (t : ℕ × ℕ × ℕ). t .0) q)
+    (open-is s z (ap (λ (t : ℕ × ℕ × ℕ × ℕ). t .0) q)
     (ap (λ (o : OpenSession). o .age) w)
     (ap (λ (o : OpenSession). o .protocol) w)
     (ap (λ (o : OpenSession). o .plug) w)
-    (dated-only (s .status) (z .status) (ap (λ (o : OpenSession). o .status) w) (ap (λ (t : ℕ × ℕ × ℕ). t .1) q))
-    (dated-only (s .control) (z .control) (ap (λ (o : OpenSession). o .control) w) (ap (λ (t : ℕ × ℕ × ℕ). t .2) q)))
+    (dated-only (s .status) (z .status) (ap (λ (o : OpenSession). o .status) w) (ap (λ (t : ℕ × ℕ × ℕ × ℕ). t .1) q))
+    (dated-only (s .control) (z .control) (ap (λ (o : OpenSession). o .control) w) (ap (λ (t : ℕ × ℕ × ℕ × ℕ). t .2) q))
+    (dated-only (s .stop) (z .stop) (ap (λ (o : OpenSession). o .stop) w) (ap (λ (t : ℕ × ℕ × ℕ × ℕ). t .3) q)))
 
 record-is : (r q : Record) → r .channel ≡ q .channel → r .limits ≡ q .limits → r .last ≡ q .last → r .latest ≡ q .latest → r .session ≡ q .session
     → r .accepted ≡ q .accepted → r .tallies ≡ q .tallies → r ≡ q
@@ -89,8 +90,8 @@ still-only r q p t =
     record-is r q
     (ap (λ (x : Record). x .channel) p)
     (ap (λ (x : Record). x .limits) p)
-    (last-only (r .last) (q .last) (ap (λ (x : Record). x .last) p) (ap (λ (x : ℕ × List ℕ × (ℕ × ℕ × ℕ)). x .0) t))
-    (latests-only (r .latest) (q .latest) (ap (λ (x : Record). x .latest) p) (ap (λ (x : ℕ × List ℕ × (ℕ × ℕ × ℕ)). x .1) t))
-    (part-only (r .session) (q .session) (ap (λ (x : Record). x .session) p) (ap (λ (x : ℕ × List ℕ × (ℕ × ℕ × ℕ)). x .2) t))
+    (last-only (r .last) (q .last) (ap (λ (x : Record). x .last) p) (ap (λ (x : ℕ × List ℕ × (ℕ × ℕ × ℕ × ℕ)). x .0) t))
+    (latests-only (r .latest) (q .latest) (ap (λ (x : Record). x .latest) p) (ap (λ (x : ℕ × List ℕ × (ℕ × ℕ × ℕ × ℕ)). x .1) t))
+    (part-only (r .session) (q .session) (ap (λ (x : Record). x .session) p) (ap (λ (x : ℕ × List ℕ × (ℕ × ℕ × ℕ × ℕ)). x .2) t))
     (ap (λ (x : Record). x .accepted) p)
     (ap (λ (x : Record). x .tallies) p)

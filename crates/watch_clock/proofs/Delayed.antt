@@ -20,11 +20,11 @@ use Rattle.rule_limits.specs.Sensor.{sensorOf}
 use Rattle.rule_asks.specs.Judgements.{isClose, isPowered, isCarrying, isOff, lowersBadly, outside, badInsulation, differs}
 use Rattle.rules.specs.History.{Event, History, Said, timeOf, newest, asked, limitsTold, controllerOf, openingOf, opening, countFrom}
 use Rattle.rules.specs.Times.{receivedOf, elapsed, ageOf}
-use Rattle.rules.specs.Rules.{ask, isOpen, sessionStatus, sessionControl, laterTime, limitBy, limitOf, unready, Rule, f1, f2, f3, f4, f5, f6, f7, f8, f9, f10, f11, rules01, found, bitsFrom, findings01}
+use Rattle.rules.specs.Rules.{ask, isOpen, sessionStatus, sessionControl, sessionStop, laterTime, limitBy, limitOf, unready, isStopped, Rule, f1, f2, f3, f4, f5, f6, f7, f8, f9, f10, f11, f12, rules01, found, bitsFrom, findings01}
 use Rattle.rules.specs.Counts.{timesFound, talliesBy, talliesOf}
 use Rattle.rules.specs.Record.{placeCount, datedAt, datedOf, atPlace, lastOf, partOf, recordAsOf, recordOf}
 use Rattle.watch_clock.specs.Later.{delay, delayed, later, Steady, AllSteady, stillLast, stillDated, stillLatest, stillPart, still}
-use Rattle.watch_clock.proofs.Later.{role-timely, place-timely, time-retimed, newest-retimed, opening-retimed, status-retimed, control-retimed}
+use Rattle.watch_clock.proofs.Later.{role-timely, place-timely, time-retimed, newest-retimed, opening-retimed, status-retimed, control-retimed, stop-retimed}
 
 -- ---- what a rule makes of an answer
 
@@ -44,6 +44,10 @@ module _ (d : ℕ) where
   unready-later : (o : Option Said) → unready (later d o) ≡ unready o
   unready-later none = refl
   unready-later (some o) = refl
+
+  stopped-later : (o : Option Said) → isStopped (later d o) ≡ isStopped o
+  stopped-later none = refl
+  stopped-later (some o) = refl
 
   since-later : (o : ℕ) (s : Option Said) → laterTime (o + d) (later d s) ≡ laterTime o s + d
   since-later o none = refl
@@ -72,6 +76,9 @@ module _ (d : ℕ) where
 
   pub control-delayed : (h : History) → sessionControl (delayed d h) ≡ later d (sessionControl h)
   control-delayed h = control-retimed (λ t. t + d) h
+
+  pub stop-delayed : (h : History) → sessionStop (delayed d h) ≡ later d (sessionStop h)
+  stop-delayed h = stop-retimed (λ t. t + d) h
 
   pub time-delayed : (e : Event) → timeOf (delay d e) ≡ timeOf e + d
   time-delayed e = time-retimed (λ t. t + d) e
@@ -158,8 +165,14 @@ steady-11 : Steady f11
 unfolding f11
 steady-11 d lim h e = rw (is-open-delayed d h) (asks d Finished e (λ k r. not (isOpen (opening h))))
 
+steady-12 : Steady f12
+unfolding f12
+steady-12 d lim h e =
+    rw (is-open-delayed d h, stop-delayed d h, stopped-later d (sessionStop h))
+    (asks d Command e (λ k r. isPowered (commandBy k r .function) && (isOpen (opening h) && isStopped (sessionStop h))))
+
 pub steady01 : AllSteady rules01
-steady01 = (steady-1, (steady-2, (steady-3, (steady-4, (steady-5, (steady-6, (steady-7, (steady-8, (steady-9, (steady-10, (steady-11, tt)))))))))))
+steady01 = (steady-1, (steady-2, (steady-3, (steady-4, (steady-5, (steady-6, (steady-7, (steady-8, (steady-9, (steady-10, (steady-11, (steady-12, tt))))))))))))
 
 -- ---- any list of such rules
 
@@ -198,9 +211,9 @@ module _ (d now : ℕ) where
   dated-delayed none = refl
   dated-delayed (some m) = rw (age-delayed (m .time)) (still-at (receivedOf (m .time + d)) (receivedOf (m .time)) (ageOf now (m .time)) (m .kind) (m .raw))
 
-  part-delayed : (o s c : Option Said) → stillPart (partOf (now + d) (later d o) (later d s) (later d c)) ≡ stillPart (partOf now o s c)
-  part-delayed none s c = refl
-  part-delayed (some o) s c = rw (age-delayed (o .time), dated-delayed s, dated-delayed c)
+  part-delayed : (o s c m : Option Said) → stillPart (partOf (now + d) (later d o) (later d s) (later d c) (later d m)) ≡ stillPart (partOf now o s c m)
+  part-delayed none s c m = refl
+  part-delayed (some o) s c m = rw (age-delayed (o .time), dated-delayed s, dated-delayed c, dated-delayed m)
 
   latests-delayed : (h : History) (ks : List ℕ)
       → map stillLatest (map (λ j. record { message = datedOf (now + d) (newest (atPlace j) (delayed d h)) }) ks)
@@ -222,7 +235,8 @@ record-as-delayed d c lim now h =
       opening-delayed d h,
       status-delayed d h,
       control-delayed d h,
-      part-delayed d now (opening h) (sessionStatus h) (sessionControl h),
+      stop-delayed d h,
+      part-delayed d now (opening h) (sessionStatus h) (sessionControl h) (sessionStop h),
       length-map h (delay d),
       tallies-delayed d lim rules01 steady01 h,
     )

@@ -17,7 +17,7 @@ use Rattle.rules.specs.declared.SessionPart.the-variants as part
 use Rattle.rules.specs.History.{Event, frame, History, saidAt, newest, controllerOf, sinceFinished, opening, inSession}
 use Rattle.rules.specs.Times.{elapsed, Unrolled}
 use Rattle.rules.specs.Record.{datedAt}
-use Rattle.rules.specs.Rules.{isOpen, sessionStatus, sessionControl}
+use Rattle.rules.specs.Rules.{isOpen, sessionStatus, sessionControl, sessionStop}
 use Rattle.watch_rules.specs.declared.Answer.the-variants.{Findings}
 use Rattle.watch_rules.specs.declared.LookedUp.{LookedUp}
 use Rattle.watch_rules.specs.Table.{lookUpOf}
@@ -84,8 +84,8 @@ age-stops = age-hourly 2400 (omega arith)
 
 -- and so does the session's, which opened 290 ms before it
 pub session-stops : lookUpOf (run (hours 2400)) 0 .shown .session
-    ≡ part.Opened (record { since = 4294967000; age = 4294967295; protocol = sessionIn 258 .protocol; plug = sessionIn 258 .plug; status = dated.Nothing; control = dated.Nothing })
-unfolding opening sinceFinished sessionStatus sessionControl inSession roleOf openingBy
+    ≡ part.Opened (record { since = 4294967000; age = 4294967295; protocol = sessionIn 258 .protocol; plug = sessionIn 258 .plug; status = dated.Nothing; control = dated.Nothing; stop = dated.Nothing })
+unfolding opening sinceFinished sessionStatus sessionControl sessionStop inSession roleOf openingBy
 session-stops =
     ap (λ (l : LookedUp). l .shown .session)
     (record-ticked hour (omega arith) status opened charging 0 4 limits first own-charging (omega arith) (omega arith) 2400 (omega arith))

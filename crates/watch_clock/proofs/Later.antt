@@ -6,11 +6,11 @@ use mathlib.Core.Bool.{Bool, true, false, cond}
 use mathlib.Core.Option.{Option, none, some}
 use lib.Dec.{eqb}
 use Rattle.rule_pages.specs.declared.Role.{Role}
-use Rattle.rule_pages.specs.declared.Role.the-variants.{Status, Opening, Command, Finished}
+use Rattle.rule_pages.specs.declared.Role.the-variants.{Status, Opening, Command, Finished, Stop}
 use Rattle.rule_pages.specs.Roles.{roleOf}
 use Rattle.rule_pages.specs.Places.{placeBy}
-use Rattle.rules.specs.History.{Event, frame, tick, History, Said, saidAt, roleNumber, timeOf, first, newest, oldest, unless, onlyIf, sinceNewest, afterOldest, ofKind, asked, statusOf, commandOf, openingOf, finishedOf, sinceFinished, opening, inSession}
-use Rattle.rules.specs.Rules.{sessionStatus, sessionControl}
+use Rattle.rules.specs.History.{Event, frame, tick, History, Said, saidAt, roleNumber, timeOf, first, newest, oldest, unless, onlyIf, sinceNewest, afterOldest, ofKind, asked, statusOf, commandOf, openingOf, finishedOf, stopOf, sinceFinished, opening, inSession}
+use Rattle.rules.specs.Rules.{sessionStatus, sessionControl, sessionStop}
 use Rattle.rules.specs.Record.{atPlace}
 use Rattle.watch_clock.specs.Later.{retime, atTime, Timely}
 
@@ -86,3 +86,7 @@ module _ (f : ℕ → ℕ) where
   pub control-retimed : (h : History) → sessionControl (map (retime f) h) ≡ atTime f (sessionControl h)
   unfolding sessionControl
   control-retimed h = rw (session-retimed h) (newest-retimed commandOf (role-timely Command) (inSession h))
+
+  pub stop-retimed : (h : History) → sessionStop (map (retime f) h) ≡ atTime f (sessionStop h)
+  unfolding sessionStop
+  stop-retimed h = rw (session-retimed h) (newest-retimed stopOf (role-timely Stop) (inSession h))

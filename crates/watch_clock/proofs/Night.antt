@@ -24,7 +24,7 @@ use Rattle.rule_asks.specs.Judgements.{lowersBadly, outside, leaking, badInsula
 use Rattle.rules.specs.History as history
 use Rattle.rules.specs.History.{Event, History, sinceFinished, opening, inSession}
 use Rattle.rules.specs.Times.{receivedOf, earlierIn, stampOf, latestTime, Unrolled}
-use Rattle.rules.specs.Rules.{sessionStatus, sessionControl, limitOf, f1, f2, f3, f4, f5, f6, f7, f8, f9, f10, f11, findings01}
+use Rattle.rules.specs.Rules.{sessionStatus, sessionControl, sessionStop, limitOf, f1, f2, f3, f4, f5, f6, f7, f8, f9, f10, f11, f12, findings01}
 use Rattle.rules.specs.Record.{recordOf}
 use Rattle.watch_rules.specs.declared.Answer.the-variants.{Findings}
 use Rattle.watch_rules.specs.Table.{postCount, emptyTable, lookUpOf}
@@ -74,7 +74,7 @@ from0 = history.tick 491 ∷ beforeFrom0
 computed : (standing 0 (accepted night) ≡ held 4 limits heard) × (standing 0 (accepted charging) ≡ held 4 limits before) × (findings01 limits beforeFrom0 (history.tick 491) ≡ 2)
     × (earlierIn before 195 ≡ false) × (earlierIn before 4294967289 ≡ true)
     × (earlierIn heard 206 ≡ false) × (findings01 limits heard (history.tick 4294967502) ≡ 3)
-unfolding standing findFrom holder otherHolds feed01 setUp01 release01 lookUp01 feedSteps setUpSteps releaseSteps limitsFit accepted sinceFinished opening inSession earlierIn lowersBadly outside leaking badInsulation differs sessionStatus sessionControl limitOf f1 f2 f3 f4 f5 f6 f7 f8 f9 f10 f11 findings01 rows ofKind firstAt covered unlabelled strayBelow judgedNumber judgeOn isForeign judgeFor roleOf statusBy openingBy limitsBy commandBy wholesOf pad rawsOf getBits leNumber toSigned statusIn parametersIn sessionIn controlIn
+unfolding standing findFrom holder otherHolds feed01 setUp01 release01 lookUp01 feedSteps setUpSteps releaseSteps limitsFit accepted sinceFinished opening inSession earlierIn lowersBadly outside leaking badInsulation differs sessionStatus sessionControl sessionStop limitOf f1 f2 f3 f4 f5 f6 f7 f8 f9 f10 f11 f12 findings01 rows ofKind firstAt covered unlabelled strayBelow judgedNumber judgeOn isForeign judgeFor roleOf statusBy openingBy limitsBy commandBy wholesOf pad rawsOf getBits leNumber toSigned statusIn parametersIn sessionIn controlIn
 computed = (refl, refl, refl, refl, refl, refl, refl)
 
 pub first : 0 < postCount

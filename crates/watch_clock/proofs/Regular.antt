@@ -12,10 +12,10 @@ use Rattle.rule_asks.specs.Judgements.{bit}
 use Rattle.rules.specs.declared.Latest.{Latest}
 use Rattle.rules.specs.declared.Dated.the-variants as dated
 use Rattle.rule_pages.specs.declared.Role.{Role}
-use Rattle.rule_pages.specs.declared.Role.the-variants.{Status, Controller, Command}
+use Rattle.rule_pages.specs.declared.Role.the-variants.{Status, Controller, Command, Stop}
 use Rattle.rules.specs.History.{Event, tick, History, Said, timeOf, newest, asked, controllerOf, opening, inSession}
 use Rattle.rules.specs.Times.{receivedOf, earlierIn, stampOf, latestTime, ageOf, Unrolled}
-use Rattle.rules.specs.Rules.{isOpen, sessionStatus, sessionControl, findings01}
+use Rattle.rules.specs.Rules.{isOpen, sessionStatus, sessionControl, sessionStop, findings01}
 use Rattle.rules.specs.Record.{placeCount, datedAt, datedOf, atPlace, partOf, recordAsOf, recordOf}
 use Rattle.rules.proofs.Counted.{count-at}
 use Rattle.rules.proofs.Unrolled.{unrolled-next}
@@ -50,6 +50,10 @@ module _ (every t : ℕ) (h : History) where
   control-ticked : (n : ℕ) → sessionControl (ticked every t n h) ≡ sessionControl h
   unfolding sessionControl
   control-ticked n = in-session-ticked Command n
+
+  stop-ticked : (n : ℕ) → sessionStop (ticked every t n h) ≡ sessionStop h
+  unfolding sessionStop
+  stop-ticked n = in-session-ticked Stop n
 
   pub length-ticked : (n : ℕ) → length (ticked every t n h) ≡ n + length h
   length-ticked zero = omega arith
@@ -116,7 +120,7 @@ module _ (every : ℕ) (half : every < 2147483648) (e : Event) (h : History) (un
 
   -- and so has the session's part
   pub session-ticked : (c : ℕ) (lim : PlainLimits) (n : ℕ)
-      → recordOf c lim (after n) .session ≡ partOf (tickTime every (timeOf e) n) (opening (e ∷ h)) (sessionStatus (e ∷ h)) (sessionControl (e ∷ h))
+      → recordOf c lim (after n) .session ≡ partOf (tickTime every (timeOf e) n) (opening (e ∷ h)) (sessionStatus (e ∷ h)) (sessionControl (e ∷ h)) (sessionStop (e ∷ h))
   unfolding recordAsOf
   session-ticked c lim n =
-      rw (latest-ticked n, opening-ticked every (timeOf e) (e ∷ h) n, status-ticked every (timeOf e) (e ∷ h) n, control-ticked every (timeOf e) (e ∷ h) n)
+      rw (latest-ticked n, opening-ticked every (timeOf e) (e ∷ h) n, status-ticked every (timeOf e) (e ∷ h) n, control-ticked every (timeOf e) (e ∷ h) n, stop-ticked every (timeOf e) (e ∷ h) n)

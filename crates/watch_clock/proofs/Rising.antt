@@ -4,10 +4,10 @@ use native.Mathlib.Omega.{arith}
 use mathlib.Core.Path.{_≡_, refl, sym, subst, _∙_}
 use mathlib.Core.List.{[], _∷_}
 use mathlib.Core.Option.{Option, none, some}
-use Rattle.rule_pages.specs.declared.Role.the-variants.{Status, Opening, Command, Finished}
-use Rattle.rules.specs.History.{Event, frame, tick, History, Said, timeOf, first, newest, oldest, unless, onlyIf, sinceNewest, afterOldest, statusOf, commandOf, openingOf, finishedOf, sinceFinished, opening, inSession}
+use Rattle.rule_pages.specs.declared.Role.the-variants.{Status, Opening, Command, Finished, Stop}
+use Rattle.rules.specs.History.{Event, frame, tick, History, Said, timeOf, first, newest, oldest, unless, onlyIf, sinceNewest, afterOldest, statusOf, commandOf, openingOf, finishedOf, stopOf, sinceFinished, opening, inSession}
 use Rattle.rules.specs.Times.{receivedOf, stampOf, latestTime, Unrolled}
-use Rattle.rules.specs.Rules.{sessionStatus, sessionControl}
+use Rattle.rules.specs.Rules.{sessionStatus, sessionControl, sessionStop}
 use Rattle.watch_clock.specs.Later.{retime, atTime, Timely, Rising, NoneAfter, FoundBy}
 use Rattle.watch_clock.proofs.Later.{role-timely}
 
@@ -96,3 +96,7 @@ module _ (now : ℕ) where
     pub control-by : FoundBy now (sessionControl h)
     unfolding sessionControl
     control-by = newest-by commandOf (role-timely Command) (inSession h) session-by
+
+    pub stop-by : FoundBy now (sessionStop h)
+    unfolding sessionStop
+    stop-by = newest-by stopOf (role-timely Stop) (inSession h) session-by

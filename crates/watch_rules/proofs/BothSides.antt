@@ -22,7 +22,7 @@ use Rattle.rule_limits.specs.Limits.{limitsFit}
 use Rattle.rule_asks.specs.Judgements.{lowersBadly, outside, leaking, badInsulation, differs}
 use Rattle.rules.specs.declared.Dated.{Dated}
 use Rattle.rules.specs.declared.Dated.the-variants as dated
-use Rattle.rules.specs.After.{sessionAfter, stampIn, agedTo, withFrame, silentIn, lateAfter, anyFindings, unreadyIn, carryingIn, controlFindings, statusFindings, openingFindings, finishedFindings, messageFindings, counted, withCounts, afterTick, afterFrame, postRecord}
+use Rattle.rules.specs.After.{sessionAfter, stampIn, agedTo, withFrame, silentIn, lateAfter, anyFindings, unreadyIn, carryingIn, stoppedIn, controlFindings, statusFindings, openingFindings, finishedFindings, messageFindings, counted, withCounts, afterTick, afterFrame, postRecord}
 use Rattle.watch_rules.specs.Table.{placeOf, placeNamed, somePlace, placeIn, heardOf, oneMore, feedAt, feedOf, emptyTable, isOther, setUpOf, releaseOf, lookUpOf}
 use Rattle.watch_rules.specs.Run.{Request, runFrom, repliesFrom}
 use Rattle.watch_rules.specs.Readings.{Case, codec, answers, shows, senses, reads-by, in-session, keeps, dates, counts, turns-away, names, isDated, e8to13}
@@ -49,5 +49,5 @@ AllRun [] = Unit {0}
 AllRun (c ∷ cs) = Runs c × AllRun cs
 
 pub both-sides : AllRun e8to13
-unfolding placeOf placeNamed somePlace placeIn heardOf oneMore counted withCounts feedAt feedOf isOther setUpOf releaseOf lookUpOf postRecord limitsFit sessionAfter stampIn agedTo withFrame silentIn lateAfter anyFindings unreadyIn carryingIn controlFindings statusFindings openingFindings finishedFindings messageFindings afterTick afterFrame lowersBadly outside leaking badInsulation differs messageOf builtOf statusIn parametersIn sessionIn controlIn rows ofKind firstAt covered unlabelled offender strayBelow judgedNumber judgeOn isForeign judgeFor roleOf statusBy openingBy limitsIn limitsBy commandBy placeBy datedAt olderBuilt.messageOf olderBuilt.builtOf wholesOf pad rawsOf getBits leNumber beNumber toSigned
-both-sides = (refl, (refl, (refl, (refl, (refl, (refl, (refl, (refl, (refl, (refl, (refl, ((refl, refl), (refl, (refl, (refl, (refl, ((refl, refl), ((refl, refl), (refl, (refl, (refl, (refl, (refl, (refl, (refl, (refl, (refl, (refl, (refl, (refl, (refl, (refl, (refl, (refl, (refl, (refl, (refl, (refl, (refl, (refl, (refl, (refl, (refl, (refl, (refl, (refl, (refl, (refl, (refl, ((refl, refl), ((refl, refl), ((refl, refl), ((refl, refl), (refl, (refl, (refl, (refl, (refl, (refl, (refl, (refl, (refl, (refl, (refl, (refl, (refl, (refl, (refl, (refl, tt)))))))))))))))))))))))))))))))))))))))))))))))))))))))))))))))))))))
+unfolding placeOf placeNamed somePlace placeIn heardOf oneMore counted withCounts feedAt feedOf isOther setUpOf releaseOf lookUpOf postRecord limitsFit sessionAfter stampIn agedTo withFrame silentIn lateAfter anyFindings unreadyIn carryingIn stoppedIn controlFindings statusFindings openingFindings finishedFindings messageFindings afterTick afterFrame lowersBadly outside leaking badInsulation differs messageOf builtOf statusIn parametersIn sessionIn controlIn rows ofKind firstAt covered unlabelled offender strayBelow judgedNumber judgeOn isForeign judgeFor roleOf statusBy openingBy limitsIn limitsBy commandBy placeBy datedAt olderBuilt.messageOf olderBuilt.builtOf wholesOf pad rawsOf getBits leNumber beNumber toSigned
+both-sides = (refl, (refl, (refl, (refl, (refl, (refl, (refl, (refl, (refl, (refl, (refl, ((refl, refl), (refl, (refl, (refl, (refl, ((refl, refl), ((refl, refl), (refl, (refl, (refl, (refl, (refl, (refl, (refl, (refl, (refl, (refl, (refl, (refl, (refl, (refl, (refl, (refl, (refl, (refl, (refl, (refl, (refl, (refl, (refl, (refl, (refl, (refl, (refl, (refl, (refl, (refl, (refl, ((refl, refl), ((refl, refl), ((refl, refl), ((refl, refl), (refl, (refl, (refl, (refl, (refl, (refl, (refl, (refl, (refl, (refl, (refl, (refl, (refl, (refl, (refl, (refl, (refl, (refl, (refl, (refl, (refl, ((refl, refl), (refl, (refl, (refl, (refl, (refl, tt))))))))))))))))))))))))))))))))))))))))))))))))))))))))))))))))))))))))))))))))

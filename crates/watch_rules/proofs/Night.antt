@@ -25,7 +25,7 @@ use Rattle.rules.specs.History.{History, sinceFinished, opening, inSession}
 use Rattle.rules.specs.Times.{earlierIn}
 use Rattle.rules.specs.History as history
 use Rattle.rule_asks.specs.Judgements.{lowersBadly, outside, leaking, badInsulation, differs}
-use Rattle.rules.specs.Rules.{sessionStatus, sessionControl, limitOf, f1, f2, f3, f4, f5, f6, f7, f8, f9, f10, f11, findings01}
+use Rattle.rules.specs.Rules.{sessionStatus, sessionControl, sessionStop, limitOf, f1, f2, f3, f4, f5, f6, f7, f8, f9, f10, f11, f12, findings01}
 use Rattle.rules.specs.declared.Post.{Post}
 use Rattle.rules.specs.Record.{isSet, recordOf}
 use Rattle.rules.proofs.Look.{used-look}
@@ -70,7 +70,7 @@ computed : (standing 0 (accepted night) ≡ held 4 limits heard) × (standing 0 
     × (judgeFor Newer 0x63000 true status ≡ judged.Frame 0 allowed) × (findings01 limits heard (history.frame 501 0 allowed) ≡ 1)
     × (otherHolds (accepted night) 2 4 0 postCount ≡ otherHolds (accepted alone) 2 4 0 postCount) × (lookUp01 (accepted night) 0 ≡ record { answer = setting.Done; shown = recordOf 4 limits heard })
     × (holder (accepted alone) 5 ≡ postCount) × (setUp01 (accepted night) 3 5 limits ≡ setting.Done) × (release01 (accepted night) 1 ≡ setting.Done) × (ownOf 0 (accepted night) ≡ ownOf 0 (accepted alone))
-unfolding standing findFrom holder otherHolds feed01 setUp01 release01 lookUp01 feedSteps setUpSteps releaseSteps limitsFit accepted sinceFinished opening inSession earlierIn lowersBadly outside leaking badInsulation differs sessionStatus sessionControl limitOf f1 f2 f3 f4 f5 f6 f7 f8 f9 f10 f11 findings01 rows ofKind firstAt covered unlabelled strayBelow judgedNumber judgeOn isForeign judgeFor roleOf statusBy openingBy limitsBy commandBy wholesOf pad rawsOf getBits leNumber toSigned statusIn parametersIn sessionIn controlIn
+unfolding standing findFrom holder otherHolds feed01 setUp01 release01 lookUp01 feedSteps setUpSteps releaseSteps limitsFit accepted sinceFinished opening inSession earlierIn lowersBadly outside leaking badInsulation differs sessionStatus sessionControl sessionStop limitOf f1 f2 f3 f4 f5 f6 f7 f8 f9 f10 f11 f12 findings01 rows ofKind firstAt covered unlabelled strayBelow judgedNumber judgeOn isForeign judgeFor roleOf statusBy openingBy limitsBy commandBy wholesOf pad rawsOf getBits leNumber toSigned statusIn parametersIn sessionIn controlIn
 computed = (refl, refl, refl, refl, refl, refl, refl, refl, refl, refl, refl, refl, refl, refl, refl, refl, refl, refl)
 
 abbrev own : standing 0 (accepted night) ≡ held 4 limits heard

@@ -1,5 +1,6 @@
 -- 02, Req 11: a post hears the messages of its own interface alone, whatever was asked of the table (`own-pages`), so that the latest frame that it keeps in a
--- place is the latest of a kind (`latest-of-kind`), and so does its record show it (`latest-shown`); an identifier that only the other interface has is refused with 29 (`own-foreign`).
+-- place is the latest of a kind (`latest-of-kind`), and so does its record show it (`latest-shown`); an identifier that only the other interface has is
+-- refused with 29 (`own-foreign`).
 use Prim.Native.Nat.{ℕ, _+_, _-_, _≤_, _<_}
 use native.Mathlib.Omega.{arith}
 use mathlib.Core.Path.{_≡_, refl, ap, sym, subst, _∙_}

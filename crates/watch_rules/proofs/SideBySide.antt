@@ -25,7 +25,7 @@ use Rattle.rules.specs.declared.Latest.{Latest}
 use Rattle.rules.specs.History as history
 use Rattle.rules.specs.History.{History, newest, saidAt, sinceFinished, opening, inSession}
 use Rattle.rules.specs.Times.{earlierIn}
-use Rattle.rules.specs.Rules.{sessionStatus, f1, f2, f3, f4, f5, f6, f7, f8, f9, f10, f11, findings01}
+use Rattle.rules.specs.Rules.{sessionStatus, sessionStop, f1, f2, f3, f4, f5, f6, f7, f8, f9, f10, f11, f12, findings01}
 use Rattle.rules.specs.Record.{datedOf, atPlace}
 use Rattle.watch_rules.specs.declared.Answer.the-variants.{Refused}
 use Rattle.watch_rules.specs.Table.{postCount, lookUpOf}
@@ -52,7 +52,7 @@ first = ltb-true 0 postCount refl
 
 computed : (standing 0 (accepted night) ≡ held 4 (limits 1) heard) × (earlierIn heard 30 ≡ false)
     × (standing 1 (accepted night) ≡ held 9 (limits 0) (history.frame 10 3 258 ∷ []))
-unfolding standing findFrom holder otherHolds feed01 setUp01 feedSteps setUpSteps limitsFit accepted earlierIn sinceFinished opening inSession sessionStatus f1 f2 f3 f4 f5 f6 f7 f8 f9 f10 f11 findings01 roleOf rows ofKind firstAt covered unlabelled strayBelow judgedNumber judgeOn isForeign judgeFor wholesOf pad rawsOf getBits leNumber toSigned
+unfolding standing findFrom holder otherHolds feed01 setUp01 feedSteps setUpSteps limitsFit accepted earlierIn sinceFinished opening inSession sessionStatus sessionStop f1 f2 f3 f4 f5 f6 f7 f8 f9 f10 f11 f12 findings01 roleOf rows ofKind firstAt covered unlabelled strayBelow judgedNumber judgeOn isForeign judgeFor wholesOf pad rawsOf getBits leNumber toSigned
 computed = (refl, refl, refl)
 
 foreign : isForeign Older 0x63000 true ≡ true

@@ -1,4 +1,4 @@
--- 01, "Readings from both sides of each edge": E1* to E13*, and 02, Req 02 to 04, 08, 09, 11 and 13: one table under one statement, closed by computing the
+-- 01, "Readings from both sides of each edge": E1* to E13*, and 02, Req 02 to 04, 08, 09, 11, 13 and 14: one table under one statement, closed by computing the
 -- definitions. What the watch answers is read by looking back.
 use Prim.Native.Nat.{ℕ}
 use mathlib.Core.Path.{_≡_, refl}
@@ -18,7 +18,8 @@ use Rattle.payload.specs.Payload.{leNumber, beNumber}
 use Rattle.signal.specs.Twos.{toSigned}
 use Rattle.message_types.specs.declared.CpState.the-variants as cp
 use Rattle.message_types.specs.declared.PpState.the-variants as pp
-use Rattle.message_types.specs.declared.Message.the-variants.{SafetyState, Probes}
+use Rattle.message_types.specs.declared.Message.the-variants.{Stop, SafetyState, Probes}
+use Rattle.message_types.specs.declared.StopOrigin.the-variants.{Evse, Pev}
 use Rattle.message_types.specs.declared.Protocol.the-variants.{CcsIso15118v2013}
 use Rattle.message_types.specs.declared.Plug.the-variants.{CcsDcExtended}
 use Rattle.message_types.specs.declared.SystemEnable.the-variants.{Allowed}
@@ -44,7 +45,7 @@ use Rattle.rules.specs.declared.Record.{Record}
 use Rattle.rules.specs.History.{sinceFinished, opening, inSession}
 use Rattle.rules.specs.Times.{earlierIn}
 use Rattle.rule_asks.specs.Judgements.{lowersBadly, outside, leaking, badInsulation, differs}
-use Rattle.rules.specs.Rules.{sessionStatus, sessionControl, limitOf, f1, f2, f3, f4, f5, f6, f7, f8, f9, f10, f11, findings01}
+use Rattle.rules.specs.Rules.{sessionStatus, sessionControl, sessionStop, limitOf, f1, f2, f3, f4, f5, f6, f7, f8, f9, f10, f11, f12, findings01}
 use Rattle.rules.specs.Counts.{talliesOf}
 use Rattle.rules.specs.Record.{placeCount, datedAt, recordAsOf}
 use Rattle.watch_rules.specs.declared.Answer.the-variants.{Findings, Refused}
@@ -122,7 +123,7 @@ emptyRecord =
       latest = replicate placeCount none;
       session = part.Closed;
       accepted = 0;
-      tallies = 0 ∷ 0 ∷ 0 ∷ 0 ∷ 0 ∷ 0 ∷ 0 ∷ 0 ∷ 0 ∷ 0 ∷ 0 ∷ [];
+      tallies = 0 ∷ 0 ∷ 0 ∷ 0 ∷ 0 ∷ 0 ∷ 0 ∷ 0 ∷ 0 ∷ 0 ∷ 0 ∷ 0 ∷ [];
     }
 
 abbrev done : Reply
@@ -148,6 +149,13 @@ session t = frame 4 t 0x6b001 true (2 ∷ 1 ∷ [])
 abbrev control : ℕ → ℕ → ℕ → ℕ → Request
 control t low high last = frame 4 t 0x6b003 true (low ∷ high ∷ 0 ∷ 0 ∷ 0 ∷ 0 ∷ last ∷ [])
 
+-- Charge_Session_Finished, and Emergency_Stop by its origin
+abbrev finished : ℕ → Request
+finished t = frame 4 t 0x6b004 true (0 ∷ [])
+
+abbrev stop : ℕ → ℕ → Request
+stop t origin = frame 4 t 0x6b005 true (origin ∷ [])
+
 -- frames of the safety controller on channel 4, each with 53.3 % and PWM active or -10.0 °C:
 -- ChargeControl1 and ChargeState1 with both contactors closed, PT1000State
 abbrev safetyControl : ℕ → Request
@@ -171,7 +179,7 @@ abbrev reading : ℕ → Request
 reading n = setUp 0 4 (limitsOn n)
 
 -- frames of 001 on channel 4: Power_Modules_Status (Allowed) by the two bytes of voltage and current and the insulation, Power_Modules_Limits by those of
--- Maximum_Current, New_Charge_Session by its first three bytes, Charging_Loop at 0 V and 0 A
+-- Maximum_Current, New_Charge_Session by its first three bytes, Charging_Loop at 0 V and 0 A, Emergency_Stop
 abbrev olderStatus : ℕ → ℕ → ℕ → ℕ → ℕ → ℕ → Request
 olderStatus t low high cl ch raw = frame 4 t 0x60010 true (low ∷ high ∷ cl ∷ ch ∷ 65 ∷ 65 ∷ 1 ∷ raw ∷ [])
 
@@ -183,6 +191,9 @@ olderSession t protocol plug next = frame 4 t 0x68001 true (protocol ∷ plug �
 
 abbrev charging : ℕ → Request
 charging t = frame 4 t 0x68005 true (0 ∷ 0 ∷ 0 ∷ 0 ∷ 0 ∷ [])
+
+abbrev olderStop : ℕ → Request
+olderStop t = frame 4 t 0x68006 true (1 ∷ [])
 
 abbrev e1to7 : List messages.Case → List Case → List Case
 e1to7 [] rest = rest
@@ -310,11 +321,11 @@ e8to13 =
       failed4 = false;
     })))
     -- 02, Req 08: what was refused counts for no post; F2 once, and F3 and F4 of one frame
-    ∷ counts (set-up ∷ controller 1000 ∷ tick 4 1200 ∷ tick 4 1201 ∷ tick 4 1199 ∷ frame 4 1201 0x63003 true (0 ∷ []) ∷ []) 0 3 (0 ∷ 1 ∷ 0 ∷ 0 ∷ 0 ∷ 0 ∷ 0 ∷ 0 ∷ 0 ∷ 0 ∷ 0 ∷ [])
-    ∷ counts (set-up ∷ control 0 0x88 0x13 0x48 ∷ tick 4 1 ∷ []) 0 2 (0 ∷ 0 ∷ 1 ∷ 1 ∷ 0 ∷ 0 ∷ 0 ∷ 0 ∷ 0 ∷ 0 ∷ 0 ∷ [])
+    ∷ counts (set-up ∷ controller 1000 ∷ tick 4 1200 ∷ tick 4 1201 ∷ tick 4 1199 ∷ frame 4 1201 0x63003 true (0 ∷ []) ∷ []) 0 3 (0 ∷ 1 ∷ 0 ∷ 0 ∷ 0 ∷ 0 ∷ 0 ∷ 0 ∷ 0 ∷ 0 ∷ 0 ∷ 0 ∷ [])
+    ∷ counts (set-up ∷ control 0 0x88 0x13 0x48 ∷ tick 4 1 ∷ []) 0 2 (0 ∷ 0 ∷ 1 ∷ 1 ∷ 0 ∷ 0 ∷ 0 ∷ 0 ∷ 0 ∷ 0 ∷ 0 ∷ 0 ∷ [])
     -- each post has counts of its own, and a second set-up makes them 0
-    ∷ counts (set-up ∷ setUp 1 9 limits ∷ control 0 0x88 0x13 0x48 ∷ tick 9 1 ∷ []) 1 1 (0 ∷ 0 ∷ 0 ∷ 0 ∷ 0 ∷ 0 ∷ 0 ∷ 0 ∷ 0 ∷ 0 ∷ 0 ∷ [])
-    ∷ counts (set-up ∷ control 0 0x88 0x13 0x48 ∷ set-up ∷ []) 0 0 (0 ∷ 0 ∷ 0 ∷ 0 ∷ 0 ∷ 0 ∷ 0 ∷ 0 ∷ 0 ∷ 0 ∷ 0 ∷ [])
+    ∷ counts (set-up ∷ setUp 1 9 limits ∷ control 0 0x88 0x13 0x48 ∷ tick 9 1 ∷ []) 1 1 (0 ∷ 0 ∷ 0 ∷ 0 ∷ 0 ∷ 0 ∷ 0 ∷ 0 ∷ 0 ∷ 0 ∷ 0 ∷ 0 ∷ [])
+    ∷ counts (set-up ∷ control 0 0x88 0x13 0x48 ∷ set-up ∷ []) 0 0 (0 ∷ 0 ∷ 0 ∷ 0 ∷ 0 ∷ 0 ∷ 0 ∷ 0 ∷ 0 ∷ 0 ∷ 0 ∷ 0 ∷ [])
     -- "of frames and ticks refused since it was made": 1, 2 and 3 count, a refused set-up and release do not
     ∷ turns-away (tick 4 0 ∷ set-up ∷ setUp 1 4 limits ∷ release 1 ∷ tick 4 100 ∷ tick 4 99 ∷ frame 4 100 0x63003 true (0 ∷ []) ∷ release 0 ∷ tick 4 101 ∷ []) 4
     -- 02, Req 11: an identifier that only the other interface has gets 29, before 4, 5, 6 and 15 and after 1 and 2; the exact identifier and its form count
@@ -358,10 +369,46 @@ e8to13 =
       plug = CcsDcExtended;
       status = dated.OlderAt 3 0 (older.Status (record { voltage = 0; current = pos 0; modules = pos 25; enclosure = pos 25; enable = Allowed; insulation = 510 }));
       control = dated.OlderAt 2 1 (older.Precharge (record { voltage = 1; current = 2 }));
+      stop = dated.Nothing;
     }))
     -- an old and a new post side by side: each by its own pages
     ∷ answers (reading 1 ∷ setUp 1 9 limits ∷ olderSession 0 2 1 0 ∷ frame 9 0 0x6b001 true (2 ∷ 1 ∷ []) ∷ frame 9 1 0x68001 true (2 ∷ 1 ∷ 0 ∷ 0 ∷ 0 ∷ 0 ∷ 0 ∷ 0 ∷ []) ∷ session 1 ∷ charging 2 ∷ frame 9 2 0x6b003 true (0 ∷ 0 ∷ 0 ∷ 0 ∷ 0 ∷ 0 ∷ 0x48 ∷ []) ∷ [])
     (done ∷ done ∷ found 0 ∷ found 0 ∷ fed (Refused OtherInterface) ∷ fed (Refused OtherInterface) ∷ found 16 ∷ found 16 ∷ [])
+    -- 02, Req 14: no F12 without a stop, nor of one before the opening, which has none of its own; with no session open F4 alone
+    ∷ answers (set-up ∷ session 0 ∷ status 1 0 0 255 ∷ control 2 0x88 0x13 0x02 ∷ control 3 0x88 0x13 0x04 ∷ control 4 0x88 0x13 0x08 ∷ []) (done ∷ found 0 ∷ found 0 ∷ found 0 ∷ found 0 ∷ found 0 ∷ [])
+    ∷ answers (set-up ∷ stop 0 1 ∷ control 1 0x88 0x13 0x08 ∷ session 2 ∷ status 3 0 0 255 ∷ control 4 0x88 0x13 0x08 ∷ []) (done ∷ found 0 ∷ found 8 ∷ found 0 ∷ found 0 ∷ found 0 ∷ [])
+    -- after a stop in the session off and standby have none, and insulation test, precharge and power transfer have F12, also after a repeat of
+    -- New_Charge_Session, and F5 beside it before Allowed
+    ∷ answers (set-up ∷ session 0 ∷ stop 1 3 ∷ control 2 0x88 0x13 0x08 ∷ status 3 0 0 255 ∷ session 4 ∷ control 5 0x88 0x13 0x00 ∷ control 6 0x88 0x13 0x01 ∷ control 7 0x88 0x13 0x02 ∷ control 8 0x88 0x13 0x04 ∷ control 9 0x88 0x13 0x08 ∷ [])
+    (done ∷ found 0 ∷ found 0 ∷ found 2064 ∷ found 0 ∷ found 0 ∷ found 0 ∷ found 0 ∷ found 2048 ∷ found 2048 ∷ found 2048 ∷ [])
+    -- none once the session closed, and none in the next one; none of a stop that was refused
+    ∷ answers (set-up ∷ session 0 ∷ status 1 0 0 255 ∷ stop 2 1 ∷ control 3 0x88 0x13 0x08 ∷ finished 4 ∷ control 5 0x88 0x13 0x08 ∷ session 6 ∷ status 7 0 0 255 ∷ control 8 0x88 0x13 0x08 ∷ [])
+    (done ∷ found 0 ∷ found 0 ∷ found 0 ∷ found 2048 ∷ found 0 ∷ found 8 ∷ found 0 ∷ found 0 ∷ found 0 ∷ [])
+    ∷ answers (set-up ∷ session 0 ∷ status 1 0 0 255 ∷ stop 2 2 ∷ control 3 0x88 0x13 0x08 ∷ []) (done ∷ found 0 ∷ found 0 ∷ fed (Refused (NoLabel 0)) ∷ found 0 ∷ [])
+    -- F11 once and F12 twice, each in its own tally
+    ∷ counts (set-up ∷ session 0 ∷ status 1 0 0 255 ∷ stop 2 1 ∷ control 3 0x88 0x13 0x04 ∷ control 4 0x88 0x13 0x08 ∷ finished 5 ∷ finished 6 ∷ []) 0 7 (0 ∷ 0 ∷ 0 ∷ 0 ∷ 0 ∷ 0 ∷ 0 ∷ 0 ∷ 0 ∷ 0 ∷ 1 ∷ 2 ∷ [])
+    -- the session's part keeps the latest stop; one before the opening, or of the session before, is none of it
+    ∷ in-session (set-up ∷ session 0 ∷ stop 1 1 ∷ stop 3 3 ∷ tick 4 5 ∷ []) 0
+    (part.Opened
+    (record {
+      since = 0;
+      age = 5;
+      protocol = CcsIso15118v2013;
+      plug = CcsDcExtended;
+      status = dated.Nothing;
+      control = dated.Nothing;
+      stop = dated.At 3 2 (Stop (record { origin = Pev }));
+    }))
+    ∷ in-session (set-up ∷ session 0 ∷ stop 1 1 ∷ finished 2 ∷ stop 3 3 ∷ session 4 ∷ []) 0
+    (part.Opened (record { since = 4; age = 0; protocol = CcsIso15118v2013; plug = CcsDcExtended; status = dated.Nothing; control = dated.Nothing; stop = dated.Nothing }))
+    ∷ in-session (set-up ∷ session 0 ∷ stop 1 1 ∷ finished 2 ∷ []) 0 part.Closed
+    -- on an older post the three functions after its Emergency_Stop
+    ∷ answers (reading 1 ∷ olderSession 0 2 1 0 ∷ olderStatus 1 0 0 0 0 255 ∷ charging 2 ∷ olderStop 3 ∷ frame 4 4 0x68002 true (0 ∷ 0 ∷ []) ∷ frame 4 5 0x68003 true (0 ∷ 0 ∷ 0 ∷ 0 ∷ []) ∷ charging 6
+    ∷ frame 4 7 0x68007 true (0 ∷ []) ∷ olderStop 8 ∷ olderSession 9 2 1 0 ∷ olderStatus 10 0 0 0 0 255 ∷ charging 11 ∷ [])
+    (done ∷ found 0 ∷ found 0 ∷ found 0 ∷ found 0 ∷ found 2048 ∷ found 2048 ∷ found 2048
+    ∷ found 0 ∷ found 0 ∷ found 0 ∷ found 0 ∷ found 0 ∷ [])
+    ∷ in-session (reading 1 ∷ olderSession 0 2 1 0 ∷ olderStop 1 ∷ []) 0
+    (part.Opened (record { since = 0; age = 1; protocol = CcsIso15118v2013; plug = CcsDcExtended; status = dated.Nothing; control = dated.Nothing; stop = dated.OlderAt 1 0 (older.Stop (record { origin = Evse })) }))
     ∷ []
 
 abbrev pub table : List Case
@@ -373,5 +420,5 @@ joined [] rest a b = b
 joined (c ∷ cs) rest a b = (a .0, joined cs rest (a .1) b)
 
 pub readings : All table
-unfolding standing findFrom holder otherHolds feed01 setUp01 release01 lookUp01 feedSteps setUpSteps releaseSteps limitsFit sinceFinished opening inSession earlierIn lowersBadly outside leaking badInsulation differs sessionStatus sessionControl limitOf f1 f2 f3 f4 f5 f6 f7 f8 f9 f10 f11 findings01 recordAsOf messageOf builtOf statusIn parametersIn sessionIn controlIn rows ofKind firstAt covered unlabelled offender strayBelow judgedNumber judgeOn isForeign judgeFor roleOf statusBy openingBy limitsIn limitsBy commandBy placeBy datedAt olderBuilt.messageOf olderBuilt.builtOf wholesOf pad rawsOf getBits leNumber beNumber toSigned accepted talliesOf
-readings = joined messages.table e8to13 messages.readings (refl, (refl, (refl, (refl, (refl, (refl, (refl, (refl, (refl, (refl, (refl, ((refl, refl), (refl, (refl, (refl, (refl, ((refl, refl), ((refl, refl), (refl, (refl, (refl, (refl, (refl, (refl, (refl, (refl, (refl, (refl, (refl, (refl, (refl, (refl, (refl, (refl, (refl, (refl, (refl, (refl, (refl, (refl, (refl, (refl, (refl, (refl, (refl, (refl, (refl, (refl, (refl, ((refl, refl), ((refl, refl), ((refl, refl), ((refl, refl), (refl, (refl, (refl, (refl, (refl, (refl, (refl, (refl, (refl, (refl, (refl, (refl, (refl, (refl, (refl, (refl, tt)))))))))))))))))))))))))))))))))))))))))))))))))))))))))))))))))))))
+unfolding standing findFrom holder otherHolds feed01 setUp01 release01 lookUp01 feedSteps setUpSteps releaseSteps limitsFit sinceFinished opening inSession earlierIn lowersBadly outside leaking badInsulation differs sessionStatus sessionControl sessionStop limitOf f1 f2 f3 f4 f5 f6 f7 f8 f9 f10 f11 f12 findings01 recordAsOf messageOf builtOf statusIn parametersIn sessionIn controlIn rows ofKind firstAt covered unlabelled offender strayBelow judgedNumber judgeOn isForeign judgeFor roleOf statusBy openingBy limitsIn limitsBy commandBy placeBy datedAt olderBuilt.messageOf olderBuilt.builtOf wholesOf pad rawsOf getBits leNumber beNumber toSigned accepted talliesOf
+readings = joined messages.table e8to13 messages.readings (refl, (refl, (refl, (refl, (refl, (refl, (refl, (refl, (refl, (refl, (refl, ((refl, refl), (refl, (refl, (refl, (refl, ((refl, refl), ((refl, refl), (refl, (refl, (refl, (refl, (refl, (refl, (refl, (refl, (refl, (refl, (refl, (refl, (refl, (refl, (refl, (refl, (refl, (refl, (refl, (refl, (refl, (refl, (refl, (refl, (refl, (refl, (refl, (refl, (refl, (refl, (refl, ((refl, refl), ((refl, refl), ((refl, refl), ((refl, refl), (refl, (refl, (refl, (refl, (refl, (refl, (refl, (refl, (refl, (refl, (refl, (refl, (refl, (refl, (refl, (refl, (refl, (refl, (refl, (refl, (refl, ((refl, refl), (refl, (refl, (refl, (refl, (refl, tt))))))))))))))))))))))))))))))))))))))))))))))))))))))))))))))))))))))))))))))))

@@ -4,8 +4,8 @@ use mathlib.Core.Path.{_≡_, refl, sym, ap, _∙_}
 use mathlib.Core.List.{[], _∷_}
 use mathlib.Core.Option.{Option, none, some}
 use Rattle.message_types.specs.declared.DcPowerParameters.{DcPowerParameters}
-use Rattle.rules.specs.History.{Event, frame, tick, History, Said, saidAt, first, newest, oldest, unless, onlyIf, sinceNewest, afterOldest, statusOf, commandOf, limitsTold, controllerOf, openingOf, finishedOf, sinceFinished, opening, inSession}
-use Rattle.rules.specs.Rules.{sessionStatus, sessionControl, limitOf, limitBy, f1, f2, f3, f4, f5, f6, f7, f8, f9, f10, f11, rules01}
+use Rattle.rules.specs.History.{Event, frame, tick, History, Said, saidAt, first, newest, oldest, unless, onlyIf, sinceNewest, afterOldest, statusOf, commandOf, limitsTold, controllerOf, openingOf, finishedOf, stopOf, sinceFinished, opening, inSession}
+use Rattle.rules.specs.Rules.{sessionStatus, sessionControl, sessionStop, limitOf, limitBy, f1, f2, f3, f4, f5, f6, f7, f8, f9, f10, f11, f12, rules01}
 use Rattle.watch_ticks.specs.Marks.{frames, Tickless, ReadsFrames, Every}
 
 first-none : {A : Type 0} (o : Option A) → first o none ≡ o
@@ -71,6 +71,10 @@ pub control-frames : (h : History) → sessionControl (frames h) ≡ sessionCont
 unfolding sessionControl
 control-frames h = rw (session-frames h) (newest-frames commandOf (λ t. refl) (inSession h))
 
+pub stop-frames : (h : History) → sessionStop (frames h) ≡ sessionStop h
+unfolding sessionStop
+stop-frames h = rw (session-frames h) (newest-frames stopOf (λ t. refl) (inSession h))
+
 limit-frames : (most : ℕ) (number : DcPowerParameters → ℕ) (h : History) → limitOf most number (frames h) ≡ limitOf most number h
 unfolding limitOf
 limit-frames most number h = ap (limitBy most number) (newest-frames limitsTold (λ t. refl) h)
@@ -80,7 +84,7 @@ controller-frames h = newest-frames controllerOf (λ t. refl) h
 
 -- each of the rules
 pub read-frames : Every ReadsFrames rules01
-unfolding f1 f2 f3 f4 f5 f6 f7 f8 f9 f10 f11
+unfolding f1 f2 f3 f4 f5 f6 f7 f8 f9 f10 f11 f12
 read-frames = (
   λ lim h e. rw (opening-frames h, status-frames h),
   (
@@ -103,7 +107,10 @@ read-frames = (
                     λ lim h e. rw (opening-frames h),
                     (
                       λ lim h e. rw (opening-frames h),
-                      tt,
+                      (
+                        λ lim h e. rw (opening-frames h, stop-frames h),
+                        tt,
+                      ),
                     ),
                   ),
                 ),

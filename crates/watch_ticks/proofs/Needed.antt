@@ -16,7 +16,7 @@ use Rattle.rules.specs.declared.SessionPart.the-variants as part
 use Rattle.rules.specs.declared.Record.{Record}
 use Rattle.rules.specs.History.{Event, frame, tick, History, Said, saidAt, timeOf, sinceFinished, opening, inSession}
 use Rattle.rules.specs.Times.{earlierIn, elapsed, latestTime, Unrolled}
-use Rattle.rules.specs.Rules.{sessionStatus, sessionControl, f1, f2, f3, f4, f5, f6, f7, f8, f9, f10, f11, findings01, Rule}
+use Rattle.rules.specs.Rules.{sessionStatus, sessionControl, sessionStop, f1, f2, f3, f4, f5, f6, f7, f8, f9, f10, f11, f12, findings01, Rule}
 use Rattle.rules.specs.Record.{recordAsOf, recordOf}
 use Rattle.watch_clock.specs.Differences.{said}
 use Rattle.watch_ticks.specs.Marks.{Mark, kept, extra, whole, without, keptOf, foundOf, judged}
@@ -139,7 +139,7 @@ differ : (m n : List Mark) (k l : List ℕ) → keptOf m (judged limits (whole m
 differ m n k l p q other same = other (sym p ∙ same ∙ q)
 
 pub gaps-needed : Unrolled (whole on) × Unrolled (whole past) × (said (without on) ≡ said (without past)) × Differ on past
-unfolding roleOf openingBy sinceFinished opening inSession sessionStatus sessionControl f1 f2 f3 f4 f5 f6 f7 f8 f9 f10 f11 findings01 earlierIn
+unfolding roleOf openingBy sinceFinished opening inSession sessionStatus sessionControl sessionStop f1 f2 f3 f4 f5 f6 f7 f8 f9 f10 f11 f12 findings01 earlierIn
 gaps-needed =
     ((refl, refl, (refl, refl, tt)), (refl, refl, (refl, refl, tt)), refl, differ on past (0 ∷ 0 ∷ []) (1 ∷ 0 ∷ []) refl refl (λ q. zero-one (ap head q)))
 
@@ -148,7 +148,7 @@ abbrev other : List Mark
 other = kept (tick 1101) ∷ kept (status 1000) ∷ []
 
 pub same-needed : Unrolled (whole other) × Unrolled (whole past) × (gaps (without other) ≡ gaps (without past)) × Differ other past
-unfolding roleOf openingBy sinceFinished opening inSession sessionStatus sessionControl f1 f2 f3 f4 f5 f6 f7 f8 f9 f10 f11 findings01 earlierIn
+unfolding roleOf openingBy sinceFinished opening inSession sessionStatus sessionControl sessionStop f1 f2 f3 f4 f5 f6 f7 f8 f9 f10 f11 f12 findings01 earlierIn
 same-needed =
     ((refl, refl, (refl, refl, tt)), (refl, refl, (refl, refl, tt)), refl, differ other past (0 ∷ 0 ∷ []) (1 ∷ 0 ∷ []) refl refl (λ q. zero-one (ap head q)))
 
@@ -160,7 +160,7 @@ abbrev taken : List Mark
 taken = kept (tick 1501) ∷ kept (tick 1000) ∷ kept (session 1000) ∷ []
 
 pub whole-needed : Unrolled (whole taken) × (said (without refused) ≡ said (without taken)) × (gaps (without refused) ≡ gaps (without taken)) × Differ refused taken
-unfolding roleOf openingBy sinceFinished opening inSession sessionStatus sessionControl f1 f2 f3 f4 f5 f6 f7 f8 f9 f10 f11 findings01 earlierIn
+unfolding roleOf openingBy sinceFinished opening inSession sessionStatus sessionControl sessionStop f1 f2 f3 f4 f5 f6 f7 f8 f9 f10 f11 f12 findings01 earlierIn
 whole-needed =
     ((refl, refl, (refl, refl, (refl, refl, tt))), refl, refl, differ refused taken (0 ∷ 0 ∷ 0 ∷ []) (1 ∷ 0 ∷ 0 ∷ []) refl refl (λ q. zero-one (ap head q)))
 
@@ -189,5 +189,5 @@ sinceIn (part.Opened s) = s .since
 
 pub received-needed : (said (session 1000 ∷ []) ≡ said (session 1001 ∷ [])) × (gaps (session 1000 ∷ []) ≡ gaps (session 1001 ∷ []))
     × (unticked (recordOf 4 limits (session 1000 ∷ [])) ≡ unticked (recordOf 4 limits (session 1001 ∷ [])) → ⊥)
-unfolding roleOf openingBy sinceFinished opening inSession sessionStatus sessionControl recordAsOf unticked
+unfolding roleOf openingBy sinceFinished opening inSession sessionStatus sessionControl sessionStop recordAsOf unticked
 received-needed = (refl, refl, λ q. let z : _≡_ {A = ℕ} 1000 1001 = ap (λ (r : Record). sinceIn (r .session)) q in omega (arith, z))

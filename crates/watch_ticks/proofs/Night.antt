@@ -23,7 +23,7 @@ use Rattle.rule_asks.specs.Judgements.{lowersBadly, outside, leaking, badInsula
 use Rattle.rules.specs.History.{History, Said, saidAt, sinceFinished, opening, inSession}
 use Rattle.rules.specs.History as history
 use Rattle.rules.specs.Times.{earlierIn, Unrolled}
-use Rattle.rules.specs.Rules.{sessionStatus, sessionControl, limitOf, f1, f2, f3, f4, f5, f6, f7, f8, f9, f10, f11, rules01, findings01}
+use Rattle.rules.specs.Rules.{sessionStatus, sessionControl, sessionStop, limitOf, f1, f2, f3, f4, f5, f6, f7, f8, f9, f10, f11, f12, rules01, findings01}
 use Rattle.rules.specs.Counts.{talliesOf}
 use Rattle.rules.specs.Record.{recordOf}
 use Rattle.watch_rules.specs.declared.Answer.the-variants.{Findings}
@@ -84,15 +84,15 @@ first = ltb-true 0 postCount refl
 
 -- F1 and F2 once and twice of what was put in
 abbrev put-in : List ℕ
-put-in = 1 ∷ 2 ∷ 0 ∷ 0 ∷ 0 ∷ 0 ∷ 0 ∷ 0 ∷ 0 ∷ 0 ∷ 0 ∷ []
+put-in = 1 ∷ 2 ∷ 0 ∷ 0 ∷ 0 ∷ 0 ∷ 0 ∷ 0 ∷ 0 ∷ 0 ∷ 0 ∷ 0 ∷ []
 
 abbrev none-in : List ℕ
-none-in = 0 ∷ 0 ∷ 0 ∷ 0 ∷ 0 ∷ 0 ∷ 0 ∷ 0 ∷ 0 ∷ 0 ∷ 0 ∷ []
+none-in = 0 ∷ 0 ∷ 0 ∷ 0 ∷ 0 ∷ 0 ∷ 0 ∷ 0 ∷ 0 ∷ 0 ∷ 0 ∷ 0 ∷ []
 
 computed : (standing 0 (accepted plain) ≡ held 4 limits (whole fewer)) × (standing 0 (accepted ticking) ≡ held 4 limits (whole more))
     × (judged limits (whole fewer) ≡ 3 ∷ 0 ∷ 0 ∷ 0 ∷ []) × (judged limits (whole more) ≡ 2 ∷ 3 ∷ 3 ∷ 0 ∷ 0 ∷ 0 ∷ 0 ∷ [])
     × (extrasBy rules01 limits more ≡ put-in) × (extrasBy rules01 limits fewer ≡ none-in)
-unfolding standing findFrom holder otherHolds feed01 setUp01 feedSteps setUpSteps limitsFit accepted sinceFinished opening inSession earlierIn lowersBadly outside leaking badInsulation differs sessionStatus sessionControl limitOf f1 f2 f3 f4 f5 f6 f7 f8 f9 f10 f11 findings01 rows ofKind firstAt covered unlabelled strayBelow judgedNumber judgeOn isForeign judgeFor roleOf statusBy openingBy limitsBy commandBy wholesOf pad rawsOf getBits leNumber toSigned statusIn parametersIn sessionIn controlIn
+unfolding standing findFrom holder otherHolds feed01 setUp01 feedSteps setUpSteps limitsFit accepted sinceFinished opening inSession earlierIn lowersBadly outside leaking badInsulation differs sessionStatus sessionControl sessionStop limitOf f1 f2 f3 f4 f5 f6 f7 f8 f9 f10 f11 f12 findings01 rows ofKind firstAt covered unlabelled strayBelow judgedNumber judgeOn isForeign judgeFor roleOf statusBy openingBy limitsBy commandBy wholesOf pad rawsOf getBits leNumber toSigned statusIn parametersIn sessionIn controlIn
 computed = (refl, refl, refl, refl, refl, refl)
 
 -- the answers to the kept events with the ticks are those without them: F1 and F2 of the late status, and nothing of the others
@@ -131,7 +131,7 @@ opened = saidAt 1000 sessionKind 258
 
 silent-there : (standing 0 (accepted quiet) ≡ held 4 limits since) × (opening heard ≡ some opened) × (inSession heard ≡ history.tick 1200 ∷ history.tick 1100 ∷ [])
     × (sessionStatus heard ≡ none) × (judged limits since ≡ 0 ∷ 1 ∷ 1 ∷ 0 ∷ 0 ∷ [])
-unfolding standing findFrom holder otherHolds feed01 setUp01 feedSteps setUpSteps limitsFit accepted sinceFinished opening inSession earlierIn lowersBadly outside leaking badInsulation differs sessionStatus sessionControl limitOf f1 f2 f3 f4 f5 f6 f7 f8 f9 f10 f11 findings01 rows ofKind firstAt covered unlabelled strayBelow judgedNumber judgeOn isForeign judgeFor roleOf statusBy openingBy limitsBy commandBy wholesOf pad rawsOf getBits leNumber toSigned statusIn parametersIn sessionIn controlIn
+unfolding standing findFrom holder otherHolds feed01 setUp01 feedSteps setUpSteps limitsFit accepted sinceFinished opening inSession earlierIn lowersBadly outside leaking badInsulation differs sessionStatus sessionControl sessionStop limitOf f1 f2 f3 f4 f5 f6 f7 f8 f9 f10 f11 f12 findings01 rows ofKind firstAt covered unlabelled strayBelow judgedNumber judgeOn isForeign judgeFor roleOf statusBy openingBy limitsBy commandBy wholesOf pad rawsOf getBits leNumber toSigned statusIn parametersIn sessionIn controlIn
 silent-there = (refl, refl, refl, refl, refl)
 
 silence : Silent limits opened 1000 heard (history.frame 1201 statusKind allowed)

@@ -9,7 +9,7 @@ use borrow.Author.Tests.{lt-ltb}
 use Rattle.rule_limits.specs.declared.PlainLimits.{PlainLimits}
 use Rattle.rules.specs.History.{Event, History, Said, saidAt}
 use Rattle.rules.specs.Times.{Unrolled}
-use Rattle.rules.specs.Rules.{rules01, f1, f2, f3, f4, f5, f6, f7, f8, f9, f10, f11, found, bitsFrom, findings01}
+use Rattle.rules.specs.Rules.{rules01, f1, f2, f3, f4, f5, f6, f7, f8, f9, f10, f11, f12, found, bitsFrom, findings01}
 use Rattle.rules.specs.Record.{recordAsOf, recordOf}
 use Rattle.watch_rules.specs.declared.Answer.{Answer}
 use Rattle.watch_rules.specs.declared.Answer.the-variants.{Findings}
@@ -74,7 +74,7 @@ even w (false ∷ bs) = omega (arith, even (w + w) bs)
 
 f1-bit : (lim : PlainLimits) (h : History) (e : Event) → f1 lim h e ≡ true → findings01 lim h e % 2 ≡ 1
 unfolding findings01
-f1-bit lim h e q = rw q (omega (arith, even 1 (found (f2 ∷ f3 ∷ f4 ∷ f5 ∷ f6 ∷ f7 ∷ f8 ∷ f9 ∷ f10 ∷ f11 ∷ []) lim h e)))
+f1-bit lim h e q = rw q (omega (arith, even 1 (found (f2 ∷ f3 ∷ f4 ∷ f5 ∷ f6 ∷ f7 ∷ f8 ∷ f9 ∷ f10 ∷ f11 ∷ f12 ∷ []) lim h e)))
 
 module _ (lim : PlainLimits) (o : Said) (b : ℕ) where
   abbrev TellsOf : History → Event → Answer → Type 0

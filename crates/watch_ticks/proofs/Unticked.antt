@@ -21,14 +21,14 @@ use Rattle.rules.specs.declared.SessionPart.the-variants as part
 use Rattle.rules.specs.declared.Record.{Record}
 use Rattle.rules.specs.History.{History, Said, newest, opening, countFrom}
 use Rattle.rules.specs.Times.{receivedOf, latestTime, ageOf}
-use Rattle.rules.specs.Rules.{sessionStatus, sessionControl}
+use Rattle.rules.specs.Rules.{sessionStatus, sessionControl, sessionStop}
 use Rattle.rules.specs.Record.{placeCount, datedAt, datedOf, atPlace, partOf, recordAsOf, recordOf}
 use Rattle.watch_clock.specs.Later.{atTime}
-use Rattle.watch_clock.proofs.Later.{place-timely, newest-retimed, opening-retimed, status-retimed, control-retimed}
+use Rattle.watch_clock.proofs.Later.{place-timely, newest-retimed, opening-retimed, status-retimed, control-retimed, stop-retimed}
 use Rattle.watch_ticks.specs.Marks.{Mark, whole, without, frames}
 use Rattle.watch_ticks.specs.Gaps.{asReceived}
 use Rattle.watch_ticks.specs.Unticked.{ageless, agelessLatest, agelessPart, unticked}
-use Rattle.watch_ticks.proofs.Frames.{newest-frames, opening-frames, status-frames, control-frames}
+use Rattle.watch_ticks.proofs.Frames.{newest-frames, opening-frames, status-frames, control-frames, stop-frames}
 use Rattle.watch_ticks.proofs.Marked.{same-frames}
 
 -- ---- by times as received
@@ -40,9 +40,9 @@ plainDated (some m) = datedAt (m .time) 0 (m .kind) (m .raw)
 abbrev plainLatest : Option Said → Latest
 plainLatest o = record { message = plainDated o }
 
-abbrev plainPart : Option Said → Option Said → Option Said → SessionPart
-plainPart none s d = part.Closed
-plainPart (some o) s d =
+abbrev plainPart : Option Said → Option Said → Option Said → Option Said → SessionPart
+plainPart none s d m = part.Closed
+plainPart (some o) s d m =
     part.Opened
     (record {
       since = o .time;
@@ -51,6 +51,7 @@ plainPart (some o) s d =
       plug = openingBy (o .kind) (o .raw) .plug;
       status = plainDated s;
       control = plainDated d;
+      stop = plainDated m;
     })
 
 -- what was found, as it was received
@@ -69,9 +70,9 @@ dated-plain : (now : ℕ) (o : Option Said) → ageless (datedOf now o) ≡ plai
 dated-plain now none = refl
 dated-plain now (some m) = ageless-at (receivedOf (m .time)) (ageOf now (m .time)) (m .kind) (m .raw)
 
-part-plain : (now : ℕ) (o s d : Option Said) → agelessPart (partOf now o s d) ≡ plainPart (received o) (received s) (received d)
-part-plain now none s d = refl
-part-plain now (some o) s d = rw (dated-plain now s, dated-plain now d)
+part-plain : (now : ℕ) (o s d m : Option Said) → agelessPart (partOf now o s d m) ≡ plainPart (received o) (received s) (received d) (received m)
+part-plain now none s d m = refl
+part-plain now (some o) s d m = rw (dated-plain now s, dated-plain now d, dated-plain now m)
 
 latests-plain : (now : ℕ) (h : History) (ks : List ℕ)
     → map agelessLatest (map (λ j. record { message = datedOf now (newest (atPlace j) h) }) ks) ≡ map (λ j. plainLatest (received (newest (atPlace j) h))) ks
@@ -85,7 +86,7 @@ plainRecord c lim h =
       limits = limitsOf lim;
       last = last.Never;
       latest = map (λ j. plainLatest (received (newest (atPlace j) h))) (countFrom 0 placeCount);
-      session = plainPart (received (opening h)) (received (sessionStatus h)) (received (sessionControl h));
+      session = plainPart (received (opening h)) (received (sessionStatus h)) (received (sessionControl h)) (received (sessionStop h));
       accepted = 0;
       tallies = [];
     }
@@ -93,7 +94,7 @@ plainRecord c lim h =
 record-plain : (c : ℕ) (lim : PlainLimits) (h : History) → unticked (recordOf c lim h) ≡ plainRecord c lim h
 unfolding recordAsOf unticked plainRecord
 record-plain c lim h =
-    rw (latests-plain (latestTime h) h (countFrom 0 placeCount), part-plain (latestTime h) (opening h) (sessionStatus h) (sessionControl h))
+    rw (latests-plain (latestTime h) h (countFrom 0 placeCount), part-plain (latestTime h) (opening h) (sessionStatus h) (sessionControl h) (sessionStop h))
 
 -- ---- which are those of the kept events
 
@@ -116,6 +117,7 @@ module _ (m n : List Mark) (same : map asReceived (without m) ≡ map asReceived
         alike opening received opening-frames (opening-retimed receivedOf),
         alike sessionStatus received status-frames (status-retimed receivedOf),
         alike sessionControl received control-frames (control-retimed receivedOf),
+        alike sessionStop received stop-frames (stop-retimed receivedOf),
         latests (countFrom 0 placeCount),
       )
     where

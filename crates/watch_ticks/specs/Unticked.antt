@@ -21,7 +21,8 @@ agelessLatest l = record { message = ageless (l .message) }
 abbrev pub agelessPart : SessionPart → SessionPart
 agelessPart part.Closed = part.Closed
 agelessPart (part.Opened s) =
-    part.Opened (record { since = s .since; age = 0; protocol = s .protocol; plug = s .plug; status = ageless (s .status); control = ageless (s .control) })
+    part.Opened
+    (record { since = s .since; age = 0; protocol = s .protocol; plug = s .plug; status = ageless (s .status); control = ageless (s .control); stop = ageless (s .stop) })
 
 unfoldable pub unticked : Record → Record
 unticked r =

@@ -3,6 +3,7 @@ use mathlib.Core.Path.{_≡_}
 use Prim.Native.Nat.{_-_}
 use lib.ListN.{length}
 use borrow.Author.Needs.{needs}
+use Rattle.rules.specs.After.{findingCount}
 use Rattle.desk_record.proofs.put_tallies.Statement.{statement}
 use Rattle.desk_record.proofs.put_tallies.Tie as tie
 
@@ -10,7 +11,7 @@ abbrev Inv-loop : tie.InvT-loop
 Inv-loop out₀ tallies p₀ k₀ t8 out p k = length out ≡ length out₀
 
 abbrev μ-loop : tie.MeasureT-loop
-μ-loop out₀ tallies p₀ k₀ t8 out p k = 11 - k
+μ-loop out₀ tallies p₀ k₀ t8 out p k = findingCount - k
 
 slice-aggregate-named : tie.Need-slice-aggregate-named Inv-loop μ-loop
 slice-aggregate-named c = search needs

@@ -47,7 +47,7 @@ returns c =
     let kind = time .before .before .before in
     let read = kind .before in
     let opened = read .before in
-    let iface = opened .before .before .before in
+    let iface = opened .before .before .before .before in
     let sensor = iface .before in
     rw (
       c .interface-number .ensures,
@@ -77,6 +77,7 @@ numbers-of-spec =
     (tie.spec
     (λ c κs. search needs)
     (λ c κs. search needs)
+    (λ c. search needs)
     (λ c κs. search needs)
     (λ c κs. search needs)
     (λ c κs. search needs)

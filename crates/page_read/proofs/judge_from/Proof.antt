@@ -1,5 +1,5 @@
--- `page_read::judge_from` meets its contract: refusals 3, 4 and 15 by the first row with the identifier, and `other` by its interface; 5 and 6 by that message's
--- rows, or 5 by its labels alone where every bit is a signal's.
+-- `page_read::judge_from` meets its contract: refusals 3, 4 and 15 by the first row with the identifier, and `other` by its interface; 5 and 6 by that
+-- message's rows, or 5 by its labels alone where every bit is a signal's.
 use borrow.Author.Needs.{needs}
 use borrow.Author.Tests.{not-true}
 use mathlib.Core.Path.{_≡_, refl, sym, ap, _∙_, subst}

@@ -1,4 +1,4 @@
--- `post_findings::control_findings` meets its contract: the five bits are what their rules answer, and each is at most its weight.
+-- `post_findings::control_findings` meets its contract: the six bits are what their rules answer, and each is at most its weight.
 use native.Mathlib.Omega.{arith}
 use borrow.Author.Needs.{needs}
 use Rattle.rules.specs.After.{controlFindings}
@@ -77,10 +77,26 @@ flag-requires-5 c κs = search needs
 add-result-4 : tie.Need-add-result-4
 add-result-4 c = search needs
 
+powered-requires-3 : tie.Need-powered-requires-3
+powered-requires-3 c κs = search needs
+
+stopped-requires : tie.Need-stopped-requires
+stopped-requires c κs = search needs
+
+both-requires-5 : tie.Need-both-requires-5
+both-requires-5 c κs = search needs
+
+flag-requires-6 : tie.Need-flag-requires-6
+flag-requires-6 c κs = search needs
+
+add-result-5 : tie.Need-add-result-5
+add-result-5 c = search needs
+
 returns : tie.Need-returns
 unfolding controlFindings
 returns c =
-    let f4 = c .before .before .before .before in
+    let f5 = c .before .before .before .before in
+    let f4 = f5 .before .before .before .before in
     let f3 = f4 .before .before in
     let f2 = f3 .before .before .before .before in
     let f1 = f2 .before .before .before in
@@ -102,12 +118,16 @@ returns c =
         f3 .flag3 .ensures .0,
         f4 .before .lowers-badly .ensures,
         f4 .flag4 .ensures .0,
-        c .before .before .before .off .ensures,
-        c .before .before .negated2 .ensures,
-        c .before .both4 .ensures,
-        c .flag5 .ensures .0,
+        f5 .before .before .before .off .ensures,
+        f5 .before .before .negated2 .ensures,
+        f5 .before .both4 .ensures,
+        f5 .flag5 .ensures .0,
+        c .before .before .before .powered3 .ensures,
+        c .before .before .stopped .ensures,
+        c .before .both5 .ensures,
+        c .flag6 .ensures .0,
       ),
-      omega (arith, f1 .flag .ensures .1, f2 .flag2 .ensures .1, f3 .flag3 .ensures .1, f4 .flag4 .ensures .1, c .flag5 .ensures .1),
+      omega (arith, f1 .flag .ensures .1, f2 .flag2 .ensures .1, f3 .flag3 .ensures .1, f4 .flag4 .ensures .1, f5 .flag5 .ensures .1, c .flag6 .ensures .1),
     )
 
 pub control-findings-spec : {M : Type 1} → statement M
@@ -138,4 +158,9 @@ control-findings-spec =
     both-requires-4
     flag-requires-5
     add-result-4
+    powered-requires-3
+    stopped-requires
+    both-requires-5
+    flag-requires-6
+    add-result-5
     returns)

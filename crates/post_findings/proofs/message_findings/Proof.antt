@@ -42,6 +42,10 @@ returns-7 : tie.Need-returns-7
 unfolding messageFindings
 returns-7 c = (rw (sym (c .before .before .role-of .ensures) ∙ c .enum-told7 .given .1), omega arith)
 
+returns-8 : tie.Need-returns-8
+unfolding messageFindings
+returns-8 c = (rw (sym (c .before .before .role-of .ensures) ∙ c .enum-told8 .given .1), omega arith)
+
 pub message-findings-spec : {M : Type 1} → statement M
 message-findings-spec =
     tie.close
@@ -61,10 +65,12 @@ message-findings-spec =
     (λ c. search needs)
     (λ c. search needs)
     (λ c. search needs)
+    (λ c. search needs)
     returns
     returns-2
     returns-3
     returns-4
     returns-5
     returns-6
-    returns-7)
+    returns-7
+    returns-8)

@@ -17,6 +17,9 @@ element-copy-out-st c = search needs
 element-copy-out-ct : tie.Need-element-copy-out-ct
 element-copy-out-ct c = search needs
 
+element-copy-out-em : tie.Need-element-copy-out-em
+element-copy-out-em c = search needs
+
 session-in-requires : tie.Need-session-in-requires
 session-in-requires c κs = search needs
 
@@ -26,6 +29,9 @@ dated-requires c κs = search needs
 dated-requires-2 : tie.Need-dated-requires-2
 dated-requires-2 c κs = search needs
 
+dated-requires-3 : tie.Need-dated-requires-3
+dated-requires-3 c κs = search needs
+
 received-requires : tie.Need-received-requires
 received-requires c κs = search needs
 
@@ -34,14 +40,15 @@ age-requires c κs = search needs
 
 returns-2 : tie.Need-returns-2
 returns-2 c =
-    let d = c .before .before .before in
+    let d = c .before .before .before .before in
     let n = d .before in
-    let o = n .before .before .before in
+    let o = n .before .before .before .before in
     rw (
       sym (o .before .is-set .ensures) ∙ not-false _ (o .if1 .left),
       n .session-in .ensures,
       d .dated .ensures,
-      c .before .before .dated2 .ensures,
+      c .before .before .before .dated2 .ensures,
+      c .before .before .dated3 .ensures,
       c .before .received .ensures,
       c .age .ensures,
     )
@@ -54,9 +61,11 @@ part-spec =
     returns
     element-copy-out-st
     element-copy-out-ct
+    element-copy-out-em
     session-in-requires
     dated-requires
     dated-requires-2
+    dated-requires-3
     received-requires
     age-requires
     returns-2)

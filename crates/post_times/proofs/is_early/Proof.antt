@@ -4,6 +4,9 @@ use borrow.Author.Needs.{needs}
 use Rattle.post_times.proofs.is_early.Statement.{statement}
 use Rattle.post_times.proofs.is_early.Tie as tie
 
+cast-is-set : tie.Need-cast-is-set
+cast-is-set c = search needs
+
 is-set-requires : tie.Need-is-set-requires
 is-set-requires c κs = search needs
 
@@ -20,4 +23,4 @@ returns-2 c = rw (sym (c .before .is-set .ensures) ∙ c .if1 .left)
 
 pub is-early-spec : {M : Type 1} → statement M
 is-early-spec =
-    tie.close (tie.spec is-set-requires is-earlier-requires returns returns-2)
+    tie.close (tie.spec cast-is-set is-set-requires is-earlier-requires returns returns-2)

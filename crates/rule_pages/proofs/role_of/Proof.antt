@@ -63,7 +63,15 @@ returns-14 c = rw (c .match .keys14)
 
 returns-15 : tie.Need-returns-15
 unfolding roleOf
-returns-15 c = search past depth 25
+returns-15 c = rw (c .match .keys15)
+
+returns-16 : tie.Need-returns-16
+unfolding roleOf
+returns-16 c = rw (c .match .keys16)
+
+returns-17 : tie.Need-returns-17
+unfolding roleOf
+returns-17 c = search past depth 25
 
 pub role-of-spec : {M : Type 1} → statement M
 role-of-spec =
@@ -83,4 +91,6 @@ role-of-spec =
     returns-12
     returns-13
     returns-14
-    returns-15)
+    returns-15
+    returns-16
+    returns-17)

@@ -7,10 +7,10 @@ use Rattle.desk_words.proofs.findings.put_findings.Statement.{statement
 use Rattle.desk_words.proofs.findings.put_findings.Tie as tie
 
 abbrev Inv-loop : tie.InvT-loop
-Inv-loop out₀ n p₀ rest₀ k₀ out p rest k = (length out ≡ length out₀) × (k ≤ 12)
+Inv-loop out₀ n p₀ rest₀ k₀ out p rest k = (length out ≡ length out₀) × (k ≤ 13)
 
 abbrev μ-loop : tie.MeasureT-loop
-μ-loop out₀ n p₀ rest₀ k₀ out p rest k = 12 - k
+μ-loop out₀ n p₀ rest₀ k₀ out p rest k = 13 - k
 
 loop-holds : tie.Need-loop-holds Inv-loop μ-loop
 loop-holds c = search needs

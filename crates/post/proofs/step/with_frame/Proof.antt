@@ -39,7 +39,13 @@ returns-6 c =
 
 returns-7 : tie.Need-returns-7
 unfolding withFrame sessionAfter
-returns-7 c = rw (sym (c .before .before .role-of .ensures) ∙ c .enum-told7 .given .1)
+returns-7 c =
+    let e = c .before in
+    rw (sym (e .before .before .role-of .ensures) ∙ e .enum-told7 .given .1, c .kept-put3 .ensures)
+
+returns-8 : tie.Need-returns-8
+unfolding withFrame sessionAfter
+returns-8 c = rw (sym (c .before .before .role-of .ensures) ∙ c .enum-told8 .given .1)
 
 pub with-frame-spec : {M : Type 1} → statement M
 with-frame-spec =
@@ -57,10 +63,13 @@ with-frame-spec =
     (λ c. search needs)
     (λ c κs. search needs)
     (λ c. search needs)
+    (λ c κs. search needs)
+    (λ c. search needs)
     returns
     returns-2
     returns-3
     returns-4
     returns-5
     returns-6
-    returns-7)
+    returns-7
+    returns-8)
