@@ -212,16 +212,19 @@ for document, signals in zip(DOCUMENTS, papers):
     specs = (ROWS / document.specs).read_text()
     labels = '\n'.join((ROOT / 'crates' / crate / 'specs/Labels.antt').read_text() for crate in document.labels)
     listed = constants(code, 'Line')
-    if listed:
+    if 'LINES' in code:
         names = [name for name, _ in listed]
         if names != array(code, 'LINES', 'Line'):
             fault(f'{document.code}: the constants and LINES do not list the same names in the same order')
     else:
-        # a row in each arm, at its place in the table
-        arms = re.findall(r'^\s*(\d+) => Line\(([^)]*)\), // (\w+)$', code, re.M)
+        # a row in each arm, at its place in the table, or the name of its constant
+        named = dict(listed)
+        arms = re.findall(r'^\s*(\d+) => (?:Line\(([^)]*)\)|([A-Z_]+)), // (\w+)$', code, re.M)
         held(f'{document.code}, the places', [int(at) for at, *_ in arms], list(range(rows, rows + len(signals))))
-        listed = [(name, numbers(row)) for _, row, name in arms]
+        listed = [(name, named.pop(constant) if constant else numbers(row)) for _, row, constant, name in arms]
         names = [name for name, _ in listed]
+        for constant in named:
+            fault(f'{document.code}: {constant} stands at no place of the table')
     held(document.code, [row for _, row in listed], [row for _, _, _, row, *_ in signals])
     # in specs/ the lowest bit is computed
     said = re.findall(r'^\s*(?:∷ )?line((?: \w+)+)  -- (\w+)$', specs, re.M)

@@ -9,25 +9,25 @@ use crate::Line;
 use crate::NO_LINE;
 
 // The rows with labels, of messages whose every bit is a signal's: the reader asks for them by name.
-pub const OLD_SYSTEM_ENABLE: Line = Line(12, 48, 8, 48, false, 0b11); // System_Enable
+pub const OLD_SYSTEM_ENABLE: Line = Line(12, 48, 8, 48, false, 0b11);
 
-pub const OLD_COMMUNICATION_PROTOCOL: Line = Line(16, 0, 8, 0, false, 0b11111111); // Communication_Protocol
+pub const OLD_COMMUNICATION_PROTOCOL: Line = Line(16, 0, 8, 0, false, 0b11111111);
 
-pub const OLD_PLUG_AND_PINS: Line = Line(16, 8, 8, 8, false, 0b11111); // Plug_and_pins
+pub const OLD_PLUG_AND_PINS: Line = Line(16, 8, 8, 8, false, 0b11111);
 
-pub const OLD_VEHICLE_READY_FOR_CHARGING: Line = Line(19, 0, 8, 0, false, 0b11); // Vehicle_Ready_for_Charging
+pub const OLD_VEHICLE_READY_FOR_CHARGING: Line = Line(19, 0, 8, 0, false, 0b11);
 
-pub const OLD_STOP_ORIGIN: Line = Line(21, 0, 8, 0, false, 0b1010); // Origin
+pub const OLD_STOP_ORIGIN: Line = Line(21, 0, 8, 0, false, 0b1010);
 
-pub const OLD_FINISHED_STATE: Line = Line(22, 0, 8, 0, false, 0b11); // State
+pub const OLD_FINISHED_STATE: Line = Line(22, 0, 8, 0, false, 0b11);
 
-pub const OLD_CONTROLLER_STATE: Line = Line(23, 0, 8, 0, false, 0b11111111111111); // State
+pub const OLD_CONTROLLER_STATE: Line = Line(23, 0, 8, 0, false, 0b11111111111111);
 
-pub const CP_STATE: Line = Line(28, 0, 8, 0, false, 0b1001001001001); // CP_State
+pub const CP_STATE: Line = Line(28, 0, 8, 0, false, 0b1001001001001);
 
-pub const CE_STATE: Line = Line(29, 0, 8, 0, false, 0b1111111111); // CE_State
+pub const CE_STATE: Line = Line(29, 0, 8, 0, false, 0b1111111111);
 
-pub const ID_STATE: Line = Line(29, 8, 8, 8, false, 0b1111); // ID_State
+pub const ID_STATE: Line = Line(29, 8, 8, 8, false, 0b1111);
 
 // 01: "layouts are one constant table". A row stands at its place in it: the compiler makes look-up tables of the arms.
 pub fn line_at(i: usize) -> Line
@@ -40,7 +40,7 @@ pub fn line_at(i: usize) -> Line
         62 => Line(12, 16, 16, 16, true, 0), // Present_Current
         63 => Line(12, 32, 8, 32, false, 0), // Power_Modules_Temperature
         64 => Line(12, 40, 8, 40, false, 0), // Enclosure_Temperature
-        65 => OLD_SYSTEM_ENABLE,
+        65 => OLD_SYSTEM_ENABLE, // System_Enable
         66 => Line(12, 56, 8, 56, false, 0), // Insulation_Resistance
         // Power_Modules_Limits
         67 => Line(13, 0, 16, 0, false, 0), // Maximum_Voltage
@@ -60,8 +60,8 @@ pub fn line_at(i: usize) -> Line
         79 => Line(15, 3, 1, 3, false, 0), // Digital_Output4
         80 => Line(15, 4, 60, 4, false, 0), // Reserved
         // New_Charge_Session
-        81 => OLD_COMMUNICATION_PROTOCOL,
-        82 => OLD_PLUG_AND_PINS,
+        81 => OLD_COMMUNICATION_PROTOCOL, // Communication_Protocol
+        82 => OLD_PLUG_AND_PINS, // Plug_and_pins
         83 => Line(16, 16, 16, 16, false, 0), // EV_Maximum_Voltage
         84 => Line(16, 32, 16, 32, false, 0), // EV_Maximum_Current
         85 => Line(16, 48, 8, 48, false, 0), // Battery_Capacity
@@ -72,17 +72,17 @@ pub fn line_at(i: usize) -> Line
         88 => Line(18, 0, 16, 0, false, 0), // Target_Voltage
         89 => Line(18, 16, 16, 16, false, 0), // Maximum_Current
         // Charge_Status_Change
-        90 => OLD_VEHICLE_READY_FOR_CHARGING,
+        90 => OLD_VEHICLE_READY_FOR_CHARGING, // Vehicle_Ready_for_Charging
         // Charging_Loop
         91 => Line(20, 0, 16, 0, false, 0), // Target_Voltage
         92 => Line(20, 16, 16, 16, true, 0), // Target_Current
         93 => Line(20, 32, 8, 32, false, 0), // State_of_Charge
         // Emergency_Stop
-        94 => OLD_STOP_ORIGIN,
+        94 => OLD_STOP_ORIGIN, // Origin
         // Charge_Session_Finished
-        95 => OLD_FINISHED_STATE,
+        95 => OLD_FINISHED_STATE, // State
         // Advantics_Controller_Status
-        96 => OLD_CONTROLLER_STATE,
+        96 => OLD_CONTROLLER_STATE, // State
         // ADM_CO_CUI1_Inputs
         97 => Line(24, 0, 1, 0, false, 0), // SWITCH0
         98 => Line(24, 1, 1, 1, false, 0), // SWITCH1
@@ -124,12 +124,12 @@ pub fn line_at(i: usize) -> Line
         131 => Line(27, 48, 8, 48, false, 0), // PT1KS_C
         132 => Line(27, 56, 8, 56, false, 0), // PT1KS_D
         // CCS_Extra_Information
-        133 => CP_STATE,
+        133 => CP_STATE, // CP_State
         134 => Line(28, 8, 16, 8, false, 0), // CP_Duty_Cycle
         135 => Line(28, 24, 40, 24, false, 0), // Reserved
         // MCS_Extra_Information
-        136 => CE_STATE,
-        137 => ID_STATE,
+        136 => CE_STATE, // CE_State
+        137 => ID_STATE, // ID_State
         138 => Line(29, 16, 48, 16, false, 0), // Reserved
         _ => NO_LINE,
     }

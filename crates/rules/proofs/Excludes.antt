@@ -11,11 +11,11 @@ none-open : (o : Option Said) → isOpen o ≡ false → o ≡ none
 none-open none closed = refl
 none-open (some o) closed = cc
 
-ask-false : (o : Option Said) → ask o (λ a. false) ≡ false
+pub ask-false : (o : Option Said) → ask o (λ a. false) ≡ false
 ask-false none = refl
 ask-false (some a) = refl
 
-and-false : (b : Bool) → (b && false) ≡ false
+pub and-false : (b : Bool) → (b && false) ≡ false
 and-false true = refl
 and-false false = refl
 

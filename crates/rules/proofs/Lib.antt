@@ -10,3 +10,4 @@ pub mod Look
 pub mod Right
 pub mod OlderQuiet
 pub mod Excludes
+pub mod Stopped
