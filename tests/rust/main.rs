@@ -42,7 +42,7 @@ fn posts() {
     assert_eq!(numbers, [4, 5000, 1000, 500, 500, 0, 1, 40, 1, 0, 2, 1, 40, NEWER]);
     let mut counts = [0; COUNTS];
     assert_eq!(unsafe { rokemaipu_counts(&t, 0, counts.as_mut_ptr(), COUNTS) }, 0);
-    assert_eq!(counts, [6, 0, 0, 1, 1, 0, 0, 0, 0, 1, 0, 0]); // accepted; F3, F4 and F9
+    assert_eq!(counts, [6, 0, 0, 1, 1, 0, 0, 0, 0, 1, 0, 0, 0]); // accepted; F3, F4 and F9
     assert_eq!(unsafe { rokemaipu_refused(&t) }, 2);
     assert_eq!(unsafe { rokemaipu_counts(&t, 0, counts.as_mut_ptr(), COUNTS - 1) }, REFUSED + 8);
     assert_eq!(looked(rokemaipu_latest, &t, 0, 0), (8, [40, 0, 0], status(24).to_vec()));
@@ -81,6 +81,20 @@ fn index() {
         assert_eq!(rokemaipu_tick(&mut t, 1, 0), REFUSED + 1);
     }
     assert!(t.posts.iter().all(|post| post.head.heard == 0));
+}
+
+/// An emergency stop in a session, and a power transfer behind it: F12 with a tally of its own, and the stop that the session keeps.
+fn stop() {
+    let mut t = Table::empty();
+    assert_eq!(unsafe { rokemaipu_set_up(&mut t, 0, 4, 5000, 1000, 500, 500, 0, NEWER) }, 0);
+    assert_eq!(frame(&mut t, 4, 0, 0x6b001, &[2, 1]), 0);
+    assert_eq!(looked(rokemaipu_in_session, &t, 0, 2).0, 0);
+    assert_eq!(frame(&mut t, 4, 10, 0x6b005, &[3]), 0);
+    assert_eq!(frame(&mut t, 4, 15, 0x6b003, &[0, 0, 0, 0, 0, 0, 8]), 2048 + 16); // F5 too: the power modules have not spoken
+    assert_eq!(looked(rokemaipu_in_session, &t, 0, 2), (1, [10, 5, 7], vec![3]));
+    assert_eq!((t.posts[0].head.counts[11], t.posts[0].head.counts[FINDINGS]), (0, 1));
+    assert_eq!(frame(&mut t, 4, 20, 0x6b004, &[0]), 0);
+    assert_eq!(looked(rokemaipu_in_session, &t, 0, 2).0, 0);
 }
 
 /// A post of the older interface beside one of the newer: each hears its own pages.
@@ -201,11 +215,12 @@ fn main() {
     assert_eq!(unsafe { rokemaipu_layout() }, LAYOUT);
     posts();
     index();
+    stop();
     interfaces();
     frames();
     log();
     batch();
     compare();
     replay();
-    println!("Rust: sizes, offsets, numbers and functions are the header's; sixteen posts and their index, posts of either interface, frames, the log, a batch, a comparison and a replay over the archive");
+    println!("Rust: sizes, offsets, numbers and functions are the header's; sixteen posts and their index, a stop, posts of either interface, frames, the log, a batch, a comparison and a replay over the archive");
 }
