@@ -49,7 +49,7 @@ fn posts() {
     assert_eq!(looked(rokemaipu_latest, &t, 0, 8), (0, [77, 77, 77], vec![]));
     assert_eq!(looked(rokemaipu_in_session, &t, 0, 0), (8, [40, 0, 0], status(24).to_vec()));
     assert_eq!(looked(rokemaipu_in_session, &t, 0, 1), (7, [20, 20, 5], vec![0x88, 0x13, 0, 0, 0, 0, 4]));
-    assert_eq!(looked(rokemaipu_in_session, &t, 0, 2).0, REFUSED + 3);
+    assert_eq!(looked(rokemaipu_in_session, &t, 0, 3).0, REFUSED + 3);
 
     unsafe {
         assert_eq!(rokemaipu_tick(&mut t, 4, 541), 1); // F1
