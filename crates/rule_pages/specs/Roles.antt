@@ -8,7 +8,8 @@ use Rattle.older_types.specs.KindNumbers as older
 use Rattle.rule_pages.specs.declared.Role.{Role}
 use Rattle.rule_pages.specs.declared.Role.the-variants.{Other, Status, Limits, Controller, Opening, Command, Finished, Stop}
 
--- 02, Req 14: an Emergency_Stop, which a session keeps. Req 11: "Insulation_Test, Precharge and Charging_Loop count as the three functions, the latest of them standing for DC_Power_Control"
+-- 02, Req 14: an Emergency_Stop, which a session keeps.
+-- Req 11: "Insulation_Test, Precharge and Charging_Loop count as the three functions, the latest of them standing for DC_Power_Control"
 unfoldable pub roleOf : ℕ → Role
 roleOf k =
     cond (eqb k newer.statusKind) Status

@@ -125,7 +125,8 @@ table =
     -- F10 of another plug, and not of what stands behind it; F1 from 501 ms on; F2 from 201 ms on
     ∷ (olderSession 0 0 ∷ olderSession 1 77 ∷ frame 2 older.sessionKind 0x0202 ∷ tick 500 ∷ tick 501 ∷ [], 0 ∷ 0 ∷ 512 ∷ 0 ∷ 1 ∷ [])
     ∷ (frame 1000 older.controllerKind 7 ∷ tick 1200 ∷ tick 1201 ∷ [], 0 ∷ 0 ∷ 2 ∷ [])
-    -- 02, Req 14: no F12 of the three functions without a stop, nor of a stop before the opening; F12 of each after a stop in the session, not off, and not standby
+    -- 02, Req 14: no F12 of the three functions without a stop, nor of a stop before the opening; F12 of each after a stop in the session, and not of off
+    -- and standby
     ∷ (session 0 ∷ status 1 ∷ acting 2 2 ∷ acting 3 4 ∷ acting 4 8 ∷ [], 0 ∷ 0 ∷ 0 ∷ 0 ∷ 0 ∷ [])
     ∷ (stop 0 ∷ acting 1 8 ∷ session 2 ∷ status 3 ∷ acting 4 8 ∷ [], 0 ∷ 8 ∷ 0 ∷ 0 ∷ 0 ∷ [])
     ∷ (
