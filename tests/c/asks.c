@@ -1,5 +1,5 @@
-/* Who holds a channel, and the latest status, control and stop of an open session, asked from C: on posts that were set up, and on tables of random numbers which
- * may only be read. Prints a line for each part and 'ok', or says what was wrong and where, and exits 1. */
+/* Who holds a channel, and the latest status, control and stop of an open session, asked from C: on posts that were set up, and on tables of random numbers
+ * which may only be read. Prints a line for each part and 'ok', or says what was wrong and where, and exits 1. */
 #include "tables.h"
 
 /* ---- 01: "A frame or tick goes to the post that holds its channel" */

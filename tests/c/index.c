@@ -129,7 +129,7 @@ static uint32_t heard(uint32_t channel, uint32_t time) {
 }
 
 static void lying(void) {
-    /* post 3 holds channel 3, and its 4 may not come out of the low bits of another number */
+    /* numbers above the posts come round to one, by their low bits: 20 is 4, post 3's, which holds channel 3; 18 is 2, and post 1 holds none */
     static const uint32_t odd[] = {17, 18, 20, 32, 33, 36, 255, 256, 260, 65540, 0x80000000, 0x80000004, UINT32_MAX - 1, UINT32_MAX};
     uint32_t believed = 0;
     memset(&t, 0, sizeof t);
@@ -149,7 +149,7 @@ static void lying(void) {
             else was.refused += 4;
             IS(memcmp(&was, &t, sizeof t), 0); /* no other post was touched, and nothing reads behind the sixteen */
         }
-    IS(believed, 6 + 1 + 8); /* what names them, 0 for the last, and eight of the odd ones */
+    IS(believed, 6 + 1 + 10); /* what names them, 0 for the last, and ten of the odd ones */
     puts("lying: whatever number stands in the index, no post hears what comes on a channel that it does not hold");
 }
 
