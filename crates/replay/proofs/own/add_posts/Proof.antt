@@ -3,6 +3,7 @@ use mathlib.Core.Path.{_≡_}
 use Prim.Native.Nat.{_-_}
 use lib.ListN.{length}
 use borrow.Author.Needs.{needs}
+use Rattle.watch_rules.specs.Table.{postCount}
 use Rattle.replay.proofs.own.add_posts.Statement.{statement}
 use Rattle.replay.proofs.own.add_posts.Tie as tie
 
@@ -10,7 +11,7 @@ abbrev Inv-loop : tie.InvT-loop
 Inv-loop sums₀ t i₀ sums i = length sums ≡ length sums₀
 
 abbrev μ-loop : tie.MeasureT-loop
-μ-loop sums₀ t i₀ sums i = 8 - i
+μ-loop sums₀ t i₀ sums i = postCount - i
 
 loop-holds : tie.Need-loop-holds Inv-loop μ-loop
 loop-holds c = search needs
