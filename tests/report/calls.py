@@ -130,7 +130,7 @@ class Calls(unittest.TestCase):
         text = self.page(lines=LINES.replace('R5 0', 'R25'))
         self.assertIn('R25 the post\'s count of accepted frames and ticks is at its largest: 1', text)
         rows = [tabled.cells(row) for row in tabled.table(dom.read(Path('out.html').read_text()), 'The tallies of each post')]
-        self.assertEqual(rows, [['0', '1', *['0'] * 11], ['1', '1', *['0'] * 11]])
+        self.assertEqual(rows, [['0', '1', *['0'] * 12], ['1', '1', *['0'] * 12]])
 
     def test_what_does_not_belong_together(self):
         for files, said in [
@@ -140,7 +140,7 @@ class Calls(unittest.TestCase):
             (dict(lines=LINES.replace('2 1', '2 0')), 'lines: line 2: not the post that holds channel 5'),
             (dict(lines=LINES.replace('2 1 A0', '2 - R1')), 'lines: line 2: not the post that holds channel 5'),
             (dict(lines=LINES.replace('3 - R1', '3 0 A0')), 'lines: line 3: not the post that holds channel 9'),
-            (dict(lines=LINES.replace('A0', 'A2048', 1)), 'lines: line 1: finding 12 is unknown here'),
+            (dict(lines=LINES.replace('A0', 'A4096', 1)), 'lines: line 1: finding 13 is unknown here'),
             (dict(lines=LINES.replace('R5 0', 'R26')), 'lines: line 4: refusal 26 is unknown here'),
             (dict(log=record('frame 4 1 63000 x 00'), lines='1 0 A0\n'), 'lines: line 1: accepted, but it is no Power_Modules_Status: 00'),
             (dict(log=record('frame 4 1 6b001 x 0901'), lines='1 0 A0\n'), 'lines: line 1: accepted, but it is no New_Charge_Session: 0901'),
