@@ -32,10 +32,7 @@ mod tests {
         assert_eq!(FINDINGS.len(), library::FINDINGS);
         assert_eq!(finding(1), "power modules silent for longer than W in this session");
         assert_eq!(finding(11), "session finished with none open");
-        assert_eq!(
-            finding(12),
-            "insulation test, precharge or power transfer after an Emergency_Stop in this session"
-        );
+        assert_eq!(finding(12), "insulation test, precharge or power transfer after an Emergency_Stop in this session");
         assert_eq!(refusal(1), "channel above 31, or held by no post");
         assert_eq!(refusal(17), "a channel above 31 in a log record");
         assert!(REFUSALS.len() >= 28 && REFUSALS.iter().all(|words| !words.contains(['\\', '"'])));
