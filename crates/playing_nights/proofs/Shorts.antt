@@ -1,4 +1,4 @@
--- Every line that can occur has at most 40 bytes: the watch's answers have small numbers, and a post is one digit.
+-- Every line that can occur has at most 40 bytes: the watch's answers have small numbers, and a post at most two digits.
 use Prim.Native.Nat.{ℕ, zero, suc, _+_, _*_, _^_, _≤_, _<_, min}
 use native.Mathlib.Omega.{arith}
 use mathlib.Core.Path.{sym, subst}

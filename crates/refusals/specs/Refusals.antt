@@ -21,7 +21,7 @@ numberOf UncoveredBit = 6
 numberOf NoRawNumber = 7
 -- lent buffer shorter than the message
 numberOf ShortBuffer = 8
--- post number above 7
+-- post number above 7; 02, Req 13: "Refusal 9 now begins at 16"
 numberOf NoSuchPost = 9
 -- channel above 31 at set-up
 numberOf NoSuchChannel = 10

@@ -4,7 +4,8 @@
 //   specs/Run.antt        any requests from the empty table
 //   specs/Pages.antt      which messages a post has heard, and what a place keeps
 //   specs/Readings.antt   01's readings from both sides of each edge
-// proofs/Right.antt makes the two one, proofs/Demand.antt has demand 3, proofs/Night.antt its theorems on a night. For every crate that holds a table.
+// proofs/Right.antt makes the two one, proofs/Demand.antt has demand 3, proofs/Index.antt what is promised of the index, proofs/Night.antt demand 3 on a night.
+// For every crate that holds a table.
 use refusals::Refusal;
 use rules::Head;
 use rules::Post;
