@@ -3,6 +3,7 @@ use mathlib.Core.Path.{_≡_}
 use Prim.Native.Nat.{_-_}
 use lib.ListN.{length}
 use borrow.Author.Needs.{needs}
+use Rattle.rules.specs.After.{countCount}
 use Rattle.replay.proofs.own.add_post.Statement.{statement}
 use Rattle.replay.proofs.own.add_post.Tie as tie
 
@@ -10,7 +11,7 @@ abbrev Inv-loop : tie.InvT-loop
 Inv-loop sums₀ counts k₀ sums k = length sums ≡ length sums₀
 
 abbrev μ-loop : tie.MeasureT-loop
-μ-loop sums₀ counts k₀ sums k = 12 - k
+μ-loop sums₀ counts k₀ sums k = countCount - k
 
 loop-holds : tie.Need-loop-holds Inv-loop μ-loop
 loop-holds c = search needs
