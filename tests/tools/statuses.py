@@ -185,7 +185,7 @@ class Statuses(unittest.TestCase):
         def made(*words):
             return subprocess.run(['make', '-s', '-o', 'replay', *words], cwd=ROOT, capture_output=True, text=True, timeout=100)
 
-        self.assertEqual((made('run').returncode, made('run').stdout.splitlines()[-2]), (0, '490 records: 490 accepted, 0 refused'))
+        self.assertEqual((made('run').returncode, made('run').stdout.splitlines()[-3]), (0, '490 records: 490 accepted, 0 refused')) # then F9 and F12
         refused = 'Nothing was replayed: the set-up in line 1 of '
         for set_ups, log, told in (SET_UP, CUT, 'The log is cut'), (SET_UP.replace(' 0', ' 16', 1), TICK, refused), (SET_UP, b'', 'The log holds no record.'):
             Path('statuses.posts').write_text(set_ups)
