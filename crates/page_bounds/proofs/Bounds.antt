@@ -20,10 +20,10 @@ use Rattle.page_rows.specs.declared.Interface.the-variants.{Newer, Older}
 use Rattle.page_rows.specs.declared.Row.{Row}
 use Rattle.page_rows.specs.declared.Found.{Found}
 use Rattle.page_rows.specs.declared.Found.the-variants.{At, Nothing}
-use Rattle.page_rows.specs.Messages.{kindCount, messageCount}
+use Rattle.page_rows.specs.Messages.{messageCount, restKind}
 use Rattle.page_rows.specs.Table.{rows, noRow, rowsOf, isSignal, firstAt, takes, lengthOf}
-use Rattle.page_rows.specs.Interfaces.{withId}
-use Rattle.page_rows.proofs.Rules.{Ordered, ordered, row-fine, short-length}
+use Rattle.page_rows.specs.Interfaces.{safetyKind, withId}
+use Rattle.page_rows.proofs.Rules.{both-true, Ordered, ordered, row-fine, short-length}
 use Rattle.page_rows.proofs.Firsts.{found-in}
 use Rattle.page_rows.proofs.Interfaces.{found-has}
 use Rattle.page_read.specs.declared.Judged.{Judged}
@@ -50,11 +50,11 @@ SmallBelow b (Refused w) = Small w
 
 -- the kinds of an interface are below this
 abbrev pub kindsOn : Interface → ℕ
-kindsOn Newer = kindCount
-kindsOn Older = messageCount
+kindsOn Newer = messageCount
+kindsOn Older = restKind
 
 abbrev pub SmallJudged : Judged → Type 0
-SmallJudged a = SmallBelow kindCount a
+SmallJudged a = SmallBelow messageCount a
 
 abbrev pub SmallWritten : Written → Type 0
 SmallWritten (written.Wrote i n) = n ≤ 8
@@ -64,8 +64,10 @@ SmallWritten (written.Refused w) = Small w
 
 -- a row that has an identifier is of one of the interface's kinds
 kind-small : (iface : Interface) (m : ℕ) (x : Bool) (i : ℕ) → withId iface m x ≡ At i → getD rows i noRow .kind < kindsOn iface
-kind-small Newer m x i f = ltb-true (getD rows i noRow .kind) kindCount (found-has Newer m x i f .has .own)
-kind-small Older m x i f = found-has Older m x i f .has .listed .inTable
+kind-small Newer m x i f = found-has Newer m x i f .has .listed .inTable
+kind-small Older m x i f =
+    let k = getD rows i noRow .kind in
+    ltb-true k restKind (both-true (leb safetyKind k) (ltb k restKind) (found-has Older m x i f .has .own) .1)
 
 -- where a row offends, the least start of those that do is below 64
 offender-small : (b p n : ℕ) (rs : List Row) → Ordered b p rs → unlabelled n rs ≡ true → offender n rs < 64

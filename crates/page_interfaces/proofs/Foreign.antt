@@ -1,31 +1,48 @@
 -- 02, Req 11: an identifier that only the other interface has is refused with 3 by the reader, of whatever length and content (`foreign-refused`), is one of
 -- the other's (`foreign-has`), and none of this one's (`foreign-not`). Assumes nothing.
 use mathlib.Core.Path.{_≡_, refl, sym, ap, _∙_}
-use mathlib.Core.Bool.{Bool, true, false, cond, not}
+use mathlib.Core.Bool.{Bool, true, false, cond, not, _||_}
+use mathlib.Core.Logic.{_⊎_, inl, inr}
 use mathlib.Core.List.{List}
-use Prim.Native.Nat.{ℕ}
+use Prim.Native.Nat.{ℕ, _<_, _≤_}
 use native.Mathlib.Omega.{arith}
+use lib.Dec.{leb, ltb}
 use borrow.Author.Tests.{not-true, ltb-false, leb-false, le-leb, lt-ltb}
+use Rattle.signal.proofs.Complement.{half-of}
 use Rattle.refusals.specs.declared.Refusal.the-variants.{UnknownIdentifier, OtherInterface}
 use Rattle.page_rows.specs.declared.Interface.{Interface}
 use Rattle.page_rows.specs.declared.Interface.the-variants.{Newer, Older}
 use Rattle.page_rows.specs.declared.Found.{Found}
 use Rattle.page_rows.specs.declared.Found.the-variants.{At, Nothing}
 use Rattle.page_rows.specs.declared.FoundMessage.the-variants as message
-use Rattle.page_rows.specs.Messages.{kindCount}
+use Rattle.page_rows.specs.Messages.{kindCount, restKind}
 use Rattle.page_rows.specs.Table.{rows, rowAt, firstAt, hasId, withMessage}
 use Rattle.page_rows.specs.Interfaces.{safetyKind, isOn, foundOn, Has}
-use Rattle.page_rows.proofs.Rules.{not-both}
+use Rattle.page_rows.proofs.Rules.{not-both, either-false}
 use Rattle.page_rows.proofs.Interfaces.{has-found, own-found}
 use Rattle.page_rows.proofs.Listed.{found-listed}
 use Rattle.page_read.specs.declared.Judged.the-variants.{Frame, Refused}
 use Rattle.page_read.specs.Judge.{judgedRow, judgedAt, judgedFor, judgeOn, judgeFrom}
 use Rattle.page_interfaces.specs.Foreign.{foreignAt, isForeign, other, judgeFor}
 
+last : (b : Bool) → b || true ≡ true
+last true = refl
+last false = refl
+
 -- a kind that one has not, the other has
 pub either-has : (iface : Interface) (k : ℕ) → isOn iface k ≡ false → isOn (other iface) k ≡ true
-either-has Newer k e = le-leb safetyKind k (omega (arith, ltb-false k kindCount e))
-either-has Older k e = lt-ltb k kindCount (omega (arith, leb-false safetyKind k e))
+either-has Newer k e =
+    let n = either-false (ltb k kindCount) (leb restKind k) e in
+    rw (le-leb safetyKind k (omega (arith, ltb-false k kindCount (n .0))), lt-ltb k restKind (omega (arith, leb-false restKind k (n .1))))
+either-has Older k e = go (half-of restKind k)
+  where
+    go : (k < restKind) ⊎ (restKind ≤ k) → isOn Newer k ≡ true
+    go (inl l) = below (half-of safetyKind k)
+      where
+        below : (k < safetyKind) ⊎ (safetyKind ≤ k) → isOn Newer k ≡ true
+        below (inl s) = rw (lt-ltb k kindCount (omega arith))
+        below (inr s) = absurd (not-both (isOn Older k) (rw (le-leb safetyKind k s, lt-ltb k restKind l)) e)
+    go (inr l) = rw (le-leb restKind k l) (last (ltb k kindCount))
 
 -- the row that has the identifier
 record Row-found (iface : Interface) (m : ℕ) (x : Bool) : Type 0 where

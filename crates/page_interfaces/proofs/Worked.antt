@@ -1,4 +1,5 @@
--- The laws on identifiers: 001's Sequence_Control on the newer interface, 000's Power_Modules_Status on the older one, and ChargeControl1 on neither.
+-- The laws on identifiers: 001's Sequence_Control on the newer interface, 000's Power_Modules_Status and Sequence_Control on the older one, and
+-- ChargeControl1 on neither.
 use mathlib.Core.Path.{_≡_, refl}
 use mathlib.Core.Bool.{true, false}
 use mathlib.Core.List.{[], _∷_}
@@ -15,11 +16,15 @@ use Rattle.page_interfaces.proofs.Foreign.{foreign-has, foreign-not, fo
 -- a standard 0x60012 is neither's
 pub told : (isForeign Newer 0x60012 true ≡ true) × (isForeign Older 0x63000 true ≡ true) × (isForeign Newer 6 false ≡ false) × (isForeign Older 6 false ≡ false)
     × (isForeign Newer 0x60012 false ≡ false) × (isForeign Newer 0x63000 true ≡ false) × (isForeign Older 0x60012 true ≡ false)
+    × (isForeign Older 0x63002 true ≡ true) × (isForeign Newer 0x63002 true ≡ false)
 unfolding isForeign rows firstAt
-told = (refl, refl, refl, refl, refl, refl, refl)
+told = (refl, refl, refl, refl, refl, refl, refl, refl, refl)
 
 pub sequence-older : (k : ℕ) × Has Older 0x60012 true k
 sequence-older = foreign-has Newer 0x60012 true (told .0)
+
+pub sequence-newer : (k : ℕ) × Has Newer 0x63002 true k
+sequence-newer = foreign-has Older 0x63002 true (told .7)
 
 pub sequence-not-newer : (k : ℕ) → Has Newer 0x60012 true k → ⊥
 sequence-not-newer = foreign-not Newer 0x60012 true (told .0)

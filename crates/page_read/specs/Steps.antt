@@ -26,6 +26,6 @@ abbrev pub judgedBy : ℕ → ℕ → Offence → ℕ → Judged
 judgedBy k n (Start s) rest = Refused (NoLabel s)
 judgedBy k n Nothing rest = cond (eqb rest 0) (Frame k n) (Refused UncoveredBit)
 
--- the kinds of messages with a bit that is no signal's: the three of 004, 001's Sequence_Control and ADM_CS_SPCC_Inputs
+-- the kinds of messages with a bit that is no signal's: the three of 004, and of 001 and 000 Sequence_Control and ADM_CS_SPCC_Inputs
 abbrev pub hasGaps : ℕ → Bool
-hasGaps k = eqb k 9 || eqb k 10 || eqb k 11 || eqb k 14 || eqb k 27
+hasGaps k = eqb k 9 || eqb k 10 || eqb k 11 || eqb k 14 || eqb k 27 || eqb k 30 || eqb k 39

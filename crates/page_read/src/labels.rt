@@ -13,9 +13,12 @@ use page_rows::CP_STATE;
 use page_rows::FINISHED_STATE;
 use page_rows::ID_STATE;
 use page_rows::LOWER_OUTPUT_VOLTAGE;
+use page_rows::OLD_CE_STATE;
 use page_rows::OLD_COMMUNICATION_PROTOCOL;
 use page_rows::OLD_CONTROLLER_STATE;
+use page_rows::OLD_CP_STATE;
 use page_rows::OLD_FINISHED_STATE;
+use page_rows::OLD_ID_STATE;
 use page_rows::OLD_PLUG_AND_PINS;
 use page_rows::OLD_STOP_ORIGIN;
 use page_rows::OLD_SYSTEM_ENABLE;
@@ -53,14 +56,21 @@ fn old_session_offence(n: u64) -> Offence
     offence_at(OLD_COMMUNICATION_PROTOCOL, n, plug)
 }
 
-fn mcs_offence(n: u64) -> Offence
+fn old_mcs_offence(n: u64) -> Offence
     ensures { λ r. ⌜ r ≡ offenceOf n (rowsOf 29) ⌝ }
+{
+    let id = offence_at(OLD_ID_STATE, n, Offence::Nothing);
+    offence_at(OLD_CE_STATE, n, id)
+}
+
+fn mcs_offence(n: u64) -> Offence
+    ensures { λ r. ⌜ r ≡ offenceOf n (rowsOf 41) ⌝ }
 {
     let id = offence_at(ID_STATE, n, Offence::Nothing);
     offence_at(CE_STATE, n, id)
 }
 
-// The kinds with a bit that no signal covers: the three of 004, Sequence_Control and ADM_CS_SPCC_Inputs.
+// The kinds with a bit that no signal covers: the three of 004, and of either document Sequence_Control and ADM_CS_SPCC_Inputs.
 pub fn has_gaps(kind: usize) -> bool
     ensures { λ r. ⌜ r ≡ hasGaps kind ⌝ }
 {
@@ -70,6 +80,8 @@ pub fn has_gaps(kind: usize) -> bool
         11 => true,
         14 => true,
         27 => true,
+        30 => true,
+        39 => true,
         _ => false,
     }
 }
@@ -108,8 +120,21 @@ fn offence(kind: usize, n: u64) -> Offence
         25 => Offence::Nothing,
         26 => Offence::Nothing,
         27 => Offence::Nothing,
-        28 => offence_at(CP_STATE, n, Offence::Nothing),
-        29 => mcs_offence(n),
+        28 => offence_at(OLD_CP_STATE, n, Offence::Nothing),
+        29 => old_mcs_offence(n),
+        30 => Offence::Nothing,
+        31 => Offence::Nothing,
+        32 => Offence::Nothing,
+        33 => Offence::Nothing,
+        34 => Offence::Nothing,
+        35 => Offence::Nothing,
+        36 => Offence::Nothing,
+        37 => Offence::Nothing,
+        38 => Offence::Nothing,
+        39 => Offence::Nothing,
+        40 => offence_at(CP_STATE, n, Offence::Nothing),
+        41 => mcs_offence(n),
+        42 => Offence::Nothing,
         _ => Offence::Nothing,
     }
 }

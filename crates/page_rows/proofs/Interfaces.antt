@@ -1,5 +1,5 @@
--- What an interface finds by an identifier: a row of the table whose message it has (`own-found`, `found-own`), that of the one kind with the identifier
--- (`on-found`), a message that it has (`found-has`, `has-found`), or none (`on-none`). No row is found on an interface that does not have its message.
+-- What an interface finds by an identifier: a row of the table whose message it has (`own-found`, `found-own`), a message that it has (`found-has`,
+-- `has-found`), or none (`on-none`). No row is found on an interface that does not have its message.
 -- Assumes nothing.
 use mathlib.Core.Path.{_≡_, refl, sym, ap, ap₂, _∙_}
 use mathlib.Core.Bool.{Bool, true, false, cond}
@@ -8,16 +8,14 @@ use Prim.Native.Nat.{ℕ, zero, suc, _+_, _<_}
 use native.Mathlib.Nat.{le-of-suc-le-suc, not-suc-le-zero, zero-add, suc-add}
 use native.Mathlib.Omega.{arith}
 use lib.ListN.{length, getD}
-use borrow.Author.Tests.{le-leb, ltb-false}
 use Rattle.page_rows.specs.declared.Interface.{Interface}
 use Rattle.page_rows.specs.declared.Interface.the-variants.{Newer, Older}
 use Rattle.page_rows.specs.declared.Found.{Found}
 use Rattle.page_rows.specs.declared.Found.the-variants.{At, Nothing}
 use Rattle.page_rows.specs.declared.FoundMessage.the-variants as message
-use Rattle.page_rows.specs.Messages.{kindCount, messageCount, chargerMessages, safetyMessages, olderMessages, noMessage, messageOf, keyOf}
+use Rattle.page_rows.specs.Messages.{kindCount, restKind, chargerMessages, safetyMessages, olderMessages, restMessages, noMessage, messageOf}
 use Rattle.page_rows.specs.Table.{rows, rowAt, firstAt, hasId, kindFound, withMessage}
 use Rattle.page_rows.specs.Interfaces.{safetyKind, isOn, foundOn, withId, Has}
-use Rattle.page_rows.proofs.Heads.{kindKey, id-place}
 use Rattle.page_rows.proofs.Listed.{found-listed, listed-found}
 
 -- ---- the messages of an interface, one behind the other
@@ -32,10 +30,14 @@ behind [] ys d k = ap (λ (j : ℕ). getD ys j d) (zero-add k)
 behind (x ∷ xs) ys d k = ap (λ (j : ℕ). getD ((x ∷ xs) ++ ys) j d) (suc-add (length xs) k) ∙ behind xs ys d k
 
 pub newer-message : (k : ℕ) → k < kindCount → getD (chargerMessages ++ safetyMessages) k noMessage ≡ messageOf k
-newer-message k h = sym (in-front (chargerMessages ++ safetyMessages) olderMessages noMessage k h)
+newer-message k h = sym (in-front (chargerMessages ++ safetyMessages) (olderMessages ++ restMessages) noMessage k h)
 
-pub older-message : (k : ℕ) → getD (safetyMessages ++ olderMessages) k noMessage ≡ messageOf (safetyKind + k)
-older-message k = sym (behind chargerMessages (safetyMessages ++ olderMessages) noMessage k)
+pub older-message : (k : ℕ) → kindCount + k < restKind → getD olderMessages k noMessage ≡ messageOf (kindCount + k)
+older-message k h =
+    sym (behind (chargerMessages ++ safetyMessages) (olderMessages ++ restMessages) noMessage k ∙ in-front olderMessages restMessages noMessage k (omega arith))
+
+pub rest-message : (k : ℕ) → getD restMessages k noMessage ≡ messageOf (restKind + k)
+rest-message k = sym (behind (chargerMessages ++ (safetyMessages ++ olderMessages)) restMessages noMessage k)
 
 -- ---- what is found
 
@@ -50,27 +52,6 @@ own-found iface Nothing i e = absurd (let z : _≡_ {A = ℕ} 0 1 = cc in omega 
 
 pub found-own : (iface : Interface) (f : Found) (i : ℕ) → f ≡ At i → isOn iface (rowAt i .kind) ≡ true → foundOn iface f ≡ At i
 found-own iface f i e o = ap (foundOn iface) e ∙ ap (λ (b : Bool). cond b (At i) Nothing) o
-
--- a kind that the newer pages have not, the older ones have
-pub one-has : (k : ℕ) → isOn Newer k ≡ false → isOn Older k ≡ true
-one-has k e = le-leb safetyKind k (omega (arith, ltb-false k kindCount e))
-
--- what is found, and not on the newer interface, is found on the older one
-pub kind-newer : (f : Found) (k : ℕ) → kindFound (foundOn Newer f) ≡ At k → At k ≡ kindFound f
-kind-newer (At i) k e = go (isOn Newer (rowAt i .kind)) e
-  where
-    go : (b : Bool) → kindFound (cond b (At i) Nothing) ≡ At k → At k ≡ At (rowAt i .kind)
-    go true e = sym e
-    go false e = absurd (let z : _≡_ {A = ℕ} 0 1 = cc in omega arith)
-kind-newer Nothing k e = sym e
-
-pub kind-older : (f : Found) → kindFound (foundOn Newer f) ≡ Nothing → kindFound (foundOn Older f) ≡ kindFound f
-kind-older (At i) e = go (isOn Newer (rowAt i .kind)) refl e
-  where
-    go : (b : Bool) → isOn Newer (rowAt i .kind) ≡ b → kindFound (cond b (At i) Nothing) ≡ Nothing → kindFound (foundOn Older (At i)) ≡ At (rowAt i .kind)
-    go true o e = absurd (let z : _≡_ {A = ℕ} 0 1 = cc in omega arith)
-    go false o e = ap (λ (b : Bool). kindFound (cond b (At i) Nothing)) (one-has (rowAt i .kind) o)
-kind-older Nothing e = refl
 
 -- a message that is found, on an interface: by whether its kind is one of the interface's
 pub message-own : (iface : Interface) (f : Found) (k i len : ℕ) (big : Bool) → withMessage f ≡ message.At k i len big → isOn iface k ≡ true
@@ -90,14 +71,6 @@ message-other iface Nothing k i len big e o = refl
 pub message-none : (iface : Interface) (f : Found) → withMessage f ≡ message.Nothing → message.Nothing ≡ withMessage (foundOn iface f)
 message-none iface (At j) e = absurd (let z : _≡_ {A = ℕ} 0 1 = cc in omega arith)
 message-none iface Nothing e = refl
-
--- the kind with the identifier, where it is one of the interface's
-pub on-found : (iface : Interface) (m : ℕ) (x : Bool) (k : ℕ) → k < messageCount → isOn iface k ≡ true → kindKey k ≡ keyOf m x
-    → At k ≡ kindFound (withId iface m x)
-on-found iface m x k h o e =
-    let p = id-place m x k h e in
-    let f = found-own iface (firstAt (hasId m x) 0 rows) _ (p .0) (ap (isOn iface) (p .1) ∙ o) in
-    sym (ap kindFound f ∙ ap At (p .1))
 
 -- the row that is found says what the list says of its kind, which the interface has
 pub record Told (iface : Interface) (m : ℕ) (x : Bool) (i : ℕ) : Type 0 where

@@ -8,3 +8,4 @@ pub mod Walk
 pub mod PageBits
 pub mod Listed
 pub mod Interfaces
+pub mod Scans

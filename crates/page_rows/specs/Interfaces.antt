@@ -1,13 +1,13 @@
 -- 02, Req 11: "Set-up names a post's interface." Which of the messages an interface has, and what a search by identifier finds among them.
 use Prim.Native.Nat.{ℕ}
 use mathlib.Core.Path.{_≡_}
-use mathlib.Core.Bool.{Bool, true, cond}
+use mathlib.Core.Bool.{Bool, true, cond, _&&_, _||_}
 use lib.Dec.{leb, ltb}
 use Rattle.page_rows.specs.declared.Interface.{Interface}
 use Rattle.page_rows.specs.declared.Interface.the-variants.{Newer, Older}
 use Rattle.page_rows.specs.declared.Found.{Found}
 use Rattle.page_rows.specs.declared.Found.the-variants.{At, Nothing}
-use Rattle.page_rows.specs.Messages.{kindCount}
+use Rattle.page_rows.specs.Messages.{kindCount, restKind}
 use Rattle.page_rows.specs.Table.{rows, rowAt, hasId, firstAt}
 use Rattle.page_rows.specs.Listed.{Listed}
 
@@ -17,8 +17,8 @@ safetyKind = 9
 
 -- the pages of 000 and 004, or those of 004 and 001
 abbrev pub isOn : Interface → ℕ → Bool
-isOn Newer k = ltb k kindCount
-isOn Older k = leb safetyKind k
+isOn Newer k = ltb k kindCount || leb restKind k
+isOn Older k = leb safetyKind k && ltb k restKind
 
 -- a row that is found, where its message is one of the interface's
 abbrev pub foundOn : Interface → Found → Found

@@ -3,6 +3,7 @@ pub mod Layout
 pub mod Charger
 pub mod Safety
 pub mod Older
+pub mod Rest
 pub mod Table
 pub mod Listed
 pub mod Interfaces

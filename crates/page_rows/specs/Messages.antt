@@ -6,14 +6,18 @@ use mathlib.Core.List.{List, [], _∷_, _++_}
 use lib.ListN.{getD}
 use Rattle.page_rows.specs.declared.Message.{Message}
 
--- the kinds of documents 000 and 004; those of document 001 stand behind them
+-- the kinds of document 000's base messages and of 004; those of document 001 stand behind them, and behind these the rest of 000's
 abbrev pub kindCount : ℕ
 kindCount = 12
 
 abbrev pub messageCount : ℕ
-messageCount = 30
+messageCount = 43
 
--- document 000; 01: "All base messages use extended identifiers"
+-- the first kind of the rest of 000's
+abbrev pub restKind : ℕ
+restKind = 30
+
+-- document 000, the base messages; 01: "All base messages use extended identifiers"
 abbrev pub chargerMessages : List Message
 chargerMessages =
     (0x63000, true, 8, false, 0)  -- Power_Modules_Status
@@ -58,8 +62,26 @@ olderMessages =
     ∷ (0x6800f, true, 8, false, 136)  -- MCS_Extra_Information
     ∷ []
 
+-- document 000; 02, Req 14: "The rest of the charger pages"
+abbrev pub restMessages : List Message
+restMessages =
+    (0x63002, true, 3, false, 139)  -- Sequence_Control
+    ∷ (0x63201, true, 8, false, 145)  -- ADM_CS_SECC_Outputs
+    ∷ (0x6b100, true, 6, false, 150)  -- EV_Information_Battery
+    ∷ (0x6b101, true, 6, false, 155)  -- EV_Information_Voltages
+    ∷ (0x6b102, true, 8, false, 158)  -- EV_Information_Charge_Limits
+    ∷ (0x6b103, true, 8, false, 162)  -- EV_Information_Discharge_Limits
+    ∷ (0x6b104, true, 6, false, 166)  -- EV_Information_Energy
+    ∷ (0x6b200, true, 8, false, 169)  -- ADM_CO_CUI1_Inputs
+    ∷ (0x6b201, true, 8, false, 180)  -- ADM_CS_SECC_Inputs
+    ∷ (0x6b202, true, 8, false, 188)  -- ADM_CS_SPCC_Inputs
+    ∷ (0x6b203, true, 8, false, 199)  -- CCS_Extra_Information
+    ∷ (0x6b204, true, 8, false, 202)  -- MCS_Extra_Information
+    ∷ (0x6b300, true, 2, false, 205)  -- OCPP_Control
+    ∷ []
+
 abbrev pub messages : List Message
-messages = chargerMessages ++ (safetyMessages ++ olderMessages)
+messages = chargerMessages ++ (safetyMessages ++ (olderMessages ++ restMessages))
 
 -- what a number that is no kind says
 abbrev pub noMessage : Message

@@ -1,10 +1,10 @@
--- The table: 01, "The message and signal layouts are one constant table". Messages holds its messages, Charger, Safety and Older its rows: identifiers,
--- lengths, starts, widths, signs and labels stand there and nowhere else.
+-- The table: 01, "The message and signal layouts are one constant table". Messages holds its messages, Charger, Safety, Older and Rest its rows:
+-- identifiers, lengths, starts, widths, signs and labels stand there and nowhere else.
 use Prim.Native.Nat.{ℕ, suc, _+_, _/_, _%_, _^_, _≤_, _<_}
 use mathlib.Core.Path.{_≡_}
 use mathlib.Core.Bool.{Bool, true, false, cond, _&&_, _||_}
 use mathlib.Core.List.{List, [], _∷_, _++_}
-use lib.Dec.{eqb}
+use lib.Dec.{eqb, leb, ltb}
 use lib.ListN.{getD}
 use Rattle.signal.specs.Signal.{getBits, covers}
 use Rattle.payload.specs.Order as order
@@ -18,20 +18,21 @@ use Rattle.page_rows.specs.Layout.{row}
 use Rattle.page_rows.specs.Charger.{chargerCount, chargerRows}
 use Rattle.page_rows.specs.Safety.{safetyCount, safetyRows}
 use Rattle.page_rows.specs.Older.{olderCount, olderRows}
+use Rattle.page_rows.specs.Rest.{restCount, restRows}
 
 -- what stands past the end of the table
 abbrev pub noRow : Row
 noRow = row 0 0 false 0 false 0 0 false 0
 
 abbrev pub rowCount : ℕ
-rowCount = chargerCount + safetyCount + olderCount
+rowCount = chargerCount + safetyCount + olderCount + restCount
 
 -- no message has more signals
 abbrev pub signalCount : ℕ
 signalCount = 16
 
 unfoldable pub rows : List Row
-rows = chargerRows ++ (safetyRows ++ olderRows)
+rows = chargerRows ++ (safetyRows ++ (olderRows ++ restRows))
 
 abbrev pub rowAt : ℕ → Row
 rowAt i = getD rows i noRow
@@ -77,6 +78,11 @@ firstAt p i (r ∷ rs) = cond (p r) (At i) (firstAt p (suc i) rs)
 abbrev pub kindFound : Found → Found
 kindFound (At i) = At (rowAt i .kind)
 kindFound Nothing = Nothing
+
+-- a row that is found, where the kind of its message is one of those from a on, up to b
+abbrev pub among : ℕ → ℕ → Found → Found
+among a b (At i) = cond (leb a (rowAt i .kind) && ltb (rowAt i .kind) b) (At i) Nothing
+among a b Nothing = Nothing
 
 -- the message of the row at a place: its kind, that place, its bytes and its byte order
 abbrev pub withMessage : Found → FoundMessage

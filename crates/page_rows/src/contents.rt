@@ -1,27 +1,26 @@
 // The messages, by their kinds: what every row of a message says of it. A search by identifier goes through them, and a row names its own by its kind.
 ghost use mathlib.Core.Path.{_≡_};
 ghost use lib.ListN.{getD};
-ghost use Rattle.page_rows.specs.Messages.{messages, noMessage, keyOf};
-ghost use Rattle.page_rows.specs.declared.Interface.the-variants.{Newer, Older};
-ghost use Rattle.page_rows.specs.Table.{rows, hasId, firstAt, kindFound, withMessage};
+ghost use Rattle.page_rows.specs.Messages.{kindCount, messageCount, restKind, messages, noMessage, keyOf};
+ghost use Rattle.page_rows.specs.Table.{rows, hasId, firstAt, among, kindFound, withMessage};
 ghost use Rattle.page_rows.specs.Interfaces.{withId};
 use crate::Found;
 use crate::FoundMessage;
 use crate::Interface;
+use crate::KIND_COUNT;
 use crate::Message;
+use crate::REST_KIND;
 use crate::is_on;
 
-// The kinds of documents 000 and 004, and of all.
-const KIND_COUNT: usize = 12;
+// Of all documents.
+pub const MESSAGE_COUNT: usize = 43;
 
-pub const MESSAGE_COUNT: usize = 30;
+// How many messages document 001 has, and the rest of 000.
+const OLDER_COUNT: usize = 18;
 
-// The first kind of document 004, and how many messages stand from it on.
-const SAFETY_KIND: usize = 9;
+const REST_COUNT: usize = 13;
 
-const OLDER_COUNT: usize = 21;
-
-// Document 000: extended identifiers, byte 0 lowest.
+// Document 000, the base messages: extended identifiers, byte 0 lowest.
 const POWER_MODULES_STATUS: Message = Message(0x63000, true, 8, false, 0);
 
 const DC_POWER_PARAMETERS: Message = Message(0x63001, true, 8, false, 6);
@@ -84,6 +83,33 @@ const OLD_CCS_EXTRA_INFORMATION: Message = Message(0x6800e, true, 8, false, 133)
 
 const OLD_MCS_EXTRA_INFORMATION: Message = Message(0x6800f, true, 8, false, 136);
 
+// Document 000, the rest: extended identifiers, byte 0 lowest.
+const SEQUENCE_CONTROL: Message = Message(0x63002, true, 3, false, 139);
+
+const ADM_CS_SECC_OUTPUTS: Message = Message(0x63201, true, 8, false, 145);
+
+const EV_INFORMATION_BATTERY: Message = Message(0x6b100, true, 6, false, 150);
+
+const EV_INFORMATION_VOLTAGES: Message = Message(0x6b101, true, 6, false, 155);
+
+const EV_INFORMATION_CHARGE_LIMITS: Message = Message(0x6b102, true, 8, false, 158);
+
+const EV_INFORMATION_DISCHARGE_LIMITS: Message = Message(0x6b103, true, 8, false, 162);
+
+const EV_INFORMATION_ENERGY: Message = Message(0x6b104, true, 6, false, 166);
+
+const ADM_CO_CUI1_INPUTS: Message = Message(0x6b200, true, 8, false, 169);
+
+const ADM_CS_SECC_INPUTS: Message = Message(0x6b201, true, 8, false, 180);
+
+const ADM_CS_SPCC_INPUTS: Message = Message(0x6b202, true, 8, false, 188);
+
+const CCS_EXTRA_INFORMATION: Message = Message(0x6b203, true, 8, false, 199);
+
+const MCS_EXTRA_INFORMATION: Message = Message(0x6b204, true, 8, false, 202);
+
+const OCPP_CONTROL: Message = Message(0x6b300, true, 2, false, 205);
+
 const MESSAGES: [Message; 12] = [
     POWER_MODULES_STATUS,
     DC_POWER_PARAMETERS,
@@ -99,11 +125,7 @@ const MESSAGES: [Message; 12] = [
     PT1000_STATE,
 ];
 
-// The messages of the older interface.
-const OLDER: [Message; 21] = [
-    CHARGE_CONTROL1,
-    CHARGE_STATE1,
-    PT1000_STATE,
+const OLDER: [Message; 18] = [
     OLD_POWER_MODULES_STATUS,
     OLD_POWER_MODULES_LIMITS,
     OLD_SEQUENCE_CONTROL,
@@ -124,47 +146,73 @@ const OLDER: [Message; 21] = [
     OLD_MCS_EXTRA_INFORMATION,
 ];
 
+const REST: [Message; 13] = [
+    SEQUENCE_CONTROL,
+    ADM_CS_SECC_OUTPUTS,
+    EV_INFORMATION_BATTERY,
+    EV_INFORMATION_VOLTAGES,
+    EV_INFORMATION_CHARGE_LIMITS,
+    EV_INFORMATION_DISCHARGE_LIMITS,
+    EV_INFORMATION_ENERGY,
+    ADM_CO_CUI1_INPUTS,
+    ADM_CS_SECC_INPUTS,
+    ADM_CS_SPCC_INPUTS,
+    CCS_EXTRA_INFORMATION,
+    MCS_EXTRA_INFORMATION,
+    OCPP_CONTROL,
+];
+
 // No message: what a number that is no kind says.
 const NO_MESSAGE: Message = Message(0, false, 0, false, 0);
 
-// In each arm the index is known beforehand, and the compiler makes look-up tables of the array; of one that is not known it builds the whole array
-// on the stack at each call.
+// The compiler makes look-up tables of the arms.
 pub fn message_at(kind: usize) -> Message
     ensures { λ m. ⌜ m ≡ getD messages kind noMessage ⌝ }
 {
-    let messages = MESSAGES;
-    let older = OLDER;
     match kind {
-        0 => messages[0],
-        1 => messages[1],
-        2 => messages[2],
-        3 => messages[3],
-        4 => messages[4],
-        5 => messages[5],
-        6 => messages[6],
-        7 => messages[7],
-        8 => messages[8],
-        9 => messages[9],
-        10 => messages[10],
-        11 => messages[11],
-        12 => older[3],
-        13 => older[4],
-        14 => older[5],
-        15 => older[6],
-        16 => older[7],
-        17 => older[8],
-        18 => older[9],
-        19 => older[10],
-        20 => older[11],
-        21 => older[12],
-        22 => older[13],
-        23 => older[14],
-        24 => older[15],
-        25 => older[16],
-        26 => older[17],
-        27 => older[18],
-        28 => older[19],
-        29 => older[20],
+        0 => POWER_MODULES_STATUS,
+        1 => DC_POWER_PARAMETERS,
+        2 => ADVANTICS_CONTROLLER_STATUS,
+        3 => NEW_CHARGE_SESSION,
+        4 => CHARGE_STATUS_CHANGE,
+        5 => DC_POWER_CONTROL,
+        6 => CHARGE_SESSION_FINISHED,
+        7 => EMERGENCY_STOP,
+        8 => EV_ID_CCS_PART2_DIN,
+        9 => CHARGE_CONTROL1,
+        10 => CHARGE_STATE1,
+        11 => PT1000_STATE,
+        12 => OLD_POWER_MODULES_STATUS,
+        13 => OLD_POWER_MODULES_LIMITS,
+        14 => OLD_SEQUENCE_CONTROL,
+        15 => OLD_ADM_CS_SECC_OUTPUTS,
+        16 => OLD_NEW_CHARGE_SESSION,
+        17 => OLD_INSULATION_TEST,
+        18 => OLD_PRECHARGE,
+        19 => OLD_CHARGE_STATUS_CHANGE,
+        20 => OLD_CHARGING_LOOP,
+        21 => OLD_EMERGENCY_STOP,
+        22 => OLD_CHARGE_SESSION_FINISHED,
+        23 => OLD_ADVANTICS_CONTROLLER_STATUS,
+        24 => OLD_ADM_CO_CUI1_INPUTS,
+        25 => OLD_ADM_CS_SECC_INPUTS,
+        26 => OLD_EV_ID_CCS_PART2_DIN,
+        27 => OLD_ADM_CS_SPCC_INPUTS,
+        28 => OLD_CCS_EXTRA_INFORMATION,
+        29 => OLD_MCS_EXTRA_INFORMATION,
+        30 => SEQUENCE_CONTROL,
+        31 => ADM_CS_SECC_OUTPUTS,
+        32 => EV_INFORMATION_BATTERY,
+        33 => EV_INFORMATION_VOLTAGES,
+        34 => EV_INFORMATION_CHARGE_LIMITS,
+        35 => EV_INFORMATION_DISCHARGE_LIMITS,
+        36 => EV_INFORMATION_ENERGY,
+        37 => ADM_CO_CUI1_INPUTS,
+        38 => ADM_CS_SECC_INPUTS,
+        39 => ADM_CS_SPCC_INPUTS,
+        40 => CCS_EXTRA_INFORMATION,
+        41 => MCS_EXTRA_INFORMATION,
+        42 => OCPP_CONTROL,
         _ => NO_MESSAGE,
     }
 }
@@ -179,10 +227,10 @@ fn key(id: u32, extended: bool) -> u64
     2 * (id as u64)
 }
 
-// The kind of the message with an identifier of this form, on the newer interface. The array is copied once and searched in a loop, which the compiler
-// unrolls to a jump.
+// The kind of the message with an identifier of this form, among the base messages and 004's. The array is copied once and searched in a loop, which the
+// compiler unrolls to a jump: of thirty messages it does not, so that each part has its own.
 fn kind_with_id(id: u32, extended: bool) -> Found
-    ensures { λ r. ⌜ r ≡ kindFound (withId Newer id extended) ⌝ }
+    ensures { λ r. ⌜ r ≡ kindFound (among 0 kindCount (firstAt (hasId id extended) 0 rows)) ⌝ }
 {
     let wanted = key(id, extended);
     let messages = MESSAGES;
@@ -199,9 +247,9 @@ fn kind_with_id(id: u32, extended: bool) -> Found
     }
 }
 
-// And on the older one.
+// And among those of document 001.
 fn older_kind_with_id(id: u32, extended: bool) -> Found
-    ensures { λ r. ⌜ r ≡ kindFound (withId Older id extended) ⌝ }
+    ensures { λ r. ⌜ r ≡ kindFound (among kindCount restKind (firstAt (hasId id extended) 0 rows)) ⌝ }
 {
     let wanted = key(id, extended);
     let messages = OLDER;
@@ -212,21 +260,44 @@ fn older_kind_with_id(id: u32, extended: bool) -> Found
         }
         let m = messages[k];
         if key(m.0, m.1) == wanted {
-            let kind = SAFETY_KIND + k;
+            let kind = KIND_COUNT + k;
             break 'messages Found::At(kind);
         }
         k += 1;
     }
 }
 
-// And on whichever has it.
+// And among the rest of 000's.
+fn rest_kind_with_id(id: u32, extended: bool) -> Found
+    ensures { λ r. ⌜ r ≡ kindFound (among restKind messageCount (firstAt (hasId id extended) 0 rows)) ⌝ }
+{
+    let wanted = key(id, extended);
+    let messages = REST;
+    let mut k: usize = 0;
+    'messages: loop {
+        if REST_COUNT <= k {
+            break 'messages Found::Nothing;
+        }
+        let m = messages[k];
+        if key(m.0, m.1) == wanted {
+            let kind = REST_KIND + k;
+            break 'messages Found::At(kind);
+        }
+        k += 1;
+    }
+}
+
+// And among all.
 fn any_kind_with_id(id: u32, extended: bool) -> Found
     ensures { λ r. ⌜ r ≡ kindFound (firstAt (hasId id extended) 0 rows) ⌝ }
 {
     if let Found::At(k) = kind_with_id(id, extended) {
         return Found::At(k);
     }
-    older_kind_with_id(id, extended)
+    if let Found::At(k) = older_kind_with_id(id, extended) {
+        return Found::At(k);
+    }
+    rest_kind_with_id(id, extended)
 }
 
 // The message with an identifier of this form, on whichever interface has it.

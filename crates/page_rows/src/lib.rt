@@ -6,9 +6,11 @@ ghost use Rattle.page_rows.specs.Layout.{rowOf};
 ghost use Rattle.page_rows.specs.Table.{identifierOf, lengthOf, extendedOf, bigOf, takes};
 
 mod contents; // contents.rt: the messages, where the rows of each begin, and the search by identifier
-mod charger; // charger.rt: the rows of document 000
+mod charger; // charger.rt: the rows of document 000, the base messages
 mod safety; // safety.rt: the rows of document 004
 mod older; // older.rt: the rows of document 001
+mod vehicle; // vehicle.rt: the rows of document 000 that Req 14 adds, to EV_Information_Energy
+mod inputs; // inputs.rt: and from ADM_CO_CUI1_Inputs on
 mod table; // table.rt: all of them, and the searches by kind and start
 
 pub use charger::COMMUNICATION_PROTOCOL;
@@ -24,12 +26,15 @@ pub use charger::SYSTEM_ENABLE;
 pub use charger::VEHICLE_READY_FOR_CHARGING;
 pub use contents::message_on;
 pub use contents::with_id;
-pub use older::CE_STATE;
-pub use older::CP_STATE;
-pub use older::ID_STATE;
+pub use inputs::CE_STATE;
+pub use inputs::CP_STATE;
+pub use inputs::ID_STATE;
+pub use older::OLD_CE_STATE;
 pub use older::OLD_COMMUNICATION_PROTOCOL;
 pub use older::OLD_CONTROLLER_STATE;
+pub use older::OLD_CP_STATE;
 pub use older::OLD_FINISHED_STATE;
+pub use older::OLD_ID_STATE;
 pub use older::OLD_PLUG_AND_PINS;
 pub use older::OLD_STOP_ORIGIN;
 pub use older::OLD_SYSTEM_ENABLE;
@@ -88,10 +93,12 @@ pub enum Interface {
     Older,
 }
 
-// The kinds of documents 000 and 004 end, and those of 004 and 001 begin.
+// Where the kinds of 004, of 001 and of the rest of 000 begin.
+const SAFETY_KIND: usize = 9;
+
 const KIND_COUNT: usize = 12;
 
-const SAFETY_KIND: usize = 9;
+const REST_KIND: usize = 30;
 
 pub enum Found {
     At(usize),
@@ -153,8 +160,8 @@ pub fn is_on(iface: Interface, kind: usize) -> bool
     ensures { λ r. ⌜ r ≡ isOn iface kind ⌝ }
 {
     match iface {
-        Interface::Newer => kind < KIND_COUNT,
-        Interface::Older => SAFETY_KIND <= kind,
+        Interface::Newer => kind < KIND_COUNT || REST_KIND <= kind,
+        Interface::Older => SAFETY_KIND <= kind && kind < REST_KIND,
     }
 }
 

@@ -23,11 +23,13 @@ pub const OLD_FINISHED_STATE: Line = Line(22, 0, 8, 0, false, 0b11);
 
 pub const OLD_CONTROLLER_STATE: Line = Line(23, 0, 8, 0, false, 0b11111111111111);
 
-pub const CP_STATE: Line = Line(28, 0, 8, 0, false, 0b1001001001001);
+pub const OLD_CP_STATE: Line = Line(28, 0, 8, 0, false, 0b1001001001001);
 
-pub const CE_STATE: Line = Line(29, 0, 8, 0, false, 0b1111111111);
+pub const OLD_CE_STATE: Line = Line(29, 0, 8, 0, false, 0b1111111111);
 
-pub const ID_STATE: Line = Line(29, 8, 8, 8, false, 0b1111);
+pub const OLD_ID_STATE: Line = Line(29, 8, 8, 8, false, 0b1111);
+
+pub const END: usize = 139;
 
 // 01: "layouts are one constant table". A row stands at its place in it: the compiler makes look-up tables of the arms.
 pub fn line_at(i: usize) -> Line
@@ -124,12 +126,12 @@ pub fn line_at(i: usize) -> Line
         131 => Line(27, 48, 8, 48, false, 0), // PT1KS_C
         132 => Line(27, 56, 8, 56, false, 0), // PT1KS_D
         // CCS_Extra_Information
-        133 => CP_STATE, // CP_State
+        133 => OLD_CP_STATE, // CP_State
         134 => Line(28, 8, 16, 8, false, 0), // CP_Duty_Cycle
         135 => Line(28, 24, 40, 24, false, 0), // Reserved
         // MCS_Extra_Information
-        136 => CE_STATE, // CE_State
-        137 => ID_STATE, // ID_State
+        136 => OLD_CE_STATE, // CE_State
+        137 => OLD_ID_STATE, // ID_State
         138 => Line(29, 16, 48, 16, false, 0), // Reserved
         _ => NO_LINE,
     }

@@ -75,83 +75,46 @@ pub const PT4_CHARGING_STOPPED: Line = Line(11, 56, 1, 0, false, 0);
 
 pub const PT4_SELFTEST_FAILED: Line = Line(11, 57, 1, 1, false, 0);
 
-// 01: "layouts are one constant table". The rows in their order.
-const LINES: [Line; 31] = [
-    // ChargeControl1
-    CC_TARGET_DUTY_CYCLE,
-    CC_PWM_ACTIVE,
-    CC_CONTACTOR1_STATE,
-    CC_CONTACTOR2_STATE,
-    // ChargeState1
-    CS_CURRENT_DUTY_CYCLE,
-    CS_PWM_ACTIVE,
-    CS_CURRENT_CP_STATE,
-    CS_CP_SHORT_CIRCUIT,
-    CS_DIODE_FAULT,
-    CS_CURRENT_PP_STATE,
-    CS_CONTACTOR1_STATE,
-    CS_CONTACTOR2_STATE,
-    CS_CONTACTOR1_ERROR,
-    CS_CONTACTOR2_ERROR,
-    CS_ESTOP1_CHARGING_ABORT,
-    CS_ESTOP2_CHARGING_ABORT,
-    CS_ESTOP3_CHARGING_ABORT,
-    CS_IMD_RCM_CHARGING_ABORT,
-    CS_IMD_RCM_TEST_FAILURE,
-    // PT1000State
-    PT1_TEMPERATURE,
-    PT1_CHARGING_STOPPED,
-    PT1_SELFTEST_FAILED,
-    PT2_TEMPERATURE,
-    PT2_CHARGING_STOPPED,
-    PT2_SELFTEST_FAILED,
-    PT3_TEMPERATURE,
-    PT3_CHARGING_STOPPED,
-    PT3_SELFTEST_FAILED,
-    PT4_TEMPERATURE,
-    PT4_CHARGING_STOPPED,
-    PT4_SELFTEST_FAILED,
-];
-
-// In each arm the index is known beforehand, and the compiler makes look-up tables of the array; of one that is not known it builds the whole array
-// on the stack at each call.
+// 01: "layouts are one constant table". A row stands at its place in it: the compiler makes look-up tables of the arms.
 pub fn line_at(i: usize) -> Line
     requires { ⌜ (30 ≤ i) × (i < 61) ⌝ }
     ensures { λ l. ⌜ rowOf l ≡ getD rows i noRow ⌝ }
 {
-    let lines = LINES;
     match i {
-        30 => lines[0],
-        31 => lines[1],
-        32 => lines[2],
-        33 => lines[3],
-        34 => lines[4],
-        35 => lines[5],
-        36 => lines[6],
-        37 => lines[7],
-        38 => lines[8],
-        39 => lines[9],
-        40 => lines[10],
-        41 => lines[11],
-        42 => lines[12],
-        43 => lines[13],
-        44 => lines[14],
-        45 => lines[15],
-        46 => lines[16],
-        47 => lines[17],
-        48 => lines[18],
-        49 => lines[19],
-        50 => lines[20],
-        51 => lines[21],
-        52 => lines[22],
-        53 => lines[23],
-        54 => lines[24],
-        55 => lines[25],
-        56 => lines[26],
-        57 => lines[27],
-        58 => lines[28],
-        59 => lines[29],
-        60 => lines[30],
+        // ChargeControl1
+        30 => CC_TARGET_DUTY_CYCLE, // CC_TargetDutyCycle
+        31 => CC_PWM_ACTIVE, // CC_PWM_Active
+        32 => CC_CONTACTOR1_STATE, // CC_Contactor1State
+        33 => CC_CONTACTOR2_STATE, // CC_Contactor2State
+        // ChargeState1
+        34 => CS_CURRENT_DUTY_CYCLE, // CS_CurrentDutyCycle
+        35 => CS_PWM_ACTIVE, // CS_PWM_Active
+        36 => CS_CURRENT_CP_STATE, // CS_CurrentCpState
+        37 => CS_CP_SHORT_CIRCUIT, // CS_CpShortCircuit
+        38 => CS_DIODE_FAULT, // CS_DiodeFault
+        39 => CS_CURRENT_PP_STATE, // CS_CurrentPpState
+        40 => CS_CONTACTOR1_STATE, // CS_Contactor1State
+        41 => CS_CONTACTOR2_STATE, // CS_Contactor2State
+        42 => CS_CONTACTOR1_ERROR, // CS_Contactor1Error
+        43 => CS_CONTACTOR2_ERROR, // CS_Contactor2Error
+        44 => CS_ESTOP1_CHARGING_ABORT, // CS_Estop1ChargingAbort
+        45 => CS_ESTOP2_CHARGING_ABORT, // CS_Estop2ChargingAbort
+        46 => CS_ESTOP3_CHARGING_ABORT, // CS_Estop3ChargingAbort
+        47 => CS_IMD_RCM_CHARGING_ABORT, // CS_ImdRcmChargingAbort
+        48 => CS_IMD_RCM_TEST_FAILURE, // CS_ImdRcmTestFailure
+        // PT1000State
+        49 => PT1_TEMPERATURE, // PT1_Temperature
+        50 => PT1_CHARGING_STOPPED, // PT1_ChargingStopped
+        51 => PT1_SELFTEST_FAILED, // PT1_SelftestFailed
+        52 => PT2_TEMPERATURE, // PT2_Temperature
+        53 => PT2_CHARGING_STOPPED, // PT2_ChargingStopped
+        54 => PT2_SELFTEST_FAILED, // PT2_SelftestFailed
+        55 => PT3_TEMPERATURE, // PT3_Temperature
+        56 => PT3_CHARGING_STOPPED, // PT3_ChargingStopped
+        57 => PT3_SELFTEST_FAILED, // PT3_SelftestFailed
+        58 => PT4_TEMPERATURE, // PT4_Temperature
+        59 => PT4_CHARGING_STOPPED, // PT4_ChargingStopped
+        60 => PT4_SELFTEST_FAILED, // PT4_SelftestFailed
         _ => NO_LINE,
     }
 }

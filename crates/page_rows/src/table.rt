@@ -7,11 +7,13 @@ use crate::NO_ROW;
 use crate::Row;
 use crate::charger;
 use crate::contents;
+use crate::inputs;
 use crate::older;
 use crate::row_of;
 use crate::safety;
+use crate::vehicle;
 
-pub const ROW_COUNT: usize = 139;
+pub const ROW_COUNT: usize = 206;
 
 pub fn row_at(i: usize) -> Row
     ensures { λ r. ⌜ r ≡ getD rows i noRow ⌝ }
@@ -25,7 +27,13 @@ pub fn row_at(i: usize) -> Row
     if i < safety::END {
         return row_of(safety::line_at(i));
     }
-    row_of(older::line_at(i))
+    if i < older::END {
+        return row_of(older::line_at(i));
+    }
+    if i < vehicle::END {
+        return row_of(vehicle::line_at(i));
+    }
+    row_of(inputs::line_at(i))
 }
 
 // `row_at` again, for the loops that sift, unpack and seek and for the row that is changed: the compiler builds a function with a single call into its caller
@@ -43,7 +51,13 @@ pub fn row_to_sift(i: usize) -> Row
     if i < safety::END {
         return row_of(safety::line_at(i));
     }
-    row_of(older::line_at(i))
+    if i < older::END {
+        return row_of(older::line_at(i));
+    }
+    if i < vehicle::END {
+        return row_of(vehicle::line_at(i));
+    }
+    row_of(inputs::line_at(i))
 }
 
 pub fn row_to_unpack(i: usize) -> Row
@@ -58,7 +72,13 @@ pub fn row_to_unpack(i: usize) -> Row
     if i < safety::END {
         return row_of(safety::line_at(i));
     }
-    row_of(older::line_at(i))
+    if i < older::END {
+        return row_of(older::line_at(i));
+    }
+    if i < vehicle::END {
+        return row_of(vehicle::line_at(i));
+    }
+    row_of(inputs::line_at(i))
 }
 
 pub fn row_to_seek(i: usize) -> Row
@@ -73,7 +93,13 @@ pub fn row_to_seek(i: usize) -> Row
     if i < safety::END {
         return row_of(safety::line_at(i));
     }
-    row_of(older::line_at(i))
+    if i < older::END {
+        return row_of(older::line_at(i));
+    }
+    if i < vehicle::END {
+        return row_of(vehicle::line_at(i));
+    }
+    row_of(inputs::line_at(i))
 }
 
 pub fn row_to_change(i: usize) -> Row
@@ -88,7 +114,13 @@ pub fn row_to_change(i: usize) -> Row
     if i < safety::END {
         return row_of(safety::line_at(i));
     }
-    row_of(older::line_at(i))
+    if i < older::END {
+        return row_of(older::line_at(i));
+    }
+    if i < vehicle::END {
+        return row_of(vehicle::line_at(i));
+    }
+    row_of(inputs::line_at(i))
 }
 
 pub fn first_of_kind(kind: usize) -> Found

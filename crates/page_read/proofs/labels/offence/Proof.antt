@@ -69,6 +69,12 @@ offence-at-requires-10 c κs = search needs
 offence-at-requires-11 : tie.Need-offence-at-requires-11
 offence-at-requires-11 c κs = search needs
 
+old-mcs-offence-requires : tie.Need-old-mcs-offence-requires
+old-mcs-offence-requires c κs = search needs
+
+offence-at-requires-12 : tie.Need-offence-at-requires-12
+offence-at-requires-12 c κs = search needs
+
 mcs-offence-requires : tie.Need-mcs-offence-requires
 mcs-offence-requires c κs = search needs
 
@@ -91,6 +97,8 @@ offence-spec =
     offence-at-requires-9
     offence-at-requires-10
     offence-at-requires-11
+    old-mcs-offence-requires
+    offence-at-requires-12
     mcs-offence-requires
     (λ c. c .offence-at .ensures ∙ at-kind (c .before .before .args .n) 0 (c .before .match .keys1))
     (λ c. at-kind (c .before .args .n) 1 (c .match .keys2))
@@ -121,5 +129,18 @@ offence-spec =
     (λ c. at-kind (c .before .args .n) 26 (c .match .keys27))
     (λ c. absurd (true≢false (no-gap 27 (c .match .keys28) (c .before .pre))))
     (λ c. c .offence-at11 .ensures ∙ at-kind (c .before .before .args .n) 28 (c .before .match .keys29))
-    (λ c. c .mcs-offence .ensures ∙ at-kind (c .before .before .args .n) 29 (c .before .match .keys30))
+    (λ c. c .old-mcs-offence .ensures ∙ at-kind (c .before .before .args .n) 29 (c .before .match .keys30))
+    (λ c. absurd (true≢false (no-gap 30 (c .match .keys31) (c .before .pre))))
+    (λ c. at-kind (c .before .args .n) 31 (c .match .keys32))
+    (λ c. at-kind (c .before .args .n) 32 (c .match .keys33))
+    (λ c. at-kind (c .before .args .n) 33 (c .match .keys34))
+    (λ c. at-kind (c .before .args .n) 34 (c .match .keys35))
+    (λ c. at-kind (c .before .args .n) 35 (c .match .keys36))
+    (λ c. at-kind (c .before .args .n) 36 (c .match .keys37))
+    (λ c. at-kind (c .before .args .n) 37 (c .match .keys38))
+    (λ c. at-kind (c .before .args .n) 38 (c .match .keys39))
+    (λ c. absurd (true≢false (no-gap 39 (c .match .keys40) (c .before .pre))))
+    (λ c. c .offence-at12 .ensures ∙ at-kind (c .before .before .args .n) 40 (c .before .match .keys41))
+    (λ c. c .mcs-offence .ensures ∙ at-kind (c .before .before .args .n) 41 (c .before .match .keys42))
+    (λ c. at-kind (c .before .args .n) 42 (c .match .keys43))
     (λ c. let s = c .before in past (s .args .n) (s .args .kind) (past-keys messageCount (s .args .kind) (c .match .rest))))

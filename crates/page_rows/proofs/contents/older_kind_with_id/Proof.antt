@@ -1,26 +1,22 @@
 -- `page_rows::contents::older_kind_with_id` meets its contract. The loop's invariant: no message before `k` has the identifier. The measure is what is left of
 -- the messages.
-use mathlib.Core.Path.{_≡_, sym, ap, ap₂, _∙_, subst}
-use mathlib.Core.Logic.{_⊎_, inl, inr}
-use Prim.Native.Nat.{ℕ, _+_, _-_, _<_, _≤_}
+use mathlib.Core.Path.{_≡_, sym, ap, _∙_}
+use Prim.Native.Nat.{ℕ, _+_, _-_, _<_}
 use native.Mathlib.Omega.{arith}
 use borrow.Author.Needs.{needs}
-use borrow.Author.Tests.{leb-true, le-leb}
-use Rattle.signal.proofs.Complement.{half-of}
 use Rattle.page_rows.specs.declared.Message.{Message}
-use Rattle.page_rows.specs.declared.Interface.the-variants.{Older}
-use Rattle.page_rows.specs.Messages.{messageOf, keyOf}
-use Rattle.page_rows.specs.Table.{kindFound}
-use Rattle.page_rows.specs.Interfaces.{safetyKind}
-use Rattle.page_rows.proofs.Interfaces.{older-message, on-found, on-none}
+use Rattle.page_rows.specs.Messages.{kindCount, restKind, keyOf}
+use Rattle.page_rows.proofs.Heads.{kindKey}
+use Rattle.page_rows.proofs.Interfaces.{older-message}
+use Rattle.page_rows.proofs.Scans.{scan-found, scan-none, one-more}
 use Rattle.page_rows.proofs.contents.older_kind_with_id.Statement.{statement}
 use Rattle.page_rows.proofs.contents.older_kind_with_id.Tie as tie
 
 abbrev Inv-messages : tie.InvT-messages
-Inv-messages id extended wanted all k₀ k = (j : ℕ) → j < k → keyOf (messageOf (safetyKind + j) .0) (messageOf (safetyKind + j) .1) ≡ keyOf id extended → ⊥
+Inv-messages id extended wanted all k₀ k = (j : ℕ) → j < k → kindKey (kindCount + j) ≡ keyOf id extended → ⊥
 
 abbrev μ-messages : tie.MeasureT-messages
-μ-messages id extended wanted all k₀ k = 21 - k
+μ-messages id extended wanted all k₀ k = (restKind - kindCount) - k
 
 messages-holds : tie.Need-messages-holds Inv-messages μ-messages
 messages-holds c j h e = absurd (omega arith)
@@ -46,14 +42,6 @@ add-k c = omega arith
 messages-less : tie.Need-messages-less Inv-messages μ-messages
 messages-less c = omega arith
 
--- one message more
-one-more : (P : ℕ → Type 0) (k : ℕ) → ((j : ℕ) → j < k → P j → ⊥) → (P k → ⊥) → (j : ℕ) → j < k + 1 → P j → ⊥
-one-more P k before here j h = go (half-of k j)
-  where
-    go : (j < k) ⊎ (k ≤ j) → P j → ⊥
-    go (inl l) p = before j l p
-    go (inr l) p = let e : j ≡ k = omega arith in here (subst P e p)
-
 messages-again : tie.Need-messages-again Inv-messages μ-messages
 messages-again c =
     let n = c .before in
@@ -61,18 +49,16 @@ messages-again c =
     let w = a .before in
     let g = w .before .args in
     let k = a .messages .k in
-    one-more (λ j. keyOf (messageOf (safetyKind + j) .0) (messageOf (safetyKind + j) .1) ≡ keyOf (g .id) (g .extended)) k (a .messages .inv)
-    (λ e. c .if2 .left (n .key2 .ensures ∙ ap (λ (m : Message). keyOf (m .0) (m .1)) (older-message k) ∙ e ∙ sym (w .key .ensures)))
+    one-more (λ j. kindKey (kindCount + j) ≡ keyOf (g .id) (g .extended)) k (a .messages .inv)
+    (λ e. c .if2 .left (n .key2 .ensures ∙ ap (λ (m : Message). keyOf (m .0) (m .1)) (older-message k (omega arith)) ∙ e ∙ sym (w .key .ensures)))
 
 returns : tie.Need-returns Inv-messages μ-messages
 returns c =
     let a = c .before in
     let g = a .before .before .args in
-    sym (ap kindFound (on-none Older (g .id) (g .extended)
-    (λ j h. let low = leb-true safetyKind j (h .own) in
-    let s : safetyKind + (j - safetyKind) ≡ j = omega arith in
-    a .messages .inv (j - safetyKind) (omega (arith, c .if1 .taken, h .listed .inTable))
-    (ap (λ (i : ℕ). keyOf (messageOf i .0) (messageOf i .1)) s ∙ ap₂ keyOf (h .listed .identifier) (h .listed .form)))))
+    scan-none kindCount restKind (g .id) (g .extended)
+    (λ j low high e. let s : kindCount + (j - kindCount) ≡ j = omega arith in
+    a .messages .inv (j - kindCount) (omega (arith, c .if1 .taken)) (ap kindKey s ∙ e))
 
 returns-2 : tie.Need-returns-2 Inv-messages μ-messages
 returns-2 c =
@@ -81,8 +67,8 @@ returns-2 c =
     let w = a .before in
     let g = w .before .args in
     let k = a .messages .k in
-    on-found Older (g .id) (g .extended) (safetyKind + k) (omega arith) (le-leb safetyKind (safetyKind + k) (omega arith))
-    (ap (λ (m : Message). keyOf (m .0) (m .1)) (sym (older-message k)) ∙ sym (n .key2 .ensures) ∙ c .if2 .taken ∙ w .key .ensures)
+    scan-found kindCount restKind (g .id) (g .extended) (kindCount + k) (omega arith) (omega arith) (omega arith)
+    (ap (λ (m : Message). keyOf (m .0) (m .1)) (sym (older-message k (omega arith))) ∙ sym (n .key2 .ensures) ∙ c .if2 .taken ∙ w .key .ensures)
 
 pub older-kind-with-id-spec : {M : Type 1} → statement M
 older-kind-with-id-spec =
