@@ -31,7 +31,20 @@ pub fn built(kind: usize, f: [i64; 16]) -> Message
         ID => Message::Id(message_charger::build::ev_id(f)),
         SAFETY_CONTROL => Message::SafetyControl(message_safety::build::safety_control(f)),
         SAFETY_STATE => Message::SafetyState(message_safety::build::safety_state(f)),
-        _ => Message::Probes(message_safety::build::probes(f)),
+        PROBES => Message::Probes(message_safety::build::probes(f)),
+        SEQUENCE => Message::Sequence(message_inputs::build::sequence(f)),
+        OUTPUTS => Message::Outputs(message_inputs::build::outputs(f)),
+        BATTERY => Message::Battery(message_vehicle::build::battery(f)),
+        VOLTAGES => Message::Voltages(message_vehicle::build::voltages(f)),
+        CHARGE_LIMITS => Message::ChargeLimits(message_vehicle::build::limits(f)),
+        DISCHARGE_LIMITS => Message::DischargeLimits(message_vehicle::build::limits(f)),
+        ENERGY => Message::Energy(message_vehicle::build::energy(f)),
+        CUI => Message::Cui(message_inputs::build::cui(f)),
+        SECC => Message::Secc(message_inputs::build::secc(f)),
+        SPCC => Message::Spcc(message_inputs::build::spcc(f)),
+        CCS => Message::Ccs(message_inputs::build::ccs(f)),
+        MCS => Message::Mcs(message_inputs::build::mcs(f)),
+        _ => Message::Ocpp(message_vehicle::build::ocpp(f)),
     }
 }
 

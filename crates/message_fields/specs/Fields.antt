@@ -1,9 +1,9 @@
 -- A field's value of its signal's raw number, and back. Every raw number of the pages fits its field (`Field` of proofs/FieldLaws.antt); for any other the
 -- field takes the low bits, or 0.
-use Prim.Native.Nat.{ℕ, _*_, _/_, _%_}
+use Prim.Native.Nat.{ℕ, _*_, _/_, _%_, _^_}
 use mathlib.Core.Bool.{Bool, true, false, cond}
 use mathlib.Core.List.{List}
-use lib.Dec.{eqb}
+use lib.Dec.{eqb, ltb}
 use lib.ListN.{getD}
 use lib.IntN.{ℤ, pos, negsuc, _+ℤ_, _-ℤ_}
 use Rattle.signal.specs.Raw.{fitsIn}
@@ -54,3 +54,7 @@ flagOf z = eqb (naturalOf z % 2) 1
 abbrev pub flagRaw : Bool → ℤ
 flagRaw true = pos 1
 flagRaw false = pos 0
+
+-- 02, Req 14: "Reserved signals are carried, not dropped": up to 60 bits, as they are. A number above every i64 becomes one that no unsigned signal takes.
+abbrev pub wideRaw : ℕ → ℤ
+wideRaw x = cond (ltb x (2 ^ 63)) (pos x) (negsuc 0)

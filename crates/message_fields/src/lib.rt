@@ -2,7 +2,7 @@
 // numbers, and for any that takes such a field by its number. Every raw number of the pages fits its field; for any other the field takes the low bits, or 0.
 ghost use mathlib.Core.Path.{_≡_};
 ghost use lib.IntN.{pos};
-ghost use Rattle.message_fields.specs.Fields.{naturalOf, byteOf, wordOf, shortOf, dutyOf, celsiusOf, kilohmsOf, flagOf, celsiusRaw, kilohmsRaw, flagRaw};
+ghost use Rattle.message_fields.specs.Fields.{naturalOf, byteOf, wordOf, shortOf, dutyOf, celsiusOf, kilohmsOf, flagOf, celsiusRaw, kilohmsRaw, flagRaw, wideRaw};
 
 // The number itself, and 0 for a negative one.
 pub fn natural(z: i64) -> u64
@@ -94,4 +94,14 @@ pub fn flag_raw(b: bool) -> i64
     ensures { λ r. ⌜ r ≡ flagRaw b ⌝ }
 {
     if b { 1 } else { 0 }
+}
+
+// A reserved signal's bits as they are. A number above every i64 becomes one that no unsigned signal takes.
+pub fn wide_raw(x: u64) -> i64
+    ensures { λ r. ⌜ r ≡ wideRaw x ⌝ }
+{
+    if x < 9223372036854775808 {
+        return x as i64;
+    }
+    -1
 }

@@ -2,6 +2,7 @@ pub mod Labelled
 pub mod Signals
 pub mod Fitting
 pub mod Ways
+pub mod Alike
 pub mod Codec
 pub mod Changing
 pub mod Upto

@@ -5,10 +5,12 @@ use lib.IntN.{ℤ}
 use Rattle.page_write.specs.Raws.{pad}
 use Rattle.page_rows.specs.Table.{signalCount}
 use Rattle.message_types.specs.declared.Message.{Message}
-use Rattle.message_types.specs.declared.Message.the-variants.{Status, Parameters, Controller, Session, Change, Control, Finished, Stop, Id, SafetyControl, SafetyState, Probes}
+use Rattle.message_types.specs.declared.Message.the-variants.{Status, Parameters, Controller, Session, Change, Control, Finished, Stop, Id, SafetyControl, SafetyState, Probes, Sequence, Outputs, Battery, Voltages, ChargeLimits, DischargeLimits, Energy, Cui, Secc, Spcc, Ccs, Mcs, Ocpp}
 use Rattle.message_fields.specs.Fields.{hasKilohms}
 use Rattle.message_charger.specs.Take.{statusRaws, parametersRaws, stateRaws, sessionRaws, changeRaws, controlRaws, finishedRaws, stopRaws, idRaws}
 use Rattle.message_safety.specs.Take.{safetyControlRaws, safetyStateRaws, probesRaws}
+use Rattle.message_inputs.specs.Take.{sequenceRaws, outputsRaws, cuiRaws, seccRaws, spccRaws, ccsRaws, mcsRaws}
+use Rattle.message_vehicle.specs.Take.{batteryRaws, voltagesRaws, limitsRaws, energyRaws, ocppRaws}
 
 unfoldable pub rawsOf : Message → List ℤ
 rawsOf (Status m) = statusRaws m
@@ -23,6 +25,19 @@ rawsOf (Id m) = idRaws m
 rawsOf (SafetyControl m) = safetyControlRaws m
 rawsOf (SafetyState m) = safetyStateRaws m
 rawsOf (Probes m) = probesRaws m
+rawsOf (Sequence m) = sequenceRaws m
+rawsOf (Outputs m) = outputsRaws m
+rawsOf (Battery m) = batteryRaws m
+rawsOf (Voltages m) = voltagesRaws m
+rawsOf (ChargeLimits m) = limitsRaws m
+rawsOf (DischargeLimits m) = limitsRaws m
+rawsOf (Energy m) = energyRaws m
+rawsOf (Cui m) = cuiRaws m
+rawsOf (Secc m) = seccRaws m
+rawsOf (Spcc m) = spccRaws m
+rawsOf (Ccs m) = ccsRaws m
+rawsOf (Mcs m) = mcsRaws m
+rawsOf (Ocpp m) = ocppRaws m
 
 -- each value has a raw number
 abbrev pub hasRaws : Message → Bool
@@ -38,6 +53,19 @@ hasRaws (Id m) = true
 hasRaws (SafetyControl m) = true
 hasRaws (SafetyState m) = true
 hasRaws (Probes m) = true
+hasRaws (Sequence m) = true
+hasRaws (Outputs m) = true
+hasRaws (Battery m) = true
+hasRaws (Voltages m) = true
+hasRaws (ChargeLimits m) = true
+hasRaws (DischargeLimits m) = true
+hasRaws (Energy m) = true
+hasRaws (Cui m) = true
+hasRaws (Secc m) = true
+hasRaws (Spcc m) = true
+hasRaws (Ccs m) = true
+hasRaws (Mcs m) = true
+hasRaws (Ocpp m) = true
 
 -- the numbers as `write_raws` of pages takes them
 abbrev pub padded : Message → List ℤ

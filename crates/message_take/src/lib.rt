@@ -21,6 +21,19 @@ pub fn raws(m: Message) -> [i64; 16]
         Message::SafetyControl(s) => message_safety::take::safety_control_raws(s),
         Message::SafetyState(s) => message_safety::take::safety_state_raws(s),
         Message::Probes(s) => message_safety::take::probes_raws(s),
+        Message::Sequence(s) => message_inputs::take::sequence_raws(s),
+        Message::Outputs(s) => message_inputs::take::outputs_raws(s),
+        Message::Battery(s) => message_vehicle::take::battery_raws(s),
+        Message::Voltages(s) => message_vehicle::take::voltages_raws(s),
+        Message::ChargeLimits(s) => message_vehicle::take::limits_raws(s),
+        Message::DischargeLimits(s) => message_vehicle::take::limits_raws(s),
+        Message::Energy(s) => message_vehicle::take::energy_raws(s),
+        Message::Cui(s) => message_inputs::take::cui_raws(s),
+        Message::Secc(s) => message_inputs::take::secc_raws(s),
+        Message::Spcc(s) => message_inputs::take::spcc_raws(s),
+        Message::Ccs(s) => message_inputs::take::ccs_raws(s),
+        Message::Mcs(s) => message_inputs::take::mcs_raws(s),
+        Message::Ocpp(s) => message_vehicle::take::ocpp_raws(s),
     }
 }
 
@@ -41,5 +54,18 @@ pub fn has_raws(m: Message) -> bool
         Message::SafetyControl(_) => true,
         Message::SafetyState(_) => true,
         Message::Probes(_) => true,
+        Message::Sequence(_) => true,
+        Message::Outputs(_) => true,
+        Message::Battery(_) => true,
+        Message::Voltages(_) => true,
+        Message::ChargeLimits(_) => true,
+        Message::DischargeLimits(_) => true,
+        Message::Energy(_) => true,
+        Message::Cui(_) => true,
+        Message::Secc(_) => true,
+        Message::Spcc(_) => true,
+        Message::Ccs(_) => true,
+        Message::Mcs(_) => true,
+        Message::Ocpp(_) => true,
     }
 }

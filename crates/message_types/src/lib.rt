@@ -1,4 +1,4 @@
-// The messages as types, nine of the charger pages and three of the safety controller's: their labels, their fields, and the number of each kind.
+// The messages as types, twenty-two of the charger pages and three of the safety controller's: their labels, their fields, and the number of each kind.
 // For every crate that names a message; how one is made of a frame's raw numbers stands in the crates above.
 ghost use mathlib.Core.Path.{_≡_};
 ghost use Rattle.message_types.specs.KindNumbers.{kindOf};
@@ -86,6 +86,54 @@ pub enum StopOrigin {
     Pev,
 }
 
+pub enum Permission {
+    NotAllowed,
+    Allowed,
+}
+
+pub enum Button {
+    NotPressed,
+    Pressed,
+}
+
+pub enum Step {
+    NotDone,
+    Done,
+}
+
+pub enum Validity {
+    Invalid,
+    Valid,
+}
+
+pub enum PilotState {
+    EOrF,
+    D,
+    C,
+    B,
+    A,
+}
+
+pub enum CeState {
+    Undefined,
+    A,
+    B0,
+    B0Aux,
+    B,
+    BAux,
+    C,
+    CAux,
+    Ec,
+    E,
+}
+
+pub enum Mating {
+    Unmated,
+    Mated,
+    MatedEvAux,
+    MatedEvseAux,
+}
+
 // The state of the control pilot and that of the proximity pin, as the safety controller tells them.
 
 pub enum CpState {
@@ -169,6 +217,110 @@ pub struct EvId {
     pub byte5: u8,
 }
 
+// ---- messages of the charger that document 001 lays out alike: the duty cycle in whole tenths, temperatures in °C
+
+pub struct SequenceControl {
+    pub authorisation: Permission,
+    pub chademo: Button,
+    pub done: Step,
+    pub valid: Validity,
+    pub parameters: Step,
+    pub stop: Button,
+}
+
+pub struct SeccOutputs {
+    pub output1: bool,
+    pub output2: bool,
+    pub output3: bool,
+    pub output4: bool,
+    pub reserved: u64,
+}
+
+pub struct CuiInputs {
+    pub switch0: bool,
+    pub switch1: bool,
+    pub switch2: bool,
+    pub switch3: bool,
+    pub switch4: bool,
+    pub switch5: bool,
+    pub reserved: u64,
+    pub colibri: i16,
+    pub cpu: i16,
+    pub pistol1: i16,
+    pub pistol2: i16,
+}
+
+pub struct SeccInputs {
+    pub input1: bool,
+    pub input2: bool,
+    pub input3: bool,
+    pub input4: bool,
+    pub reserved: u64,
+    pub cpu: i16,
+    pub pistol1: i16,
+    pub pistol2: i16,
+}
+
+pub struct SpccInputs {
+    pub input1: bool,
+    pub input2: bool,
+    pub input3: bool,
+    pub input4: bool,
+    pub reserved: u64,
+    pub cpu0: i16,
+    pub cpu1: i16,
+    pub pt1ka: i16,
+    pub pt1kb: i16,
+    pub pt1ksc: i16,
+    pub pt1ksd: i16,
+}
+
+pub struct CcsExtraInformation {
+    pub state: PilotState,
+    pub duty: u16,
+    pub reserved: u64,
+}
+
+pub struct McsExtraInformation {
+    pub ce: CeState,
+    pub id: Mating,
+    pub reserved: u64,
+}
+
+// ---- messages about the vehicle: volts and amperes in whole tenths, power in kW, energy in kWh, charge in %
+
+pub struct EvInformationBattery {
+    pub capacity: u16,
+    pub present: u8,
+    pub minimum: u8,
+    pub target: u8,
+    pub maximum: u8,
+}
+
+pub struct EvInformationVoltages {
+    pub minimum: u16,
+    pub maximum: u16,
+    pub present: u16,
+}
+
+// What a vehicle can charge with, and what it can be discharged with: two messages of one layout.
+pub struct EvInformationLimits {
+    pub mincurrent: u16,
+    pub maxcurrent: u16,
+    pub minpower: u16,
+    pub maxpower: u16,
+}
+
+pub struct EvInformationEnergy {
+    pub minimum: i16,
+    pub target: i16,
+    pub maximum: i16,
+}
+
+pub struct OcppControl {
+    pub target: i16,
+}
+
 // ---- messages of the safety controller and its host: a duty is the raw number of tenths of a percent, above 1,000 too, and a temperature that of tenths of
 // a degree
 
@@ -212,7 +364,7 @@ pub struct Pt1000State {
     pub failed4: bool,
 }
 
-// ---- the kinds, numbered in the table's order
+// ---- the kinds, numbered in the table's order; from 12 to 29 the kinds of document 001
 
 pub const STATUS: usize = 0;
 
@@ -238,6 +390,32 @@ pub const SAFETY_STATE: usize = 10;
 
 pub const PROBES: usize = 11;
 
+pub const SEQUENCE: usize = 30;
+
+pub const OUTPUTS: usize = 31;
+
+pub const BATTERY: usize = 32;
+
+pub const VOLTAGES: usize = 33;
+
+pub const CHARGE_LIMITS: usize = 34;
+
+pub const DISCHARGE_LIMITS: usize = 35;
+
+pub const ENERGY: usize = 36;
+
+pub const CUI: usize = 37;
+
+pub const SECC: usize = 38;
+
+pub const SPCC: usize = 39;
+
+pub const CCS: usize = 40;
+
+pub const MCS: usize = 41;
+
+pub const OCPP: usize = 42;
+
 pub enum Message {
     Status(PowerModulesStatus),
     Parameters(DcPowerParameters),
@@ -251,6 +429,19 @@ pub enum Message {
     SafetyControl(ChargeControl1),
     SafetyState(ChargeState1),
     Probes(Pt1000State),
+    Sequence(SequenceControl),
+    Outputs(SeccOutputs),
+    Battery(EvInformationBattery),
+    Voltages(EvInformationVoltages),
+    ChargeLimits(EvInformationLimits),
+    DischargeLimits(EvInformationLimits),
+    Energy(EvInformationEnergy),
+    Cui(CuiInputs),
+    Secc(SeccInputs),
+    Spcc(SpccInputs),
+    Ccs(CcsExtraInformation),
+    Mcs(McsExtraInformation),
+    Ocpp(OcppControl),
 }
 
 pub fn kind_of(m: Message) -> usize
@@ -269,5 +460,18 @@ pub fn kind_of(m: Message) -> usize
         Message::SafetyControl(_) => SAFETY_CONTROL,
         Message::SafetyState(_) => SAFETY_STATE,
         Message::Probes(_) => PROBES,
+        Message::Sequence(_) => SEQUENCE,
+        Message::Outputs(_) => OUTPUTS,
+        Message::Battery(_) => BATTERY,
+        Message::Voltages(_) => VOLTAGES,
+        Message::ChargeLimits(_) => CHARGE_LIMITS,
+        Message::DischargeLimits(_) => DISCHARGE_LIMITS,
+        Message::Energy(_) => ENERGY,
+        Message::Cui(_) => CUI,
+        Message::Secc(_) => SECC,
+        Message::Spcc(_) => SPCC,
+        Message::Ccs(_) => CCS,
+        Message::Mcs(_) => MCS,
+        Message::Ocpp(_) => OCPP,
     }
 }

@@ -1,16 +1,17 @@
 -- What is said of each kind of message: the table has it, with as many signals as the kind has numbers, its labels are those of its signals, and its numbers go
 -- there and back (`there`, `back`), by the ways of its kind. Together they make the messages a codec over the table (`codec`). Assumes nothing.
 use mathlib.Core.Path.{_≡_, refl, sym, ap, _∙_}
-use mathlib.Core.Bool.{Bool, true, false}
+use mathlib.Core.Bool.{Bool, true, false, _||_}
 use mathlib.Core.List.{List}
-use Prim.Native.Nat.{ℕ, _≤_}
+use Prim.Native.Nat.{ℕ, _≤_, _<_}
 use native.Mathlib.Omega.{arith}
-use lib.Dec.{leb, lit≤}
+use lib.Dec.{leb, ltb, lit≤}
 use lib.ListN.{length}
 use lib.IntN.{ℤ}
-use borrow.Author.Tests.{ltb-true}
+use borrow.Author.Tests.{leb-true, ltb-true}
 use Rattle.page_rows.specs.declared.Interface.the-variants.{Newer}
 use Rattle.page_rows.specs.Interfaces.{isOn}
+use Rattle.page_rows.specs.Messages.{restKind}
 use Rattle.page_rows.specs.Table.{rows, ofKind, rowsOf, identifierOf, extendedOf}
 use Rattle.page_read.specs.Judge.{unlabelled}
 use Rattle.page_write.specs.Raws.{wholesOf, allTake}
@@ -20,12 +21,14 @@ use Rattle.message_laws.proofs.Fitting.{labelsAt}
 use Rattle.message_laws.proofs.Codec as codecs
 use Rattle.message_laws.proofs.Upto.{From, done, _⨾_, upto}
 use Rattle.message_types.specs.declared.Message.{Message}
-use Rattle.message_types.specs.declared.Message.the-variants.{Status, Parameters, Controller, Session, Change, Control, Finished, Stop, Id, SafetyControl, SafetyState, Probes}
-use Rattle.message_types.specs.KindNumbers.{statusKind, parametersKind, controllerKind, sessionKind, changeKind, controlKind, finishedKind, stopKind, idKind, safetyControlKind, safetyStateKind, probesKind, kindCount, kindOf}
+use Rattle.message_types.specs.declared.Message.the-variants.{Status, Parameters, Controller, Session, Change, Control, Finished, Stop, Id, SafetyControl, SafetyState, Probes, Sequence, Outputs, Battery, Voltages, ChargeLimits, DischargeLimits, Energy, Cui, Secc, Spcc, Ccs, Mcs, Ocpp}
+use Rattle.message_types.specs.KindNumbers.{statusKind, parametersKind, controllerKind, sessionKind, changeKind, controlKind, finishedKind, stopKind, idKind, safetyControlKind, safetyStateKind, probesKind, sequenceKind, outputsKind, batteryKind, voltagesKind, chargeLimitsKind, dischargeLimitsKind, energyKind, cuiKind, seccKind, spccKind, ccsKind, mcsKind, ocppKind, kindCount, messageCount, kindOf}
 use Rattle.message_build.specs.Built.{builtOf, messageOf}
 use Rattle.message_take.specs.Take.{rawsOf, hasRaws}
 use Rattle.message_charger.proofs.Ways.{status-ways, parameters-ways, controller-ways, session-ways, change-ways, control-ways, finished-ways, stop-ways, id-ways}
 use Rattle.message_safety.proofs.Ways.{safety-control-ways, safety-state-ways, probes-ways}
+use Rattle.message_inputs.proofs.Ways.{sequence-ways, outputs-ways, cui-ways, secc-ways, spcc-ways, ccs-ways, mcs-ways}
+use Rattle.message_vehicle.proofs.Ways.{battery-ways, voltages-ways, charge-limits-ways, discharge-limits-ways, energy-ways, ocpp-ways}
 
 -- ---- the table has each kind
 
@@ -37,22 +40,35 @@ longId m = leb 0x800 m
 abbrev InTable : Message → Type 0
 InTable m =
     (length (rawsOf m) ≡ length (rowsOf (kindOf m))) × (1 ≤ length (rowsOf (kindOf m))) × (extendedOf (kindOf m) ≡ longId (identifierOf (kindOf m)))
-    × (isOn Newer (kindOf m) ≡ true)
+    × (isOn Newer (kindOf m) ≡ true) × (kindOf m < messageCount)
 
 in-table : (m : Message) → InTable m
 unfolding rows ofKind rawsOf identifierOf extendedOf
-in-table (Status s) = (refl, lit≤ tt, refl, refl)
-in-table (Parameters s) = (refl, lit≤ tt, refl, refl)
-in-table (Controller s) = (refl, lit≤ tt, refl, refl)
-in-table (Session s) = (refl, lit≤ tt, refl, refl)
-in-table (Change s) = (refl, lit≤ tt, refl, refl)
-in-table (Control s) = (refl, lit≤ tt, refl, refl)
-in-table (Finished s) = (refl, lit≤ tt, refl, refl)
-in-table (Stop s) = (refl, lit≤ tt, refl, refl)
-in-table (Id s) = (refl, lit≤ tt, refl, refl)
-in-table (SafetyControl s) = (refl, lit≤ tt, refl, refl)
-in-table (SafetyState s) = (refl, lit≤ tt, refl, refl)
-in-table (Probes s) = (refl, lit≤ tt, refl, refl)
+in-table (Status s) = (refl, lit≤ tt, refl, refl, lit≤ tt)
+in-table (Parameters s) = (refl, lit≤ tt, refl, refl, lit≤ tt)
+in-table (Controller s) = (refl, lit≤ tt, refl, refl, lit≤ tt)
+in-table (Session s) = (refl, lit≤ tt, refl, refl, lit≤ tt)
+in-table (Change s) = (refl, lit≤ tt, refl, refl, lit≤ tt)
+in-table (Control s) = (refl, lit≤ tt, refl, refl, lit≤ tt)
+in-table (Finished s) = (refl, lit≤ tt, refl, refl, lit≤ tt)
+in-table (Stop s) = (refl, lit≤ tt, refl, refl, lit≤ tt)
+in-table (Id s) = (refl, lit≤ tt, refl, refl, lit≤ tt)
+in-table (SafetyControl s) = (refl, lit≤ tt, refl, refl, lit≤ tt)
+in-table (SafetyState s) = (refl, lit≤ tt, refl, refl, lit≤ tt)
+in-table (Probes s) = (refl, lit≤ tt, refl, refl, lit≤ tt)
+in-table (Sequence s) = (refl, lit≤ tt, refl, refl, lit≤ tt)
+in-table (Outputs s) = (refl, lit≤ tt, refl, refl, lit≤ tt)
+in-table (Battery s) = (refl, lit≤ tt, refl, refl, lit≤ tt)
+in-table (Voltages s) = (refl, lit≤ tt, refl, refl, lit≤ tt)
+in-table (ChargeLimits s) = (refl, lit≤ tt, refl, refl, lit≤ tt)
+in-table (DischargeLimits s) = (refl, lit≤ tt, refl, refl, lit≤ tt)
+in-table (Energy s) = (refl, lit≤ tt, refl, refl, lit≤ tt)
+in-table (Cui s) = (refl, lit≤ tt, refl, refl, lit≤ tt)
+in-table (Secc s) = (refl, lit≤ tt, refl, refl, lit≤ tt)
+in-table (Spcc s) = (refl, lit≤ tt, refl, refl, lit≤ tt)
+in-table (Ccs s) = (refl, lit≤ tt, refl, refl, lit≤ tt)
+in-table (Mcs s) = (refl, lit≤ tt, refl, refl, lit≤ tt)
+in-table (Ocpp s) = (refl, lit≤ tt, refl, refl, lit≤ tt)
 
 pub counted : (m : Message) → length (rawsOf m) ≡ length (rowsOf (kindOf m))
 counted m = in-table m .0
@@ -64,8 +80,12 @@ known-kind m = in-table m .1
 pub one-form : (x y : Message) → identifierOf (kindOf x) ≡ identifierOf (kindOf y) → extendedOf (kindOf x) ≡ extendedOf (kindOf y)
 one-form x y e = in-table x .2 ∙ ap longId e ∙ sym (in-table y .2)
 
-pub own-kind : (m : Message) → isOn Newer (kindOf m) ≡ true
-own-kind m = in-table m .3
+-- a kind of document 000 or 004
+abbrev pub Own : ℕ → Type 0
+Own k = (isOn Newer k ≡ true) × (k < messageCount)
+
+pub own-kind : (m : Message) → Own (kindOf m)
+own-kind m = (in-table m .3, in-table m .4)
 
 -- ---- a message's labels are those of its signals, and its numbers make it again
 
@@ -83,6 +103,19 @@ labels-in (Id s) = id-ways .labelled s
 labels-in (SafetyControl s) = safety-control-ways .labelled s
 labels-in (SafetyState s) = safety-state-ways .labelled s
 labels-in (Probes s) = probes-ways .labelled s
+labels-in (Sequence s) = sequence-ways .labelled s
+labels-in (Outputs s) = outputs-ways .labelled s
+labels-in (Battery s) = battery-ways .labelled s
+labels-in (Voltages s) = voltages-ways .labelled s
+labels-in (ChargeLimits s) = charge-limits-ways .labelled s
+labels-in (DischargeLimits s) = discharge-limits-ways .labelled s
+labels-in (Energy s) = energy-ways .labelled s
+labels-in (Cui s) = cui-ways .labelled s
+labels-in (Secc s) = secc-ways .labelled s
+labels-in (Spcc s) = spcc-ways .labelled s
+labels-in (Ccs s) = ccs-ways .labelled s
+labels-in (Mcs s) = mcs-ways .labelled s
+labels-in (Ocpp s) = ocpp-ways .labelled s
 
 pub there : (m : Message) → hasRaws m ≡ true → allTake (rowsOf (kindOf m)) (rawsOf m) ≡ true → builtOf (kindOf m) (at (rawsOf m)) ≡ m
 unfolding rawsOf builtOf
@@ -98,12 +131,21 @@ there (Id s) h e = ap Id (id-ways .there s h e)
 there (SafetyControl s) h e = ap SafetyControl (safety-control-ways .there s h e)
 there (SafetyState s) h e = ap SafetyState (safety-state-ways .there s h e)
 there (Probes s) h e = ap Probes (probes-ways .there s h e)
+there (Sequence s) h e = ap Sequence (sequence-ways .there s h e)
+there (Outputs s) h e = ap Outputs (outputs-ways .there s h e)
+there (Battery s) h e = ap Battery (battery-ways .there s h e)
+there (Voltages s) h e = ap Voltages (voltages-ways .there s h e)
+there (ChargeLimits s) h e = ap ChargeLimits (charge-limits-ways .there s h e)
+there (DischargeLimits s) h e = ap DischargeLimits (discharge-limits-ways .there s h e)
+there (Energy s) h e = ap Energy (energy-ways .there s h e)
+there (Cui s) h e = ap Cui (cui-ways .there s h e)
+there (Secc s) h e = ap Secc (secc-ways .there s h e)
+there (Spcc s) h e = ap Spcc (spcc-ways .there s h e)
+there (Ccs s) h e = ap Ccs (ccs-ways .there s h e)
+there (Mcs s) h e = ap Mcs (mcs-ways .there s h e)
+there (Ocpp s) h e = ap Ocpp (ocpp-ways .there s h e)
 
 -- ---- a payload's numbers are those of the message that they make
-
--- a kind of document 000 or 004
-abbrev pub Own : ℕ → Type 0
-Own k = isOn Newer k ≡ true
 
 -- what is asked of the message that a payload number makes
 abbrev pub Back : ℕ → List ℤ → Message → Type 0
@@ -133,8 +175,30 @@ returns n =
     ⨾ is n probesKind (λ e. (refl, probes-ways .back n e, probes-ways .backed n))
     ⨾ done
 
+rest-returns : (n : ℕ) → From (Return n) messageCount restKind
+unfolding rawsOf builtOf
+rest-returns n =
+    is n sequenceKind (λ e. (refl, sequence-ways .back n e, sequence-ways .backed n))
+    ⨾ is n outputsKind (λ e. (refl, outputs-ways .back n e, outputs-ways .backed n))
+    ⨾ is n batteryKind (λ e. (refl, battery-ways .back n e, battery-ways .backed n))
+    ⨾ is n voltagesKind (λ e. (refl, voltages-ways .back n e, voltages-ways .backed n))
+    ⨾ is n chargeLimitsKind (λ e. (refl, charge-limits-ways .back n e, charge-limits-ways .backed n))
+    ⨾ is n dischargeLimitsKind (λ e. (refl, discharge-limits-ways .back n e, discharge-limits-ways .backed n))
+    ⨾ is n energyKind (λ e. (refl, energy-ways .back n e, energy-ways .backed n))
+    ⨾ is n cuiKind (λ e. (refl, cui-ways .back n e, cui-ways .backed n))
+    ⨾ is n seccKind (λ e. (refl, secc-ways .back n e, secc-ways .backed n))
+    ⨾ is n spccKind (λ e. (refl, spcc-ways .back n e, spcc-ways .backed n))
+    ⨾ is n ccsKind (λ e. (refl, ccs-ways .back n e, ccs-ways .backed n))
+    ⨾ is n mcsKind (λ e. (refl, mcs-ways .back n e, mcs-ways .backed n))
+    ⨾ is n ocppKind (λ e. (refl, ocpp-ways .back n e, ocpp-ways .backed n))
+    ⨾ done
+
 pub back : (k n : ℕ) → Own k → unlabelled n (rowsOf k) ≡ false → Back k (wholesOf n (rowsOf k)) (builtOf k (at (wholesOf n (rowsOf k))))
-back k n h = upto (returns n) k (omega arith) (ltb-true k kindCount h)
+back k n (on, h) = go (ltb k kindCount) refl on
+  where
+    go : (b : Bool) → ltb k kindCount ≡ b → b || leb restKind k ≡ true → Return n k
+    go true e o = upto (returns n) k (omega arith) (ltb-true k kindCount e)
+    go false e o = upto (rest-returns n) k (leb-true restKind k o) h
 
 -- ---- together
 

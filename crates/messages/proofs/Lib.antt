@@ -4,3 +4,4 @@ pub mod Changing
 pub mod E7
 pub mod Refusing
 pub mod E1
+pub mod Reserved

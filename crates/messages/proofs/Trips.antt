@@ -16,7 +16,7 @@ use Rattle.page_rows.specs.Table.{lengthOf}
 use Rattle.page_read.specs.declared.Judged.{Judged}
 use Rattle.page_read.specs.declared.Judged.the-variants as judged
 use Rattle.page_read.specs.Judge.{judgeOn, judgeOf}
-use Rattle.page_read.proofs.Interfaces.{newer, on-own}
+use Rattle.page_read.proofs.Interfaces.{newer, on-own, on-table}
 use Rattle.page_write.specs.declared.Written.the-variants as written
 use Rattle.message_types.specs.declared.Message.{Message}
 use Rattle.message_types.specs.KindNumbers.{kindOf}
@@ -55,10 +55,12 @@ typed =
     record {
       one = one;
       owned = own-kind;
-      has = own-kind;
+      has = λ x. own-kind x .0;
       formed = one-form;
       read-frame = λ m extended bs k n e o. read-frame m extended bs k n e;
-      frame-read = λ m extended bs x e. let f = frame-read m extended bs x e in (f .0, f .1, f .2, on-own Newer m extended bs (f .0) (f .1) (f .2), f .3);
+      frame-read = λ m extended bs x e. let f = frame-read m extended bs x e in
+          let j = f .2 in
+          (f .0, f .1, j, (on-own Newer m extended bs (f .0) (f .1) j, on-table Newer m extended bs (f .0) (f .1) j), f .3);
       written = λ x buf. refl;
       left = λ x buf. refl;
     }

@@ -1,4 +1,4 @@
--- Reading: 01, "A message is read into one of nine kinds, each with its own fields"; of twelve with 02, Req 04.
+-- Reading: 01, "A message is read into one of nine kinds, each with its own fields"; of twenty-five with 02, Req 04 and Req 14.
 use Prim.Native.Nat.{ℕ}
 use mathlib.Core.Bool.{Bool}
 use mathlib.Core.List.{List}

@@ -1,4 +1,4 @@
--- 01, "Readings from both sides of each edge": E1* to E7*, and those of 02, Req 02 and Req 04: one table under one statement, closed by computing.
+-- 01, "Readings from both sides of each edge": E1* to E7*, and those of 02, Req 02, Req 04 and Req 14: one table under one statement, closed by computing.
 use Prim.Native.Nat.{ℕ}
 use mathlib.Core.Path.{_≡_, refl}
 use mathlib.Core.Bool.{Bool, true, false}
@@ -23,8 +23,17 @@ use Rattle.message_types.specs.declared.ChargeState1.{ChargeState1}
 use Rattle.message_types.specs.declared.Pt1000State.{Pt1000State}
 use Rattle.message_types.specs.declared.CpState.the-variants as cp
 use Rattle.message_types.specs.declared.PpState.the-variants as pp
+use Rattle.message_types.specs.declared.SequenceControl.{SequenceControl}
+use Rattle.message_types.specs.declared.SeccOutputs.{SeccOutputs}
+use Rattle.message_types.specs.declared.EvInformationBattery.{EvInformationBattery}
+use Rattle.message_types.specs.declared.EvInformationEnergy.{EvInformationEnergy}
+use Rattle.message_types.specs.declared.OcppControl.{OcppControl}
+use Rattle.message_types.specs.declared.Permission.the-variants as permission
+use Rattle.message_types.specs.declared.Button.the-variants as button
+use Rattle.message_types.specs.declared.Step.the-variants as step
+use Rattle.message_types.specs.declared.Validity.the-variants as validity
 use Rattle.message_types.specs.declared.Message.{Message}
-use Rattle.message_types.specs.declared.Message.the-variants.{Status, SafetyControl, SafetyState, Probes}
+use Rattle.message_types.specs.declared.Message.the-variants.{Status, SafetyControl, SafetyState, Probes, Sequence, Outputs, Battery, Energy, Ocpp}
 use Rattle.messages.specs.declared.Reading.{Reading}
 use Rattle.messages.specs.declared.Reading.the-variants.{Accepted, Refused}
 use Rattle.messages.specs.Read.{readOf}
@@ -105,6 +114,32 @@ first t =
       failed4 = false;
     }
 
+-- allowed to charge, authorisation done and valid, parameters done, and no button pressed
+abbrev sequence : SequenceControl
+sequence =
+    record {
+      authorisation = permission.Allowed;
+      chademo = button.NotPressed;
+      done = step.Done;
+      valid = validity.Valid;
+      parameters = step.Done;
+      stop = button.NotPressed;
+    }
+
+abbrev pub outputs : ℕ → SeccOutputs
+outputs reserved = record { output1 = true; output2 = false; output3 = false; output4 = true; reserved = reserved }
+
+-- at 37 %, to 80 %, within 10 and 95 %
+abbrev battery : ℕ → EvInformationBattery
+battery capacity = record { capacity = capacity; present = 37; minimum = 10; target = 80; maximum = 95 }
+
+-- a vehicle that gives energy back, and takes 5 kWh at most
+abbrev energy : EvInformationEnergy
+energy = record { minimum = negsuc 9; target = negsuc 1; maximum = pos 5 }
+
+abbrev ocpp : ℤ → OcppControl
+ocpp target = record { target = target }
+
 abbrev zeros : List ℕ
 zeros = 0 ∷ 0 ∷ 0 ∷ 0 ∷ 0 ∷ 0 ∷ 0 ∷ 0 ∷ []
 
@@ -159,8 +194,32 @@ table =
     ∷ reads extended 8 (0xFE ∷ 0x70 ∷ 0 ∷ 0 ∷ 0 ∷ 0 ∷ 0 ∷ 0 ∷ []) (Refused UnknownIdentifier)
     ∷ reads standard 9 (0x82 ∷ 0x15 ∷ 0 ∷ 0 ∷ 0 ∷ 0 ∷ 0 ∷ 0 ∷ []) (Refused UnknownIdentifier)
     ∷ reads standard 0x63000 (0xA0 ∷ 0x0F ∷ 0x83 ∷ 0xFF ∷ 0x41 ∷ 0x00 ∷ 0x01 ∷ 0x64 ∷ []) (Refused UnknownIdentifier)
+    -- Sequence_Control of 000, and with a bit that no signal covers: 6; 001's identifier of it: 3
+    ∷ reads extended 0x63002 (0x01 ∷ 0x07 ∷ 0x00 ∷ []) (Accepted (Sequence sequence))
+    ∷ reads extended 0x63002 (0x05 ∷ 0x07 ∷ 0x00 ∷ []) (Refused UncoveredBit)
+    ∷ reads extended 0x63002 (0x01 ∷ 0x0F ∷ 0x00 ∷ []) (Refused UncoveredBit)
+    ∷ reads extended 0x63002 (0x01 ∷ 0x07 ∷ 0x80 ∷ []) (Refused UncoveredBit)
+    ∷ reads extended 0x60012 (0x01 ∷ 0x07 ∷ 0x00 ∷ []) (Refused UnknownIdentifier)
+    -- bit 40 of ADM_CS_SPCC_Inputs: 6; CP_State 1, between E or F and D: 5
+    ∷ reads extended 0x6b202 (0 ∷ 0 ∷ 0 ∷ 0 ∷ 0 ∷ 0x01 ∷ 0 ∷ 0 ∷ []) (Refused UncoveredBit)
+    ∷ reads extended 0x6b203 (0x01 ∷ 0 ∷ 0 ∷ 0 ∷ 0 ∷ 0 ∷ 0 ∷ 0 ∷ []) (Refused (NoLabel 0))
+    -- "Reserved signals are carried, not dropped": 60 bits of ADM_CS_SECC_Outputs; one bit more: 7
+    ∷ reads extended 0x63201 (0x19 ∷ 0x32 ∷ 0x54 ∷ 0x76 ∷ 0x98 ∷ 0xBA ∷ 0xDC ∷ 0xFE ∷ []) (Accepted (Outputs (outputs 0xFEDCBA987654321)))
+    ∷ writes (Outputs (outputs 0xFFFFFFFFFFFFFFF)) zeros (written.Wrote 0x63201 8) (0xF9 ∷ 0xFF ∷ 0xFF ∷ 0xFF ∷ 0xFF ∷ 0xFF ∷ 0xFF ∷ 0xFF ∷ [])
+    ∷ writes (Outputs (outputs 0x1000000000000000)) zeros (written.Refused NoRawNumber) zeros
+    -- a battery of 101 kWh: its capacity is not doubled as in 001
+    ∷ reads extended 0x6b100 (0x65 ∷ 0x00 ∷ 0x25 ∷ 0x0A ∷ 0x50 ∷ 0x5F ∷ []) (Accepted (Battery (battery 101)))
+    ∷ writes (Battery (battery 0xFFFF)) zeros (written.Wrote 0x6b100 6) (0xFF ∷ 0xFF ∷ 0x25 ∷ 0x0A ∷ 0x50 ∷ 0x5F ∷ 0 ∷ 0 ∷ [])
+    -- -10, -2 and 5 kWh; one byte less: 4
+    ∷ reads extended 0x6b104 (0xF6 ∷ 0xFF ∷ 0xFE ∷ 0xFF ∷ 0x05 ∷ 0x00 ∷ []) (Accepted (Energy energy))
+    ∷ reads extended 0x6b104 (0xF6 ∷ 0xFF ∷ 0xFE ∷ 0xFF ∷ 0x05 ∷ []) (Refused TooShort)
+    -- -12.5 A as the target; the least, and one less: 7
+    ∷ reads extended 0x6b300 (0x83 ∷ 0xFF ∷ []) (Accepted (Ocpp (ocpp (negsuc 124))))
+    ∷ writes (Ocpp (ocpp (negsuc 124))) zeros (written.Wrote 0x6b300 2) (0x83 ∷ 0xFF ∷ 0 ∷ 0 ∷ 0 ∷ 0 ∷ 0 ∷ 0 ∷ [])
+    ∷ changes extended 0x6b300 (0x83 ∷ 0xFF ∷ []) 0 (negsuc 32767) (0x00 ∷ 0x80 ∷ [])
+    ∷ keeps extended 0x6b300 (0x83 ∷ 0xFF ∷ []) 0 (negsuc 32768) NoRawNumber
     ∷ []
 
 pub readings : All table
 unfolding readOf messageOf builtOf rawsOf writeOf bufferAfter rows ofKind firstAt covered identifierOf lengthOf bigOf unlabelled offender strayBelow judgedNumber judgeOf changeOf getBits putBits leNumber leBytes beNumber beBytes storedIn toSigned ofSigned pages.rawsOf pages.wholesOf pages.pad pages.allTake pages.packedOn pages.writeRawsOf pages.bufferAfter
-readings = (refl, (refl, (refl, (refl, (refl, (refl, (refl, (refl, ((refl, refl), ((refl, refl), ((refl, refl), ((refl, refl), (refl, (refl, (refl, ((refl, refl), (refl, (refl, (refl, ((refl, refl), ((refl, refl), ((refl, refl), (refl, (refl, (refl, ((refl, refl), (refl, (refl, (refl, (refl, (refl, (refl, (refl, tt)))))))))))))))))))))))))))))))))
+readings = (refl, (refl, (refl, (refl, (refl, (refl, (refl, (refl, ((refl, refl), ((refl, refl), ((refl, refl), ((refl, refl), (refl, (refl, (refl, ((refl, refl), (refl, (refl, (refl, ((refl, refl), ((refl, refl), ((refl, refl), (refl, (refl, (refl, ((refl, refl), (refl, (refl, (refl, (refl, (refl, (refl, (refl, (refl, (refl, (refl, (refl, (refl, (refl, (refl, (refl, ((refl, refl), ((refl, refl), (refl, ((refl, refl), (refl, (refl, (refl, ((refl, refl), (refl, (refl, tt)))))))))))))))))))))))))))))))))))))))))))))))))))

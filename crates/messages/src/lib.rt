@@ -13,7 +13,7 @@ pub enum Reading {
     Refused(Refusal),
 }
 
-// 01: "A message is read into one of nine kinds, each with its own fields"; of twelve with 02, Req 04.
+// 01: "A message is read into one of nine kinds, each with its own fields"; of twenty-five with 02, Req 04 and Req 14.
 pub fn read(id: u32, extended: bool, bytes: &[u8]) -> Reading
     ensures { λ r. ⌜ r ≡ readOf id extended (now (bytes .entry)) ⌝ }
 {

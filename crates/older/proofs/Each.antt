@@ -3,13 +3,15 @@
 use mathlib.Core.Path.{_≡_, refl, sym, ap, _∙_}
 use mathlib.Core.Bool.{Bool, true, false}
 use mathlib.Core.List.{List}
-use Prim.Native.Nat.{ℕ, _≤_, _<_}
-use lib.Dec.{leb, lit≤}
+use Prim.Native.Nat.{ℕ, _≤_}
+use lib.Dec.{leb, ltb, lit≤}
 use lib.ListN.{length}
 use lib.IntN.{ℤ}
-use borrow.Author.Tests.{leb-true}
+use borrow.Author.Tests.{leb-true, ltb-true}
 use Rattle.page_rows.specs.declared.Interface.the-variants.{Older}
+use Rattle.page_rows.specs.Messages.{restKind}
 use Rattle.page_rows.specs.Interfaces.{safetyKind, isOn}
+use Rattle.page_rows.proofs.Rules.{both-true}
 use Rattle.page_rows.specs.Table.{rows, ofKind, rowsOf, identifierOf, extendedOf}
 use Rattle.page_read.specs.Judge.{unlabelled}
 use Rattle.page_write.specs.Raws.{wholesOf, allTake}
@@ -19,12 +21,13 @@ use Rattle.message_laws.proofs.Codec as codecs
 use Rattle.message_laws.proofs.Upto.{From, done, _⨾_, upto}
 use Rattle.older_types.specs.declared.Message.{Message}
 use Rattle.older_types.specs.declared.Message.the-variants.{SafetyControl, SafetyState, Probes, Status, Limits, Sequence, Outputs, Session, Insulation, Precharge, Change, Charging, Stop, Finished, Controller, Cui, Secc, Id, Spcc, Ccs, Mcs}
-use Rattle.older_types.specs.KindNumbers.{safetyControlKind, safetyStateKind, probesKind, statusKind, limitsKind, sequenceKind, outputsKind, sessionKind, insulationKind, prechargeKind, changeKind, chargingKind, stopKind, finishedKind, controllerKind, cuiKind, seccKind, idKind, spccKind, ccsKind, mcsKind, messageCount, kindOf}
+use Rattle.older_types.specs.KindNumbers.{safetyControlKind, safetyStateKind, probesKind, statusKind, limitsKind, sequenceKind, outputsKind, sessionKind, insulationKind, prechargeKind, changeKind, chargingKind, stopKind, finishedKind, controllerKind, cuiKind, seccKind, idKind, spccKind, ccsKind, mcsKind, kindOf}
 use Rattle.older_build.specs.Built.{builtOf}
 use Rattle.older_take.specs.Take.{rawsOf, hasRaws}
 use Rattle.message_safety.proofs.Ways.{safety-control-ways, safety-state-ways, probes-ways}
-use Rattle.older_power.proofs.Ways.{status-ways, limits-ways, sequence-ways, outputs-ways, session-ways, insulation-ways, precharge-ways, change-ways, charging-ways}
-use Rattle.older_inputs.proofs.Ways.{stop-ways, finished-ways, controller-ways, cui-ways, secc-ways, id-ways, spcc-ways, ccs-ways, mcs-ways}
+use Rattle.older_power.proofs.Ways.{status-ways, limits-ways, session-ways, insulation-ways, precharge-ways, change-ways, charging-ways}
+use Rattle.older_controller.proofs.Ways.{stop-ways, finished-ways, controller-ways, id-ways}
+use Rattle.older.proofs.Alike.{sequence-ways, outputs-ways, cui-ways, secc-ways, spcc-ways, ccs-ways, mcs-ways}
 
 -- ---- the table has each kind
 
@@ -36,31 +39,31 @@ longId m = leb 0x800 m
 abbrev InTable : Message → Type 0
 InTable m =
     (length (rawsOf m) ≡ length (rowsOf (kindOf m))) × (1 ≤ length (rowsOf (kindOf m))) × (extendedOf (kindOf m) ≡ longId (identifierOf (kindOf m)))
-    × (isOn Older (kindOf m) ≡ true) × (kindOf m < messageCount)
+    × (isOn Older (kindOf m) ≡ true)
 
 in-table : (m : Message) → InTable m
 unfolding rows ofKind rawsOf identifierOf extendedOf
-in-table (SafetyControl s) = (refl, lit≤ tt, refl, refl, lit≤ tt)
-in-table (SafetyState s) = (refl, lit≤ tt, refl, refl, lit≤ tt)
-in-table (Probes s) = (refl, lit≤ tt, refl, refl, lit≤ tt)
-in-table (Status s) = (refl, lit≤ tt, refl, refl, lit≤ tt)
-in-table (Limits s) = (refl, lit≤ tt, refl, refl, lit≤ tt)
-in-table (Sequence s) = (refl, lit≤ tt, refl, refl, lit≤ tt)
-in-table (Outputs s) = (refl, lit≤ tt, refl, refl, lit≤ tt)
-in-table (Session s) = (refl, lit≤ tt, refl, refl, lit≤ tt)
-in-table (Insulation s) = (refl, lit≤ tt, refl, refl, lit≤ tt)
-in-table (Precharge s) = (refl, lit≤ tt, refl, refl, lit≤ tt)
-in-table (Change s) = (refl, lit≤ tt, refl, refl, lit≤ tt)
-in-table (Charging s) = (refl, lit≤ tt, refl, refl, lit≤ tt)
-in-table (Stop s) = (refl, lit≤ tt, refl, refl, lit≤ tt)
-in-table (Finished s) = (refl, lit≤ tt, refl, refl, lit≤ tt)
-in-table (Controller s) = (refl, lit≤ tt, refl, refl, lit≤ tt)
-in-table (Cui s) = (refl, lit≤ tt, refl, refl, lit≤ tt)
-in-table (Secc s) = (refl, lit≤ tt, refl, refl, lit≤ tt)
-in-table (Id s) = (refl, lit≤ tt, refl, refl, lit≤ tt)
-in-table (Spcc s) = (refl, lit≤ tt, refl, refl, lit≤ tt)
-in-table (Ccs s) = (refl, lit≤ tt, refl, refl, lit≤ tt)
-in-table (Mcs s) = (refl, lit≤ tt, refl, refl, lit≤ tt)
+in-table (SafetyControl s) = (refl, lit≤ tt, refl, refl)
+in-table (SafetyState s) = (refl, lit≤ tt, refl, refl)
+in-table (Probes s) = (refl, lit≤ tt, refl, refl)
+in-table (Status s) = (refl, lit≤ tt, refl, refl)
+in-table (Limits s) = (refl, lit≤ tt, refl, refl)
+in-table (Sequence s) = (refl, lit≤ tt, refl, refl)
+in-table (Outputs s) = (refl, lit≤ tt, refl, refl)
+in-table (Session s) = (refl, lit≤ tt, refl, refl)
+in-table (Insulation s) = (refl, lit≤ tt, refl, refl)
+in-table (Precharge s) = (refl, lit≤ tt, refl, refl)
+in-table (Change s) = (refl, lit≤ tt, refl, refl)
+in-table (Charging s) = (refl, lit≤ tt, refl, refl)
+in-table (Stop s) = (refl, lit≤ tt, refl, refl)
+in-table (Finished s) = (refl, lit≤ tt, refl, refl)
+in-table (Controller s) = (refl, lit≤ tt, refl, refl)
+in-table (Cui s) = (refl, lit≤ tt, refl, refl)
+in-table (Secc s) = (refl, lit≤ tt, refl, refl)
+in-table (Id s) = (refl, lit≤ tt, refl, refl)
+in-table (Spcc s) = (refl, lit≤ tt, refl, refl)
+in-table (Ccs s) = (refl, lit≤ tt, refl, refl)
+in-table (Mcs s) = (refl, lit≤ tt, refl, refl)
 
 pub counted : (m : Message) → length (rawsOf m) ≡ length (rowsOf (kindOf m))
 counted m = in-table m .0
@@ -74,10 +77,10 @@ one-form x y e = in-table x .2 ∙ ap longId e ∙ sym (in-table y .2)
 
 -- a kind of document 004 or 001
 abbrev pub Own : ℕ → Type 0
-Own k = (isOn Older k ≡ true) × (k < messageCount)
+Own k = isOn Older k ≡ true
 
 pub own-kind : (m : Message) → Own (kindOf m)
-own-kind m = (in-table m .3, in-table m .4)
+own-kind m = in-table m .3
 
 -- ---- a message's labels are those of its signals, and its numbers make it again
 
@@ -142,7 +145,7 @@ Return n k = unlabelled n (rowsOf k) ≡ false → Back k (wholesOf n (rowsOf k)
 is : (n k : ℕ) → Return n k → Return n k
 is n k r = r
 
-returns : (n : ℕ) → From (Return n) messageCount safetyKind
+returns : (n : ℕ) → From (Return n) restKind safetyKind
 unfolding rawsOf builtOf
 returns n =
     is n safetyControlKind (λ e. (refl, safety-control-ways .back n e, safety-control-ways .backed n))
@@ -169,7 +172,9 @@ returns n =
     ⨾ done
 
 pub back : (k n : ℕ) → Own k → unlabelled n (rowsOf k) ≡ false → Back k (wholesOf n (rowsOf k)) (builtOf k (at (wholesOf n (rowsOf k))))
-back k n h = upto (returns n) k (leb-true safetyKind k (h .0)) (h .1)
+back k n h =
+    let o = both-true (leb safetyKind k) (ltb k restKind) h in
+    upto (returns n) k (leb-true safetyKind k (o .0)) (ltb-true k restKind (o .1))
 
 -- ---- together
 

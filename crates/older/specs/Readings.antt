@@ -22,14 +22,14 @@ use Rattle.message_types.specs.declared.Protocol.the-variants as protocol
 use Rattle.message_types.specs.declared.Plug.the-variants as plug
 use Rattle.older_types.specs.declared.PowerModulesStatus.{PowerModulesStatus}
 use Rattle.older_types.specs.declared.PowerModulesLimits.{PowerModulesLimits}
-use Rattle.older_types.specs.declared.SequenceControl.{SequenceControl}
-use Rattle.older_types.specs.declared.SeccOutputs.{SeccOutputs}
+use Rattle.message_types.specs.declared.SequenceControl.{SequenceControl}
+use Rattle.message_types.specs.declared.SeccOutputs.{SeccOutputs}
 use Rattle.older_types.specs.declared.NewChargeSession.{NewChargeSession}
 use Rattle.older_types.specs.declared.ChargingLoop.{ChargingLoop}
-use Rattle.older_types.specs.declared.Permission.the-variants as permission
-use Rattle.older_types.specs.declared.Button.the-variants as button
-use Rattle.older_types.specs.declared.Step.the-variants as step
-use Rattle.older_types.specs.declared.Validity.the-variants as validity
+use Rattle.message_types.specs.declared.Permission.the-variants as permission
+use Rattle.message_types.specs.declared.Button.the-variants as button
+use Rattle.message_types.specs.declared.Step.the-variants as step
+use Rattle.message_types.specs.declared.Validity.the-variants as validity
 use Rattle.older_types.specs.declared.Message.{Message}
 use Rattle.older_types.specs.declared.Message.the-variants.{Status, Limits, Sequence, Outputs, Session, Charging, SafetyControl}
 use Rattle.older.specs.declared.Reading.{Reading}

@@ -9,8 +9,9 @@ use Rattle.older_types.specs.declared.Message.the-variants.{SafetyControl, Safe
 use Rattle.older_types.specs.KindNumbers.{safetyControlKind, safetyStateKind, probesKind, statusKind, limitsKind, sequenceKind, outputsKind, sessionKind, insulationKind, prechargeKind, changeKind, chargingKind, stopKind, finishedKind, controllerKind, cuiKind, seccKind, idKind, spccKind, ccsKind}
 use Rattle.message_fields.specs.Fields.{at}
 use Rattle.message_safety.specs.Build.{safetyControlOf, safetyStateOf, probesOf}
-use Rattle.older_power.specs.Build.{statusOf, limitsOf, sequenceOf, outputsOf, sessionOf, insulationOf, prechargeOf, changeOf, chargingOf}
-use Rattle.older_inputs.specs.Build.{stopOf, finishedOf, controllerOf, cuiOf, seccOf, idOf, spccOf, ccsOf, mcsOf}
+use Rattle.message_inputs.specs.Build.{sequenceOf, outputsOf, cuiOf, seccOf, spccOf, ccsOf, mcsOf}
+use Rattle.older_power.specs.Build.{statusOf, limitsOf, sessionOf, insulationOf, prechargeOf, changeOf, chargingOf}
+use Rattle.older_controller.specs.Build.{stopOf, finishedOf, controllerOf, idOf}
 
 -- the message of a kind; for a number that is no kind of the interface, the last one
 unfoldable pub builtOf : ℕ → (ℕ → ℤ) → Message

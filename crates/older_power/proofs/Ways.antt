@@ -1,22 +1,22 @@
--- The messages of document 001 from Power_Modules_Status to Charging_Loop, there and back (`Ways` of message_laws): each field and each
+-- The messages of document 001 from Power_Modules_Status to Charging_Loop that 000 has not alike, there and back (`Ways` of message_laws): each field and each
 -- label at its signal. Assumes nothing.
 use mathlib.Core.Path.{refl}
 use mathlib.Core.List.{[], _∷_}
 use Rattle.page_rows.specs.Table.{rows, ofKind}
 use Rattle.page_write.specs.Raws.{wholeAt, wholesOf}
-use Rattle.message_fields.proofs.FieldLaws.{bytes, degrees, flags, shorts, words, kilohms-there, kilohms-back, kilohms-even}
+use Rattle.message_fields.proofs.FieldLaws.{bytes, degrees, shorts, words, kilohms-there, kilohms-back, kilohms-even}
+use Rattle.message_fields.proofs.Wides.{wides}
 use Rattle.message_laws.proofs.Signals.{fits-at, whole-fits, field-back, label-back}
 use Rattle.message_laws.proofs.Ways.{Ways, always}
 use Rattle.message_laws.proofs.Labelled.{signalAt}
 use Rattle.message_fields.specs.Fields.{hasKilohms}
 use Rattle.older_fields.specs.Forms.{hasCapacity}
-use Rattle.older_fields.proofs.Wides.{wides}
 use Rattle.older_types.specs.declared.PowerModulesStatus.{PowerModulesStatus}
 use Rattle.older_types.specs.declared.NewChargeSession.{NewChargeSession}
-use Rattle.older_types.specs.KindNumbers.{statusKind, limitsKind, sequenceKind, outputsKind, sessionKind, insulationKind, prechargeKind, changeKind, chargingKind}
-use Rattle.older_types.proofs.Marks.{button-label, enable-label, parameters-label, permission-label, plug-label, protocol-label, status-label, step-label, stop-label, validity-label}
-use Rattle.older_power.specs.Build.{statusOf, limitsOf, sequenceOf, outputsOf, sessionOf, insulationOf, prechargeOf, changeOf, chargingOf}
-use Rattle.older_power.specs.Take.{statusRaws, limitsRaws, sequenceRaws, outputsRaws, sessionRaws, insulationRaws, prechargeRaws, changeRaws, chargingRaws}
+use Rattle.older_types.specs.KindNumbers.{statusKind, limitsKind, sessionKind, insulationKind, prechargeKind, changeKind, chargingKind}
+use Rattle.older_types.proofs.Marks.{enable-label, plug-label, protocol-label, status-label}
+use Rattle.older_power.specs.Build.{statusOf, limitsOf, sessionOf, insulationOf, prechargeOf, changeOf, chargingOf}
+use Rattle.older_power.specs.Take.{statusRaws, limitsRaws, sessionRaws, insulationRaws, prechargeRaws, changeRaws, chargingRaws}
 
 pub status-ways : Ways statusKind statusRaws (λ (m : PowerModulesStatus). hasKilohms (m .insulation)) statusOf
 unfolding rows ofKind wholesOf
@@ -60,55 +60,6 @@ limits-ways =
       back = λ n e i. field-back n limitsKind 0 tt (words 16 tt) i
           ∷ field-back n limitsKind 1 tt (shorts 16 tt) i
           ∷ field-back n limitsKind 2 tt (wides 32 tt) i
-          ∷ [];
-      backed = λ n. refl;
-    }
-
-pub sequence-ways : Ways sequenceKind sequenceRaws always sequenceOf
-unfolding rows ofKind wholesOf
-sequence-ways =
-    record {
-      counted = λ s. refl;
-      labelled = λ s. rw (permission-label .labelled (s .authorisation), button-label .labelled (s .chademo), step-label .labelled (s .done), validity-label .labelled (s .valid), parameters-label .labelled (s .parameters), stop-label .labelled (s .stop));
-      there = λ s h e.
-          λ i. record {
-            authorisation = permission-label .there (s .authorisation) i;
-            chademo = button-label .there (s .chademo) i;
-            done = step-label .there (s .done) i;
-            valid = validity-label .there (s .valid) i;
-            parameters = parameters-label .there (s .parameters) i;
-            stop = stop-label .there (s .stop) i;
-          };
-      back = λ n e i. label-back n sequenceKind e 0 tt permission-label i
-          ∷ label-back n sequenceKind e 1 tt button-label i
-          ∷ label-back n sequenceKind e 2 tt step-label i
-          ∷ label-back n sequenceKind e 3 tt validity-label i
-          ∷ label-back n sequenceKind e 4 tt parameters-label i
-          ∷ label-back n sequenceKind e 5 tt stop-label i
-          ∷ [];
-      backed = λ n. refl;
-    }
-
-pub outputs-ways : Ways outputsKind outputsRaws always outputsOf
-unfolding rows ofKind wholesOf
-outputs-ways =
-    record {
-      counted = λ s. refl;
-      labelled = λ s. refl;
-      there = λ s h e.
-          let f = fits-at outputsKind (outputsRaws s) e in
-          λ i. record {
-            output1 = flags .there (s .output1) (f 0 tt) i;
-            output2 = flags .there (s .output2) (f 1 tt) i;
-            output3 = flags .there (s .output3) (f 2 tt) i;
-            output4 = flags .there (s .output4) (f 3 tt) i;
-            reserved = wides 60 tt .there (s .reserved) (f 4 tt) i;
-          };
-      back = λ n e i. field-back n outputsKind 0 tt flags i
-          ∷ field-back n outputsKind 1 tt flags i
-          ∷ field-back n outputsKind 2 tt flags i
-          ∷ field-back n outputsKind 3 tt flags i
-          ∷ field-back n outputsKind 4 tt (wides 60 tt) i
           ∷ [];
       backed = λ n. refl;
     }

@@ -1,20 +1,17 @@
--- The raw number of each signal of the messages of document 001 from Power_Modules_Status to Charging_Loop, in
+-- The raw number of each signal of the messages of document 001 from Power_Modules_Status to Charging_Loop that 000 has not alike, in
 -- the table's order.
 use mathlib.Core.List.{List, [], _∷_}
 use lib.IntN.{ℤ, pos}
 use Rattle.older_types.specs.declared.PowerModulesStatus.{PowerModulesStatus}
 use Rattle.older_types.specs.declared.PowerModulesLimits.{PowerModulesLimits}
-use Rattle.older_types.specs.declared.SequenceControl.{SequenceControl}
-use Rattle.older_types.specs.declared.SeccOutputs.{SeccOutputs}
 use Rattle.older_types.specs.declared.NewChargeSession.{NewChargeSession}
 use Rattle.older_types.specs.declared.InsulationTest.{InsulationTest}
 use Rattle.older_types.specs.declared.PrechargeTarget.{PrechargeTarget}
 use Rattle.older_types.specs.declared.ChargeStatusChange.{ChargeStatusChange}
 use Rattle.older_types.specs.declared.ChargingLoop.{ChargingLoop}
 use Rattle.message_types.specs.Labels as label
-use Rattle.older_types.specs.Labels as older
-use Rattle.message_fields.specs.Fields.{celsiusRaw, flagRaw, kilohmsRaw}
-use Rattle.older_fields.specs.Forms.{wideRaw, capacityRaw}
+use Rattle.message_fields.specs.Fields.{celsiusRaw, kilohmsRaw, wideRaw}
+use Rattle.older_fields.specs.Forms.{capacityRaw}
 
 abbrev pub statusRaws : PowerModulesStatus → List ℤ
 statusRaws m =
@@ -23,14 +20,6 @@ statusRaws m =
 
 abbrev pub limitsRaws : PowerModulesLimits → List ℤ
 limitsRaws m = pos (m .voltage) ∷ m .current ∷ wideRaw (m .reserved) ∷ []
-
-abbrev pub sequenceRaws : SequenceControl → List ℤ
-sequenceRaws m =
-    pos (older.permissionNumber (m .authorisation)) ∷ pos (older.buttonNumber (m .chademo)) ∷ pos (older.stepNumber (m .done))
-    ∷ pos (older.validityNumber (m .valid)) ∷ pos (older.stepNumber (m .parameters)) ∷ pos (older.buttonNumber (m .stop)) ∷ []
-
-abbrev pub outputsRaws : SeccOutputs → List ℤ
-outputsRaws m = flagRaw (m .output1) ∷ flagRaw (m .output2) ∷ flagRaw (m .output3) ∷ flagRaw (m .output4) ∷ wideRaw (m .reserved) ∷ []
 
 abbrev pub sessionRaws : NewChargeSession → List ℤ
 sessionRaws m =

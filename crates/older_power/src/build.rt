@@ -1,10 +1,9 @@
 // A message of its signals' raw numbers, in the table's order.
 ghost use mathlib.Core.Path.{_≡_};
 ghost use Rattle.message_fields.specs.Fields.{at};
-ghost use Rattle.older_power.specs.Build.{statusOf, limitsOf, sequenceOf, outputsOf, sessionOf, insulationOf, prechargeOf, changeOf, chargingOf};
+ghost use Rattle.older_power.specs.Build.{statusOf, limitsOf, sessionOf, insulationOf, prechargeOf, changeOf, chargingOf};
 use message_fields::byte;
 use message_fields::celsius;
-use message_fields::flag;
 use message_fields::kilohms;
 use message_fields::natural;
 use message_fields::short;
@@ -18,9 +17,6 @@ use older_types::NewChargeSession;
 use older_types::PowerModulesLimits;
 use older_types::PowerModulesStatus;
 use older_types::PrechargeTarget;
-use older_types::SeccOutputs;
-use older_types::SequenceControl;
-use older_types::labels::*;
 
 pub fn status(f: [i64; 16]) -> PowerModulesStatus
     ensures { λ r. ⌜ r ≡ statusOf (at f) ⌝ }
@@ -42,31 +38,6 @@ pub fn limits(f: [i64; 16]) -> PowerModulesLimits
         voltage: word(f[0]),
         current: short(f[1]),
         reserved: natural(f[2]),
-    }
-}
-
-pub fn sequence(f: [i64; 16]) -> SequenceControl
-    ensures { λ r. ⌜ r ≡ sequenceOf (at f) ⌝ }
-{
-    SequenceControl {
-        authorisation: permission_of(natural(f[0])),
-        chademo: button_of(natural(f[1])),
-        done: step_of(natural(f[2])),
-        valid: validity_of(natural(f[3])),
-        parameters: step_of(natural(f[4])),
-        stop: button_of(natural(f[5])),
-    }
-}
-
-pub fn outputs(f: [i64; 16]) -> SeccOutputs
-    ensures { λ r. ⌜ r ≡ outputsOf (at f) ⌝ }
-{
-    SeccOutputs {
-        output1: flag(f[0]),
-        output2: flag(f[1]),
-        output3: flag(f[2]),
-        output4: flag(f[3]),
-        reserved: natural(f[4]),
     }
 }
 

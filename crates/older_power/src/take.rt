@@ -2,16 +2,15 @@
 ghost use mathlib.Core.Path.{_≡_};
 ghost use Rattle.page_write.specs.Raws.{pad};
 ghost use Rattle.page_rows.specs.Table.{signalCount};
-ghost use Rattle.older_power.specs.Take.{statusRaws, limitsRaws, sequenceRaws, outputsRaws, sessionRaws, insulationRaws, prechargeRaws, changeRaws, chargingRaws};
+ghost use Rattle.older_power.specs.Take.{statusRaws, limitsRaws, sessionRaws, insulationRaws, prechargeRaws, changeRaws, chargingRaws};
 use message_fields::byte_raw;
 use message_fields::celsius_raw;
-use message_fields::flag_raw;
 use message_fields::kilohms_raw;
 use message_fields::short_raw;
+use message_fields::wide_raw;
 use message_fields::word_raw;
 use message_types::labels::*;
 use older_fields::capacity_raw;
-use older_fields::wide_raw;
 use older_types::ChargeStatusChange;
 use older_types::ChargingLoop;
 use older_types::InsulationTest;
@@ -19,9 +18,6 @@ use older_types::NewChargeSession;
 use older_types::PowerModulesLimits;
 use older_types::PowerModulesStatus;
 use older_types::PrechargeTarget;
-use older_types::SeccOutputs;
-use older_types::SequenceControl;
-use older_types::labels::*;
 
 pub fn status_raws(m: PowerModulesStatus) -> [i64; 16]
     ensures { λ r. ⌜ r ≡ pad signalCount (statusRaws m) ⌝ }
@@ -44,37 +40,6 @@ pub fn limits_raws(m: PowerModulesLimits) -> [i64; 16]
     f[0] = word_raw(m.voltage);
     f[1] = short_raw(m.current);
     f[2] = wide_raw(m.reserved);
-    f
-}
-
-pub fn sequence_raws(m: SequenceControl) -> [i64; 16]
-    ensures { λ r. ⌜ r ≡ pad signalCount (sequenceRaws m) ⌝ }
-{
-    let authorisation = m.authorisation;
-    let chademo = m.chademo;
-    let done = m.done;
-    let valid = m.valid;
-    let parameters = m.parameters;
-    let stop = m.stop;
-    let mut f = [0i64; 16];
-    f[0] = byte_raw(permission_number(authorisation));
-    f[1] = byte_raw(button_number(chademo));
-    f[2] = byte_raw(step_number(done));
-    f[3] = byte_raw(validity_number(valid));
-    f[4] = byte_raw(step_number(parameters));
-    f[5] = byte_raw(button_number(stop));
-    f
-}
-
-pub fn outputs_raws(m: SeccOutputs) -> [i64; 16]
-    ensures { λ r. ⌜ r ≡ pad signalCount (outputsRaws m) ⌝ }
-{
-    let mut f = [0i64; 16];
-    f[0] = flag_raw(m.output1);
-    f[1] = flag_raw(m.output2);
-    f[2] = flag_raw(m.output3);
-    f[3] = flag_raw(m.output4);
-    f[4] = wide_raw(m.reserved);
     f
 }
 

@@ -9,8 +9,9 @@ use Rattle.older_types.specs.declared.Message.the-variants.{SafetyControl, Safe
 use Rattle.message_fields.specs.Fields.{hasKilohms}
 use Rattle.older_fields.specs.Forms.{hasCapacity}
 use Rattle.message_safety.specs.Take.{safetyControlRaws, safetyStateRaws, probesRaws}
-use Rattle.older_power.specs.Take.{statusRaws, limitsRaws, sequenceRaws, outputsRaws, sessionRaws, insulationRaws, prechargeRaws, changeRaws, chargingRaws}
-use Rattle.older_inputs.specs.Take.{stopRaws, finishedRaws, controllerRaws, cuiRaws, seccRaws, idRaws, spccRaws, ccsRaws, mcsRaws}
+use Rattle.message_inputs.specs.Take.{sequenceRaws, outputsRaws, cuiRaws, seccRaws, spccRaws, ccsRaws, mcsRaws}
+use Rattle.older_power.specs.Take.{statusRaws, limitsRaws, sessionRaws, insulationRaws, prechargeRaws, changeRaws, chargingRaws}
+use Rattle.older_controller.specs.Take.{stopRaws, finishedRaws, controllerRaws, idRaws}
 
 unfoldable pub rawsOf : Message → List ℤ
 rawsOf (SafetyControl m) = safetyControlRaws m

@@ -1,2 +1,1 @@
 pub mod KindNumbers
-pub mod Labels

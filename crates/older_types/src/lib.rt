@@ -1,69 +1,24 @@
 // The messages of the older controllers as types: eighteen of document 001, and the three of the safety controller, whose frames belong to this interface too.
-// Their labels, where 000 has not the same, their fields, and the number of each kind. For every crate that names such a message.
+// Their fields, where 000 has not the same, and the number of each kind. For every crate that names such a message.
 ghost use mathlib.Core.Path.{_≡_};
 ghost use Rattle.older_types.specs.KindNumbers.{kindOf};
+use message_types::CcsExtraInformation;
 use message_types::ChargeControl1;
 use message_types::ChargeState1;
 use message_types::ChargeStatus;
 use message_types::ControllerState;
+use message_types::CuiInputs;
+use message_types::McsExtraInformation;
 use message_types::Plug;
 use message_types::Protocol;
 use message_types::Pt1000State;
+use message_types::SeccInputs;
+use message_types::SeccOutputs;
+use message_types::SequenceControl;
 use message_types::SessionEnd;
+use message_types::SpccInputs;
 use message_types::StopOrigin;
 use message_types::SystemEnable;
-
-pub mod labels; // labels.rt: labels and their numbers
-
-// ---- labels that 000 has not: "a label is a named case of its own type"
-
-pub enum Permission {
-    NotAllowed,
-    Allowed,
-}
-
-pub enum Button {
-    NotPressed,
-    Pressed,
-}
-
-pub enum Step {
-    NotDone,
-    Done,
-}
-
-pub enum Validity {
-    Invalid,
-    Valid,
-}
-
-pub enum PilotState {
-    EOrF,
-    D,
-    C,
-    B,
-    A,
-}
-
-pub enum CeState {
-    Undefined,
-    A,
-    B0,
-    B0Aux,
-    B,
-    BAux,
-    C,
-    CAux,
-    Ec,
-    E,
-}
-
-pub enum Mating {
-    Unmated,
-    Mated,
-    MatedEvAux,
-    MatedEvseAux,
-}
 
 // ---- messages: volts, amperes and the duty cycle in whole tenths, temperatures in °C, insulation in kOhm, a battery's capacity in kWh, its charge in %
 
@@ -79,23 +34,6 @@ pub struct PowerModulesStatus {
 pub struct PowerModulesLimits {
     pub voltage: u16,
     pub current: i16,
-    pub reserved: u64,
-}
-
-pub struct SequenceControl {
-    pub authorisation: Permission,
-    pub chademo: Button,
-    pub done: Step,
-    pub valid: Validity,
-    pub parameters: Step,
-    pub stop: Button,
-}
-
-pub struct SeccOutputs {
-    pub output1: bool,
-    pub output2: bool,
-    pub output3: bool,
-    pub output4: bool,
     pub reserved: u64,
 }
 
@@ -139,31 +77,6 @@ pub struct ControllerStatus {
     pub state: ControllerState,
 }
 
-pub struct CuiInputs {
-    pub switch0: bool,
-    pub switch1: bool,
-    pub switch2: bool,
-    pub switch3: bool,
-    pub switch4: bool,
-    pub switch5: bool,
-    pub reserved: u64,
-    pub colibri: i16,
-    pub cpu: i16,
-    pub pistol1: i16,
-    pub pistol2: i16,
-}
-
-pub struct SeccInputs {
-    pub input1: bool,
-    pub input2: bool,
-    pub input3: bool,
-    pub input4: bool,
-    pub reserved: u64,
-    pub cpu: i16,
-    pub pistol1: i16,
-    pub pistol2: i16,
-}
-
 pub struct EvId {
     pub byte0: u8,
     pub byte1: u8,
@@ -171,32 +84,6 @@ pub struct EvId {
     pub byte3: u8,
     pub byte4: u8,
     pub byte5: u8,
-}
-
-pub struct SpccInputs {
-    pub input1: bool,
-    pub input2: bool,
-    pub input3: bool,
-    pub input4: bool,
-    pub reserved: u64,
-    pub cpu0: i16,
-    pub cpu1: i16,
-    pub pt1ka: i16,
-    pub pt1kb: i16,
-    pub pt1ksc: i16,
-    pub pt1ksd: i16,
-}
-
-pub struct CcsExtraInformation {
-    pub state: PilotState,
-    pub duty: u16,
-    pub reserved: u64,
-}
-
-pub struct McsExtraInformation {
-    pub ce: CeState,
-    pub id: Mating,
-    pub reserved: u64,
 }
 
 // ---- the kinds, numbered in the table's order

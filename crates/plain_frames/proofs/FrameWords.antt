@@ -11,7 +11,7 @@ use lib.IntN.{ℤ}
 use lib.ListN.{length, take, drop}
 use Rattle.refusals.specs.declared.Refusal.the-variants.{NoRawNumber, ShortBuffer}
 use Rattle.payload.specs.Payload.{bytesOf, storedIn}
-use Rattle.page_rows.specs.Messages.{kindCount}
+use Rattle.page_rows.specs.Messages.{messageCount}
 use Rattle.page_rows.specs.Table.{rowsOf, identifierOf, lengthOf, bigOf, signalCount}
 use Rattle.page_read.specs.declared.Judged.{Judged}
 use Rattle.page_read.specs.declared.Judged.the-variants as judged
@@ -28,20 +28,20 @@ use Rattle.plain_frames.specs.Plain.{readOutcome, rawsLeft, readWord, ra
 -- ---- reading
 
 module _ (m : ℕ) (x : Bool) (bs : List ℕ) (raws : List ℤ) where
-  pub read-within : Within (kindCount - 1) (readOutcome (judgeOf m x bs) (length raws))
+  pub read-within : Within (messageCount - 1) (readOutcome (judgeOf m x bs) (length raws))
   read-within = go (judgeOf m x bs) (judge-small m x bs)
     where
-      go : (j : Judged) → SmallJudged j → Within (kindCount - 1) (readOutcome j (length raws))
-      go (judged.Frame k n) l = either (Within (kindCount - 1)) (leb signalCount (length raws)) (omega arith) (omega arith)
+      go : (j : Judged) → SmallJudged j → Within (messageCount - 1) (readOutcome j (length raws))
+      go (judged.Frame k n) l = either (Within (messageCount - 1)) (leb signalCount (length raws)) (omega arith) (omega arith)
       go (judged.Refused w) l = l
 
-  pub read-told : Told (kindCount - 1) (readOutcome (judgeOf m x bs) (length raws)) (readWord m x bs raws)
+  pub read-told : Told (messageCount - 1) (readOutcome (judgeOf m x bs) (length raws)) (readWord m x bs raws)
   unfolding readWord
-  read-told = word-tells (kindCount - 1) (readOutcome (judgeOf m x bs) (length raws)) (omega arith) read-within
+  read-told = word-tells (messageCount - 1) (readOutcome (judgeOf m x bs) (length raws)) (omega arith) read-within
 
   pub read-refused : 65536 ≤ readWord m x bs raws → rawsAfter m x bs raws ≡ raws
   unfolding readWord rawsAfter
-  read-refused l = go (judgeOf m x bs) (not-accepted (kindCount - 1) (readOutcome (judgeOf m x bs) (length raws)) (omega arith) read-within l)
+  read-refused l = go (judgeOf m x bs) (not-accepted (messageCount - 1) (readOutcome (judgeOf m x bs) (length raws)) (omega arith) read-within l)
     where
       room : (k n : ℕ) (b : Bool) → isAccepted (cond b (answers k) (refuses ShortBuffer)) ≡ false → cond b (rawsOf k n ++ drop signalCount raws) raws ≡ raws
       room k n true e = absurd (true≢false e)

@@ -2,7 +2,7 @@
 use Prim.Native.Nat.{ℕ}
 use mathlib.Core.Bool.{Bool, cond, _&&_}
 use mathlib.Core.List.{List, _++_}
-use lib.Dec.{leb, ltb}
+use lib.Dec.{leb}
 use lib.IntN.{ℤ}
 use lib.ListN.{length, take, drop}
 use Rattle.refusals.specs.declared.Refusal.the-variants.{NoRawNumber, ShortBuffer}
@@ -11,7 +11,8 @@ use Rattle.page_read.specs.declared.Judged.the-variants as judged
 use Rattle.page_write.specs.declared.Written.{Written}
 use Rattle.page_write.specs.declared.Written.the-variants as written
 use Rattle.page_read.specs.Judge.{judgeOf}
-use Rattle.page_rows.specs.Messages.{kindCount}
+use Rattle.page_rows.specs.declared.Interface.the-variants.{Newer}
+use Rattle.page_rows.specs.Interfaces.{isOn}
 use Rattle.page_rows.specs.Table.{signalCount}
 use Rattle.page_write.specs.Raws.{rawsOf, writeRawsOf, bufferAfter}
 use Rattle.page_change.specs.Change.{changeOf}
@@ -36,7 +37,7 @@ rawsAfter m x bs raws = rawsLeft (judgeOf m x bs) raws
 -- ---- writing: the number of bytes, or the refusal; 7 too where the lent numbers are too few, and for a kind that the pages of 000 and 004 have not
 
 abbrev pub isReady : ℕ → ℕ → Bool
-isReady k places = ltb k kindCount && leb signalCount places
+isReady k places = isOn Newer k && leb signalCount places
 
 abbrev pub writtenOutcome : Written → Outcome
 writtenOutcome (written.Wrote i n) = answers n

@@ -7,15 +7,13 @@ ghost use Rattle.page_rows.specs.Table.{signalCount};
 ghost use Rattle.page_change.specs.Change.{changeOf, bytesAfter};
 ghost use Rattle.plain_frames.specs.Plain.{readWord, rawsAfter, isReady, writeWord, bufferLeft, changeWord};
 use page_read::Judged;
+use page_rows::Interface;
 use page_write::Written;
 use plain_words::refusal_word;
 use refusals::Refusal;
 
 // The places that a message's raw numbers have, as in `page_write::raws_of`.
 const SIGNALS: usize = 16;
-
-// The kinds of the pages of 000 and 004: those of 001 stand behind them in the table.
-const KINDS: u32 = 12;
 
 fn store_raws(raws: &mut [i64], zs: [i64; SIGNALS])
     requires { ⌜ signalCount ≤ length (now raws) ⌝ }
@@ -64,7 +62,7 @@ pub extern "C" fn rokemaipu_read(id: u32, extended: bool, payload: &[u8], raws: 
 fn is_ready(kind: u32, places: usize) -> bool
     ensures { λ r. ⌜ r ≡ isReady kind places ⌝ }
 {
-    if KINDS <= kind {
+    if !page_rows::is_on(Interface::Newer, kind as usize) {
         return false;
     }
     SIGNALS <= places

@@ -7,7 +7,7 @@ use lib.IntN.{ℤ}
 use lib.ListN.{length, take}
 use Rattle.refusals.specs.declared.Refusal.the-variants.{NoRawNumber}
 use Rattle.page_rows.specs.declared.Interface.the-variants.{Older}
-use Rattle.page_rows.specs.Interfaces.{safetyKind}
+use Rattle.page_rows.specs.Interfaces.{isOn}
 use Rattle.page_rows.specs.Table.{signalCount}
 use Rattle.page_read.specs.Judge.{judgeOn}
 use Rattle.page_write.specs.Raws.{writeRawsOf, bufferAfter}
@@ -23,7 +23,7 @@ rawsAfterOlder m x bs raws = rawsLeft (judgeOn Older m x bs) raws
 
 -- 7 too for a kind that the interface has not
 abbrev pub isReadyOlder : ℕ → ℕ → Bool
-isReadyOlder k places = leb safetyKind k && leb signalCount places
+isReadyOlder k places = isOn Older k && leb signalCount places
 
 unfoldable pub writeWordOlder : ℕ → List ℤ → List ℕ → ℕ
 writeWordOlder k raws buf =

@@ -17,9 +17,6 @@ use refusals::Refusal;
 // The places that a message's raw numbers have, as in `page_write::raws_of`.
 const SIGNALS: usize = 16;
 
-// The first of its kinds.
-const SAFETY_KIND: u32 = 9;
-
 fn store_raws(raws: &mut [i64], zs: [i64; SIGNALS])
     requires { ⌜ signalCount ≤ length (now raws) ⌝ }
     ensures { λ _. ⌜ now (raws .exit) ≡ zs ++ drop signalCount (now (raws .entry)) ⌝ }
@@ -71,7 +68,7 @@ pub extern "C" fn rokemaipu_read_older(
 fn is_ready_older(kind: u32, places: usize) -> bool
     ensures { λ r. ⌜ r ≡ isReadyOlder kind places ⌝ }
 {
-    if kind < SAFETY_KIND {
+    if !page_rows::is_on(Interface::Older, kind as usize) {
         return false;
     }
     SIGNALS <= places

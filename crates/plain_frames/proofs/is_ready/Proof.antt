@@ -1,7 +1,7 @@
 -- `plain_frames::is_ready` meets its contract.
-use borrow.Author.Tests.{le-ltb, lt-ltb}
-use mathlib.Core.Path.{_≡_, sym}
-use Rattle.page_rows.specs.Messages.{kindCount}
+use mathlib.Core.Path.{sym, _∙_}
+use borrow.Author.Needs.{needs}
+use borrow.Author.Tests.{not-true, not-false}
 use Rattle.plain_frames.proofs.is_ready.Statement.{statement}
 use Rattle.plain_frames.proofs.is_ready.Tie as tie
 
@@ -9,5 +9,6 @@ pub is-ready-spec : {M : Type 1} → statement M
 is-ready-spec =
     tie.close
     (tie.spec
-    (λ c. rw (le-ltb (c .before .args .kind) kindCount (c .if1 .taken)))
-    (λ c. rw (lt-ltb (c .before .args .kind) kindCount (c .if1 .left))))
+    (λ c κs. search needs)
+    (λ c. rw (sym (c .before .is-on .ensures) ∙ not-true (c .before .is-on .result) (c .if1 .taken)))
+    (λ c. rw (sym (c .before .is-on .ensures) ∙ not-false (c .before .is-on .result) (c .if1 .left))))

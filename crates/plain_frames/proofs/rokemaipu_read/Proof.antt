@@ -48,7 +48,7 @@ returns c =
     let e = frame (c .before .before .before) false (lt-leb _ _ (c .before .if1 .taken)) in
     (c .refusal-word .ensures ∙ e .0, e .1)
 
--- a kind is below 12, and fits
+-- a kind is below 43, and fits
 cast-result : tie.Need-cast-result
 unfolding start
 cast-result c =

@@ -7,12 +7,13 @@ use mathlib.Core.Path.{_≡_, sym, ap, _∙_, subst}
 use mathlib.Core.Bool.{Bool, true, false, cond}
 use mathlib.Core.List.{List}
 use Prim.Native.Nat.{ℕ, _≤_}
-use lib.Dec.{leb, ltb}
+use lib.Dec.{leb}
 use lib.IntN.{ℤ}
 use lib.ListN.{length, take}
 use Rattle.refusals.specs.declared.Refusal.the-variants.{NoRawNumber}
 use Rattle.page_write.specs.declared.Written.{Written}
-use Rattle.page_rows.specs.Messages.{kindCount}
+use Rattle.page_rows.specs.declared.Interface.the-variants.{Newer}
+use Rattle.page_rows.specs.Interfaces.{isOn}
 use Rattle.page_rows.specs.Table.{signalCount}
 use Rattle.page_rows.proofs.Rules.{both-true}
 use Rattle.page_write.specs.Raws.{writeRawsOf, bufferAfter}
@@ -49,7 +50,7 @@ start : (c : tie.After-write-raws) → tie.Start
 start c = c .before .before .before .before .before .before
 
 long : (k n : ℕ) → isReady k n ≡ true → signalCount ≤ n
-long k n e = leb-true signalCount n (both-true (ltb k kindCount) (leb signalCount n) e .1)
+long k n e = leb-true signalCount n (both-true (isOn Newer k) (leb signalCount n) e .1)
 
 load-raws-requires : tie.Need-load-raws-requires
 load-raws-requires c κs =

@@ -1,6 +1,7 @@
 -- `plain_older::is_ready_older` meets its contract.
-use borrow.Author.Tests.{lt-leb, le-leb}
-use Rattle.page_rows.specs.Interfaces.{safetyKind}
+use mathlib.Core.Path.{sym, _∙_}
+use borrow.Author.Needs.{needs}
+use borrow.Author.Tests.{not-true, not-false}
 use Rattle.plain_older.proofs.is_ready_older.Statement.{statement}
 use Rattle.plain_older.proofs.is_ready_older.Tie as tie
 
@@ -8,5 +9,6 @@ pub is-ready-older-spec : {M : Type 1} → statement M
 is-ready-older-spec =
     tie.close
     (tie.spec
-    (λ c. rw (lt-leb safetyKind (c .before .args .kind) (c .if1 .taken)))
-    (λ c. rw (le-leb safetyKind (c .before .args .kind) (c .if1 .left))))
+    (λ c κs. search needs)
+    (λ c. rw (sym (c .before .is-on .ensures) ∙ not-true (c .before .is-on .result) (c .if1 .taken)))
+    (λ c. rw (sym (c .before .is-on .ensures) ∙ not-false (c .before .is-on .result) (c .if1 .left))))

@@ -13,7 +13,7 @@ use Rattle.refusals.specs.declared.Refusal.the-variants.{ShortBuffer}
 use Rattle.page_read.specs.declared.Judged.{Judged}
 use Rattle.page_read.specs.Judge.{judgeOn}
 use Rattle.page_rows.specs.declared.Interface.the-variants.{Older}
-use Rattle.page_rows.specs.Messages.{messageCount}
+use Rattle.page_rows.specs.Messages.{restKind}
 use Rattle.page_rows.specs.Table.{signalCount}
 use Rattle.page_write.specs.Raws.{rawsOf}
 use Rattle.page_bounds.proofs.Bounds.{SmallBelow, judge-small-on}
@@ -57,7 +57,7 @@ unfolding start
 cast-result c =
     let j = c .before .before .before .before .before .before in
     let a = start j .args in
-    record { fits = omega (arith, subst (SmallBelow messageCount) (sym (j .before .before .judge-on .ensures) ∙ j .j .given .1) (judge-small-on Older (a .id) (a .extended) (a .payload .now))) }
+    record { fits = omega (arith, subst (SmallBelow restKind) (sym (j .before .before .judge-on .ensures) ∙ j .j .given .1) (judge-small-on Older (a .id) (a .extended) (a .payload .now))) }
 
 returns-2 : tie.Need-returns-2
 unfolding start

@@ -12,7 +12,8 @@ use lib.IntN.{ℤ}
 use lib.ListN.{length, take}
 use Rattle.refusals.specs.declared.Refusal.the-variants.{NoRawNumber}
 use Rattle.page_write.specs.declared.Written.{Written}
-use Rattle.page_rows.specs.Interfaces.{safetyKind}
+use Rattle.page_rows.specs.declared.Interface.the-variants.{Older}
+use Rattle.page_rows.specs.Interfaces.{isOn}
 use Rattle.page_rows.specs.Table.{signalCount}
 use Rattle.page_rows.proofs.Rules.{both-true}
 use Rattle.page_write.specs.Raws.{writeRawsOf, bufferAfter}
@@ -50,7 +51,7 @@ start : (c : tie.After-write-raws) → tie.Start
 start c = c .before .before .before .before .before .before
 
 long : (k n : ℕ) → isReadyOlder k n ≡ true → signalCount ≤ n
-long k n e = leb-true signalCount n (both-true (leb safetyKind k) (leb signalCount n) e .1)
+long k n e = leb-true signalCount n (both-true (isOn Older k) (leb signalCount n) e .1)
 
 load-raws-requires : tie.Need-load-raws-requires
 load-raws-requires c κs =

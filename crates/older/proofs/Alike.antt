@@ -1,0 +1,38 @@
+-- The messages that document 001 lays out as 000 does, there and back at 001's kinds: by the ways of 000's, since their signals are alike. Assumes nothing.
+use mathlib.Core.Path.{refl}
+use Rattle.page_rows.specs.Table.{rows, ofKind}
+use Rattle.message_laws.proofs.Ways.{Ways, always}
+use Rattle.message_laws.proofs.Alike.{alike}
+use Rattle.message_types.specs.KindNumbers as newer
+use Rattle.older_types.specs.KindNumbers.{sequenceKind, outputsKind, cuiKind, seccKind, spccKind, ccsKind, mcsKind}
+use Rattle.message_inputs.specs.Build.{sequenceOf, outputsOf, cuiOf, seccOf, spccOf, ccsOf, mcsOf}
+use Rattle.message_inputs.specs.Take.{sequenceRaws, outputsRaws, cuiRaws, seccRaws, spccRaws, ccsRaws, mcsRaws}
+use Rattle.message_inputs.proofs.Ways as ways
+
+pub sequence-ways : Ways sequenceKind sequenceRaws always sequenceOf
+unfolding rows ofKind
+sequence-ways = alike newer.sequenceKind sequenceKind refl ways.sequence-ways
+
+pub outputs-ways : Ways outputsKind outputsRaws always outputsOf
+unfolding rows ofKind
+outputs-ways = alike newer.outputsKind outputsKind refl ways.outputs-ways
+
+pub cui-ways : Ways cuiKind cuiRaws always cuiOf
+unfolding rows ofKind
+cui-ways = alike newer.cuiKind cuiKind refl ways.cui-ways
+
+pub secc-ways : Ways seccKind seccRaws always seccOf
+unfolding rows ofKind
+secc-ways = alike newer.seccKind seccKind refl ways.secc-ways
+
+pub spcc-ways : Ways spccKind spccRaws always spccOf
+unfolding rows ofKind
+spcc-ways = alike newer.spccKind spccKind refl ways.spcc-ways
+
+pub ccs-ways : Ways ccsKind ccsRaws always ccsOf
+unfolding rows ofKind
+ccs-ways = alike newer.ccsKind ccsKind refl ways.ccs-ways
+
+pub mcs-ways : Ways mcsKind mcsRaws always mcsOf
+unfolding rows ofKind
+mcs-ways = alike newer.mcsKind mcsKind refl ways.mcs-ways

@@ -1,5 +1,0 @@
-// The messages of document 001 from Emergency_Stop to MCS_Extra_Information: each of its raw numbers, in the table's order, and
-// the raw numbers of each. For the crates that go over all kinds.
-
-pub mod build; // build.rt: a message of its raw numbers
-pub mod take; // take.rt: the raw numbers of a message
