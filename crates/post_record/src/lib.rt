@@ -6,7 +6,7 @@ ghost use Prim.Native.Nat.{_+_};
 ghost use Rattle.rules.specs.History.{countFrom};
 ghost use Rattle.rules.specs.Record.{placeCount, datedAt, unknown};
 ghost use Rattle.rules.specs.Right.{RecordRight};
-ghost use Rattle.rules.specs.After.{datedIn, partIn, lastIn, findingCount, postRecord};
+ghost use Rattle.rules.specs.After.{datedIn, partIn, keptLatest, lastIn, findingCount, postRecord};
 use post_ages::age;
 use post_ages::received;
 use rule_asks::is_set;
@@ -16,6 +16,7 @@ use rules::COUNTS;
 use rules::Dated;
 use rules::FINDINGS;
 use rules::Head;
+use rules::KEPT;
 use rules::LastTime;
 use rules::Latest;
 use rules::OpenSession;
@@ -32,7 +33,7 @@ use rules::Slot;
 fn dated_at(time: u32, ms: u32, kind: usize, raw: u64) -> Dated
     ensures { λ r. ⌜ r ≡ datedAt time ms kind raw ⌝ }
 {
-    if kind < older_types::STATUS {
+    if page_rows::is_on(page_rows::Interface::Newer, kind) {
         Dated::At(time, ms, message_build::message_of(kind, raw))
     } else {
         Dated::OlderAt(time, ms, older_build::message_of(kind, raw))
@@ -55,24 +56,37 @@ fn part(now: u64, s: Session) -> SessionPart
     if !is_set(s.opened) {
         return SessionPart::Closed;
     }
-    let st = s.kept[STATUS_PLACE];
-    let ct = s.kept[CONTROL_PLACE];
-    let em = s.kept[STOP_PLACE];
     let n = message_parts::session_in(s.first);
     let protocol = n.protocol;
     let plug = n.plug;
-    let status = dated(now, st);
-    let control = dated(now, ct);
-    let stop = dated(now, em);
     SessionPart::Opened(OpenSession {
         since: received(s.since),
         age: age(now, s.since),
         protocol,
         plug,
-        status,
-        control,
-        stop,
     })
+}
+
+// What it keeps; 01: "With no session open all of the session's part is none."
+fn kept_of(now: u64, s: Session) -> [Latest; KEPT]
+    ensures { λ r. ⌜ r ≡ keptLatest now s ⌝ }
+{
+    if !is_set(s.opened) {
+        return [Latest {
+            message: Dated::Nothing,
+        }; KEPT];
+    }
+    let st = s.kept[STATUS_PLACE];
+    let ct = s.kept[CONTROL_PLACE];
+    let em = s.kept[STOP_PLACE];
+    let status = dated(now, st);
+    let control = dated(now, ct);
+    let stop = dated(now, em);
+    [
+        Latest { message: status },
+        Latest { message: control },
+        Latest { message: stop },
+    ]
 }
 
 fn last_time(h: Head) -> LastTime
@@ -124,10 +138,11 @@ pub fn of_post(p: Post) -> Record
     let h = p.head;
     let now = h.time;
     let latest = messages_of(now, slots);
-    let kept = h.limits;
-    let limits = limits_in(kept);
+    let plain = h.limits;
+    let limits = limits_in(plain);
     let s = h.session;
     let session = part(now, s);
+    let kept = kept_of(now, s);
     let last = last_time(h);
     let counts = h.counts;
     let tallies = tallies_of(counts);
@@ -137,6 +152,7 @@ pub fn of_post(p: Post) -> Record
         last,
         latest,
         session,
+        kept,
         accepted: counts[0],
         tallies,
     }

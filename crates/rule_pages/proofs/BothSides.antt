@@ -11,7 +11,7 @@ use Rattle.older_types.specs.KindNumbers as older
 use Rattle.rule_pages.specs.declared.Role.the-variants.{Other, Status, Limits, Controller, Opening, Command, Finished, Stop}
 use Rattle.rule_pages.specs.Roles.{roleOf}
 use Rattle.rule_pages.specs.Said.{limitsIn, limitsBy, commandBy}
-use Rattle.rule_pages.specs.Places.{placeBy}
+use Rattle.rule_pages.specs.Places.{placeCount, placeBy}
 
 -- the nine messages of 001 that a rule asks for, and two that none does; Emergency_Stop by the pages of 000, and the messages beside it there
 pub roles : (roleOf older.statusKind ≡ Status) × (roleOf older.limitsKind ≡ Limits) × (roleOf older.controllerKind ≡ Controller) × (roleOf older.sessionKind ≡ Opening)
@@ -33,7 +33,8 @@ pub told : (limitsBy older.limitsKind 0x01900FA0 .charge ≡ 400) × (limitsBy o
 unfolding limitsBy limitsIn rows ofKind wholesOf pad rawsOf getBits toSigned
 told = (refl, refl, refl, refl, refl)
 
--- the first and the last of 001 at 000's first place and at the last; behind the kinds nothing has a place
-pub places : (placeBy 11 ≡ 11) × (placeBy older.statusKind ≡ 0) × (placeBy older.chargingKind ≡ 8) × (placeBy older.stopKind ≡ 12) × (placeBy older.mcsKind ≡ 20) × (placeBy 30 ≡ 21)
+-- the first of 001 at 000's first place, the last at 20; the rest of 000's behind 004's, to the last place; behind the kinds nothing has a place
+pub places : (placeBy newer.probesKind ≡ 11) × (placeBy older.statusKind ≡ 0) × (placeBy older.chargingKind ≡ 8) × (placeBy older.stopKind ≡ 12) × (placeBy older.mcsKind ≡ 20)
+    × (placeBy newer.sequenceKind ≡ 12) × (placeBy newer.ocppKind ≡ 24) × (placeBy newer.messageCount ≡ placeCount)
 unfolding placeBy
-places = (refl, refl, refl, refl, refl, refl)
+places = (refl, refl, refl, refl, refl, refl, refl, refl)

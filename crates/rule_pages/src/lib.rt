@@ -24,8 +24,8 @@ use message_types::STOP;
 use message_types::SetpointsMode;
 use older_types::PowerModulesLimits;
 
-// The latest frames that a post keeps: as many as the older interface has kinds.
-pub const PLACES: usize = 21;
+// The latest frames that a post keeps: as many as the newer interface has kinds.
+pub const PLACES: usize = 25;
 
 // ---- what a frame is asked for
 
@@ -171,5 +171,8 @@ pub fn place_by(kind: usize) -> usize
     if kind < older_types::STOP {
         return kind - older_types::STATUS;
     }
-    kind - message_types::SAFETY_CONTROL
+    if kind < message_types::SEQUENCE {
+        return kind - message_types::SAFETY_CONTROL;
+    }
+    older_types::STATUS + (kind - message_types::SEQUENCE)
 }

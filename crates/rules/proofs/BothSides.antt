@@ -7,7 +7,7 @@ use Rattle.signal.specs.Signal.{getBits}
 use Rattle.signal.specs.Twos.{toSigned}
 use Rattle.page_rows.specs.Table.{rows, ofKind, firstAt}
 use Rattle.page_write.specs.Raws.{wholesOf, pad, rawsOf}
-use Rattle.message_types.specs.KindNumbers.{stopKind, safetyControlKind, safetyStateKind, probesKind}
+use Rattle.message_types.specs.KindNumbers.{stopKind, safetyControlKind, safetyStateKind, probesKind, sequenceKind, energyKind, cuiKind, ocppKind}
 use Rattle.message_parts.specs.Parts.{statusKind, parametersKind, controllerKind, sessionKind, controlKind, finishedKind, statusIn, parametersIn, sessionIn, controlIn}
 use Rattle.older_types.specs.KindNumbers as older
 use Rattle.rule_limits.specs.declared.PlainLimits.{PlainLimits}
@@ -101,6 +101,9 @@ table =
     ∷ (controller 1000 ∷ tick 1200 ∷ tick 1201 ∷ controller 1201 ∷ tick 1202 ∷ [], 0 ∷ 0 ∷ 2 ∷ 2 ∷ 0 ∷ [])
     -- with no session open F3 and F4 of a DC_Power_Control, and nothing of the same bits in a frame of the safety controller
     ∷ (transfer 0 ∷ frame 1 safetyControlKind 0x48000000001388 ∷ frame 2 safetyStateKind 0x48000000001388 ∷ frame 3 probesKind 0x48000000001388 ∷ [], 12 ∷ 0 ∷ 0 ∷ 0 ∷ [])
+    -- 02, Req 14: nor in a frame of the rest of 000's; F2, and in a session F1, of such a frame as of a tick
+    ∷ (transfer 0 ∷ frame 1 sequenceKind 0x480000 ∷ frame 2 energyKind 0x480000001388 ∷ frame 3 cuiKind 0x48000000001388 ∷ frame 4 ocppKind 0x4800 ∷ [], 12 ∷ 0 ∷ 0 ∷ 0 ∷ 0 ∷ [])
+    ∷ (controller 0 ∷ session 0 ∷ frame 200 sequenceKind 0 ∷ frame 201 cuiKind 0 ∷ frame 500 energyKind 0 ∷ frame 501 ocppKind 0 ∷ [], 0 ∷ 0 ∷ 0 ∷ 2 ∷ 2 ∷ 3 ∷ [])
     -- 02, Req 09: F1 and F2 across the round of the clock: at 4,294,967,290 as received, then at 494 and 495, 500 and 501 ms later
     ∷ (session 4294967290 ∷ tick 4294967790 ∷ tick 4294967791 ∷ [], 0 ∷ 0 ∷ 1 ∷ [])
     ∷ (controller 4294967290 ∷ tick 4294967490 ∷ tick 4294967491 ∷ [], 0 ∷ 0 ∷ 2 ∷ [])
@@ -152,7 +155,7 @@ All (x ∷ xs) = ((lookedBack limits [] (x .0) ≡ x .1) × (inTurn (newHead 1 4
 
 pub both-sides : All table
 unfolding roleOf statusBy openingBy limitsIn limitsBy commandBy sinceFinished opening inSession lowersBadly outside leaking badInsulation differs sessionStatus sessionControl sessionStop limitOf f1 f2 f3 f4 f5 f6 f7 f8 f9 f10 f11 f12 findings01 sessionAfter stampIn agedTo withFrame silentIn lateAfter anyFindings unreadyIn carryingIn stoppedIn controlFindings statusFindings openingFindings finishedFindings messageFindings withCounts afterTick afterFrame statusIn parametersIn sessionIn controlIn rows ofKind firstAt wholesOf pad rawsOf getBits toSigned
-both-sides = ((refl, refl), ((refl, refl), ((refl, refl), ((refl, refl), ((refl, refl), ((refl, refl), ((refl, refl), ((refl, refl), ((refl, refl), ((refl, refl), ((refl, refl), ((refl, refl), ((refl, refl), ((refl, refl), ((refl, refl), ((refl, refl), ((refl, refl), ((refl, refl), ((refl, refl), tt)))))))))))))))))))
+both-sides = ((refl, refl), ((refl, refl), ((refl, refl), ((refl, refl), ((refl, refl), ((refl, refl), ((refl, refl), ((refl, refl), ((refl, refl), ((refl, refl), ((refl, refl), ((refl, refl), ((refl, refl), ((refl, refl), ((refl, refl), ((refl, refl), ((refl, refl), ((refl, refl), ((refl, refl), ((refl, refl), ((refl, refl), tt)))))))))))))))))))))
 
 -- ---- 02, Req 08: the counts of such events, the newest first, and of the head that they leave
 

@@ -20,8 +20,8 @@ use Rattle.rules.specs.History.{frame, tick, History, Said, roleNumber, 
 use Rattle.rules.specs.Times.{earlierIn, stampOf, latestTime, Unrolled}
 use Rattle.rules.specs.Rules.{sessionStatus, sessionControl, sessionStop, findings01}
 use Rattle.rules.specs.Counts.{timesFound, talliesOf, countsOf, isFull}
-use Rattle.rules.specs.Record.{placeCount, datedOf, atPlace, lastOf, partOf, recordAsOf, recordOf, unknown, slotAt, slotOf, keptOf, sessionOf, session01, headAt, headOf, latests, postOf}
-use Rattle.rules.specs.After.{stampIn, putFor, agedTo, withFrame, isEarly, counted, isFullIn, tallyIn, findingCount, withCounts, afterTick, afterFrame, keepIn, stored, freshPost, latestIn, datedIn, partIn, lastIn, postRecord}
+use Rattle.rules.specs.Record.{placeCount, datedOf, atPlace, lastOf, partOf, latestOf, keptShown, recordAsOf, recordOf, unknown, slotAt, slotOf, keptOf, sessionOf, session01, headAt, headOf, latests, postOf}
+use Rattle.rules.specs.After.{stampIn, putFor, agedTo, withFrame, isEarly, counted, isFullIn, tallyIn, findingCount, withCounts, afterTick, afterFrame, keepIn, stored, freshPost, latestIn, datedIn, shownIn, partIn, keptLatest, lastIn, postRecord}
 use Rattle.rules.proofs.Counted.{count-at, count-same, count-set}
 use Rattle.rules.proofs.SessionLook.{session-stays, session-frame}
 use Rattle.rules.proofs.FindingsLook.{findings-tick, findings-frame}
@@ -72,10 +72,14 @@ dated-look : (now : ℕ) (o : Option Said) → datedIn now (slotOf o) ≡ datedO
 dated-look now none = refl
 dated-look now (some o) = refl
 
-part-look : (now : ℕ) (h : History) (o : Option Said) → partIn now (sessionOf o (keptOf (inSession h))) ≡ partOf now o (sessionStatus h) (sessionControl h) (sessionStop h)
-unfolding sessionStatus sessionControl sessionStop
+part-look : (now : ℕ) (h : History) (o : Option Said) → partIn now (sessionOf o (keptOf (inSession h))) ≡ partOf now o
 part-look now h none = refl
-part-look now h (some o) = rw (opening-alike (o .kind) (o .raw)) (simp dated-look)
+part-look now h (some o) = rw (opening-alike (o .kind) (o .raw))
+
+kept-look : (now : ℕ) (h : History) (o : Option Said) → keptLatest now (sessionOf o (keptOf (inSession h))) ≡ keptShown now o (sessionStatus h ∷ sessionControl h ∷ sessionStop h ∷ [])
+unfolding sessionStatus sessionControl sessionStop
+kept-look now h none = refl
+kept-look now h (some o) = simp dated-look
 
 module _ (c : ℕ) (lim : PlainLimits) where
   -- ---- the head after one event more
@@ -111,19 +115,23 @@ module _ (c : ℕ) (lim : PlainLimits) where
   unfolding latests
   latest-look h k lt = count-at (λ i. slotOf (newest (atPlace i) h)) unknown k 0 placeCount k (omega arith) lt
 
-  abbrev shownIn : ℕ → History → ℕ → Latest
-  shownIn now h k = record { message = datedIn now (latestIn (postOf c lim h) k) }
+  abbrev at-place : ℕ → History → ℕ → Latest
+  at-place now h k = shownIn now (latestIn (postOf c lim h) k)
 
-  abbrev shownOf : ℕ → History → ℕ → Latest
-  shownOf now h k = record { message = datedOf now (newest (atPlace k) h) }
+  abbrev of-place : ℕ → History → ℕ → Latest
+  of-place now h k = latestOf now (newest (atPlace k) h)
 
-  messages-look : (now : ℕ) (h : History) → map (shownIn now h) (countFrom 0 placeCount) ≡ map (shownOf now h) (countFrom 0 placeCount)
+  messages-look : (now : ℕ) (h : History) → map (at-place now h) (countFrom 0 placeCount) ≡ map (of-place now h) (countFrom 0 placeCount)
   messages-look now h =
-      count-same (shownIn now h) (shownOf now h) 0 placeCount (λ k low high. rw (latest-look h k (omega arith), dated-look now (newest (atPlace k) h)))
+      count-same (at-place now h) (of-place now h) 0 placeCount (λ k low high. rw (latest-look h k (omega arith), dated-look now (newest (atPlace k) h)))
 
-  session-look : (now : ℕ) (h : History) → partIn now (headOf c lim h .session) ≡ partOf now (opening h) (sessionStatus h) (sessionControl h) (sessionStop h)
+  session-look : (now : ℕ) (h : History) → partIn now (headOf c lim h .session) ≡ partOf now (opening h)
   unfolding headAt session01
   session-look now h = part-look now h (opening h)
+
+  session-kept : (now : ℕ) (h : History) → keptLatest now (headOf c lim h .session) ≡ keptShown now (opening h) (sessionStatus h ∷ sessionControl h ∷ sessionStop h ∷ [])
+  unfolding headAt session01
+  session-kept now h = kept-look now h (opening h)
 
   -- ---- the post, its steps and its record
 
@@ -182,4 +190,4 @@ module _ (c : ℕ) (lim : PlainLimits) where
 
   pub record-look : (h : History) → postRecord (postOf c lim h) ≡ recordOf c lim h
   unfolding postRecord recordAsOf headAt talliesOf
-  record-look h = rw (last-look h, messages-look (latestTime h) h, session-look (latestTime h) h)
+  record-look h = rw (last-look h, messages-look (latestTime h) h, session-look (latestTime h) h, session-kept (latestTime h) h)

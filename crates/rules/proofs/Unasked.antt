@@ -1,12 +1,16 @@
--- 02, Req 04: "raise only F1 and F2". An event of a kind that none of F3 to F12 asks for has none of them, whatever came before it,
+-- 02, Req 04 and 14: "raise only F1 and F2". An event of a kind that none of F3 to F12 asks for has none of them, whatever came before it,
 -- whenever it comes and whatever it says. 02, Req 11: a command of the older interface has none of F3, F6 and F7.
-use Prim.Native.Nat.{ℕ, _+_}
+use Prim.Native.Nat.{ℕ, _+_, _<_, _≤_}
 use native.Mathlib.Omega.{arith}
 use mathlib.Core.Path.{_≡_, refl}
 use mathlib.Core.List.{[], _∷_}
 use mathlib.Core.Bool.{false}
 use mathlib.Core.Option.{none}
-use Rattle.message_types.specs.KindNumbers.{safetyControlKind, safetyStateKind, probesKind}
+use lib.Dec.{eqb}
+use borrow.Author.Tests.{ne-eqb}
+use Rattle.message_types.specs.KindNumbers as newer
+use Rattle.message_types.specs.KindNumbers.{safetyControlKind, safetyStateKind, probesKind, sequenceKind}
+use Rattle.older_types.specs.KindNumbers as older
 use Rattle.rule_limits.specs.declared.PlainLimits.{PlainLimits}
 use Rattle.rule_pages.specs.declared.Role.{Role}
 use Rattle.rule_pages.specs.declared.Role.the-variants.{Other, Status, Limits, Controller, Opening, Command, Finished, Stop}
@@ -65,3 +69,35 @@ safety-roles = (refl, refl, refl)
 pub quiet-frames : (lim : PlainLimits) (h : History) (t k raw : ℕ) → roleOf k ≡ Other
     → findings01 lim h (frame t k raw) ≡ bit (f1 lim h (frame t k raw)) 1 + bit (f2 lim h (frame t k raw)) 2
 quiet-frames lim h t k raw e = only-f1-f2 lim h (frame t k raw) (unasked-frame t k raw Other e tt)
+
+-- the rest of 000's, from Sequence_Control on: their kinds stand behind every kind that a rule asks for
+module _ (k : ℕ) (rest : sequenceKind ≤ k) where
+  not-asked : (j : ℕ) → j < sequenceKind → eqb k j ≡ false
+  not-asked j low = ne-eqb k j (λ e. let z : ⊥ = omega arith in z)
+
+  pub rest-roles : roleOf k ≡ Other
+  unfolding roleOf
+  rest-roles =
+      rw (
+        not-asked newer.statusKind (omega arith),
+        not-asked newer.parametersKind (omega arith),
+        not-asked newer.controllerKind (omega arith),
+        not-asked newer.sessionKind (omega arith),
+        not-asked newer.controlKind (omega arith),
+        not-asked newer.finishedKind (omega arith),
+        not-asked newer.stopKind (omega arith),
+        not-asked older.statusKind (omega arith),
+        not-asked older.limitsKind (omega arith),
+        not-asked older.controllerKind (omega arith),
+        not-asked older.sessionKind (omega arith),
+        not-asked older.insulationKind (omega arith),
+        not-asked older.prechargeKind (omega arith),
+        not-asked older.chargingKind (omega arith),
+        not-asked older.finishedKind (omega arith),
+        not-asked older.stopKind (omega arith),
+      )
+
+-- THEOREM: a frame of the rest of 000's raises only F1 and F2
+pub rest-frames : (lim : PlainLimits) (h : History) (t k raw : ℕ) → sequenceKind ≤ k
+    → findings01 lim h (frame t k raw) ≡ bit (f1 lim h (frame t k raw)) 1 + bit (f2 lim h (frame t k raw)) 2
+rest-frames lim h t k raw rest = quiet-frames lim h t k raw (rest-roles k rest)

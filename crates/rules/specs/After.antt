@@ -29,6 +29,7 @@ use Rattle.rules.specs.declared.LastTime.{LastTime}
 use Rattle.rules.specs.declared.LastTime.the-variants as last
 use Rattle.rules.specs.declared.Dated.{Dated}
 use Rattle.rules.specs.declared.Dated.the-variants as dated
+use Rattle.rules.specs.declared.Latest.{Latest}
 use Rattle.rules.specs.declared.SessionPart.{SessionPart}
 use Rattle.rules.specs.declared.SessionPart.the-variants as part
 use Rattle.rules.specs.declared.Record.{Record}
@@ -290,6 +291,9 @@ latestIn p j = getD (p .latest) j unknown
 abbrev pub datedIn : ℕ → Slot → Dated
 datedIn now l = cond (isSet (l .known)) (datedAt (receivedOf (l .time)) (ageOf now (l .time)) (l .kind) (l .raw)) dated.Nothing
 
+abbrev pub shownIn : ℕ → Slot → Latest
+shownIn now l = record { message = datedIn now l }
+
 abbrev pub partIn : ℕ → Session → SessionPart
 partIn now s =
     cond (isSet (s .opened))
@@ -299,11 +303,15 @@ partIn now s =
       age = ageOf now (s .since);
       protocol = sessionIn (s .first) .protocol;
       plug = sessionIn (s .first) .plug;
-      status = datedIn now (keptIn s statusPlace);
-      control = datedIn now (keptIn s controlPlace);
-      stop = datedIn now (keptIn s stopPlace);
     }))
     part.Closed
+
+-- 01: "With no session open all of the session's part is none."
+abbrev pub openKept : Session → ℕ → Slot
+openKept s j = cond (isSet (s .opened)) (keptIn s j) unknown
+
+abbrev pub keptLatest : ℕ → Session → List Latest
+keptLatest now s = map (λ j. shownIn now (openKept s j)) (countFrom 0 keptCount)
 
 abbrev pub lastIn : Head → LastTime
 lastIn p = cond (isSet (p .heard)) (last.At (receivedOf (p .time))) last.Never
@@ -314,8 +322,9 @@ postRecord p =
       channel = p .head .channel;
       limits = limitsOf (p .head .limits);
       last = lastIn (p .head);
-      latest = map (λ j. record { message = datedIn (p .head .time) (latestIn p j) }) (countFrom 0 placeCount);
+      latest = map (λ j. shownIn (p .head .time) (latestIn p j)) (countFrom 0 placeCount);
       session = partIn (p .head .time) (p .head .session);
+      kept = keptLatest (p .head .time) (p .head .session);
       accepted = acceptedBy (p .head);
       tallies = map (tallyIn (p .head)) (countFrom 0 findingCount);
     }

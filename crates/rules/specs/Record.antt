@@ -9,9 +9,10 @@ use Prim.Native.Nat.{ℕ}
 use mathlib.Core.List.{List, [], _∷_, map}
 use mathlib.Core.Bool.{Bool, true, false, cond}
 use mathlib.Core.Option.{Option, none, some}
-use lib.Dec.{eqb, ltb}
+use lib.Dec.{eqb}
 use lib.ListN.{length}
-use Rattle.message_types.specs.KindNumbers.{kindCount}
+use Rattle.page_rows.specs.declared.Interface.the-variants.{Newer}
+use Rattle.page_rows.specs.Interfaces.{isOn}
 use Rattle.message_build.specs.Built.{messageOf}
 use Rattle.older_build.specs.Built as older
 pub use Rattle.rule_pages.specs.Places.{placeCount}
@@ -29,6 +30,7 @@ use Rattle.rules.specs.declared.LastTime.{LastTime}
 use Rattle.rules.specs.declared.LastTime.the-variants as last
 use Rattle.rules.specs.declared.Dated.{Dated}
 use Rattle.rules.specs.declared.Dated.the-variants as dated
+use Rattle.rules.specs.declared.Latest.{Latest}
 use Rattle.rules.specs.declared.SessionPart.{SessionPart}
 use Rattle.rules.specs.declared.SessionPart.the-variants as part
 use Rattle.rules.specs.declared.Record.{Record}
@@ -41,7 +43,7 @@ use Rattle.rules.specs.Counts.{talliesOf, countsOf}
 
 -- a frame by its message: of documents 000 and 004, or of 001
 unfoldable pub datedAt : ℕ → ℕ → ℕ → ℕ → Dated
-datedAt time age k raw = cond (ltb k kindCount) (dated.At time age (messageOf k raw)) (dated.OlderAt time age (older.messageOf k raw))
+datedAt time age k raw = cond (isOn Newer k) (dated.At time age (messageOf k raw)) (dated.OlderAt time age (older.messageOf k raw))
 
 abbrev pub datedOf : ℕ → Option Said → Dated
 datedOf now none = dated.Nothing
@@ -56,19 +58,25 @@ abbrev pub lastOf : History → LastTime
 lastOf [] = last.Never
 lastOf (e ∷ h) = last.At (receivedOf (timeOf e))
 
-abbrev pub partOf : ℕ → Option Said → Option Said → Option Said → Option Said → SessionPart
-partOf now none s d m = part.Closed
-partOf now (some o) s d m =
+-- the session that is open, by what opened it
+abbrev pub partOf : ℕ → Option Said → SessionPart
+partOf now none = part.Closed
+partOf now (some o) =
     part.Opened
     (record {
       since = receivedOf (o .time);
       age = ageOf now (o .time);
       protocol = openingBy (o .kind) (o .raw) .protocol;
       plug = openingBy (o .kind) (o .raw) .plug;
-      status = datedOf now s;
-      control = datedOf now d;
-      stop = datedOf now m;
     })
+
+-- the latest status, control and stop accepted in it, and none of them with no session open
+abbrev pub latestOf : ℕ → Option Said → Latest
+latestOf now o = record { message = datedOf now o }
+
+abbrev pub keptShown : ℕ → Option Said → List (Option Said) → List Latest
+keptShown now none ks = map (λ (o : Option Said). latestOf now none) ks
+keptShown now (some o) ks = map (latestOf now) ks
 
 unfoldable pub recordAsOf : ℕ → PlainLimits → ℕ → History → Record
 recordAsOf c lim now h =
@@ -76,8 +84,9 @@ recordAsOf c lim now h =
       channel = c;
       limits = limitsOf lim;
       last = lastOf h;
-      latest = map (λ j. record { message = datedOf now (newest (atPlace j) h) }) (countFrom 0 placeCount);
-      session = partOf now (opening h) (sessionStatus h) (sessionControl h) (sessionStop h);
+      latest = map (λ j. latestOf now (newest (atPlace j) h)) (countFrom 0 placeCount);
+      session = partOf now (opening h);
+      kept = keptShown now (opening h) (sessionStatus h ∷ sessionControl h ∷ sessionStop h ∷ []);
       accepted = length h;
       tallies = talliesOf lim h;
     }

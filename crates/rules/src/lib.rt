@@ -101,9 +101,6 @@ pub struct OpenSession {
     pub age: u32,
     pub protocol: Protocol,
     pub plug: Plug,
-    pub status: Dated,
-    pub control: Dated,
-    pub stop: Dated,
 }
 
 pub enum SessionPart {
@@ -111,12 +108,15 @@ pub enum SessionPart {
     Opened(OpenSession),
 }
 
+// What an open session keeps stands at the same places as in the table, beside the session: all messages of both interfaces in each of three fields would be
+// more than a type may have.
 pub struct Record {
     pub channel: u32,
     pub limits: Limits,
     pub last: LastTime,
     pub latest: [Latest; PLACES],
     pub session: SessionPart,
+    pub kept: [Latest; KEPT],
     pub accepted: u32,
     pub tallies: [u32; FINDINGS],
 }

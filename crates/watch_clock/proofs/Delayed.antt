@@ -8,7 +8,8 @@ use mathlib.Core.Option.{Option, none, some}
 use lib.Dec.{ltb}
 use lib.ListN.{length-map}
 use Rattle.message_types.specs.declared.DcPowerParameters.{DcPowerParameters}
-use Rattle.message_types.specs.KindNumbers.{kindCount}
+use Rattle.page_rows.specs.declared.Interface.the-variants.{Newer}
+use Rattle.page_rows.specs.Interfaces.{isOn}
 use Rattle.message_build.specs.Built.{messageOf}
 use Rattle.older_build.specs.Built as older
 use Rattle.rule_pages.specs.declared.Role.{Role}
@@ -22,7 +23,7 @@ use Rattle.rules.specs.History.{Event, History, Said, timeOf, newest, asked, li
 use Rattle.rules.specs.Times.{receivedOf, elapsed, ageOf}
 use Rattle.rules.specs.Rules.{ask, isOpen, sessionStatus, sessionControl, sessionStop, laterTime, limitBy, limitOf, unready, isStopped, Rule, f1, f2, f3, f4, f5, f6, f7, f8, f9, f10, f11, f12, rules01, found, bitsFrom, findings01}
 use Rattle.rules.specs.Counts.{timesFound, talliesBy, talliesOf}
-use Rattle.rules.specs.Record.{placeCount, datedAt, datedOf, atPlace, lastOf, partOf, recordAsOf, recordOf}
+use Rattle.rules.specs.Record.{placeCount, datedAt, datedOf, atPlace, lastOf, partOf, keptShown, recordAsOf, recordOf}
 use Rattle.watch_clock.specs.Later.{delay, delayed, later, Steady, AllSteady, stillLast, stillDated, stillLatest, stillPart, still}
 use Rattle.watch_clock.proofs.Later.{role-timely, place-timely, time-retimed, newest-retimed, opening-retimed, status-retimed, control-retimed, stop-retimed}
 
@@ -197,7 +198,7 @@ module _ (d : ℕ) (lim : PlainLimits) where
 
 still-at : (t s age k raw : ℕ) → stillDated (datedAt t age k raw) ≡ stillDated (datedAt s age k raw)
 unfolding datedAt
-still-at t s age k raw = go (ltb k kindCount)
+still-at t s age k raw = go (isOn Newer k)
   where
     go : (b : Bool) → stillDated (cond b (dated.At t age (messageOf k raw)) (dated.OlderAt t age (older.messageOf k raw))) ≡ stillDated (cond b (dated.At s age (messageOf k raw)) (dated.OlderAt s age (older.messageOf k raw)))
     go true = refl
@@ -211,9 +212,14 @@ module _ (d now : ℕ) where
   dated-delayed none = refl
   dated-delayed (some m) = rw (age-delayed (m .time)) (still-at (receivedOf (m .time + d)) (receivedOf (m .time)) (ageOf now (m .time)) (m .kind) (m .raw))
 
-  part-delayed : (o s c m : Option Said) → stillPart (partOf (now + d) (later d o) (later d s) (later d c) (later d m)) ≡ stillPart (partOf now o s c m)
-  part-delayed none s c m = refl
-  part-delayed (some o) s c m = rw (age-delayed (o .time), dated-delayed s, dated-delayed c, dated-delayed m)
+  part-delayed : (o : Option Said) → stillPart (partOf (now + d) (later d o)) ≡ stillPart (partOf now o)
+  part-delayed none = refl
+  part-delayed (some o) = rw (age-delayed (o .time))
+
+  kept-delayed : (o s c m : Option Said)
+      → map stillLatest (keptShown (now + d) (later d o) (later d s ∷ later d c ∷ later d m ∷ [])) ≡ map stillLatest (keptShown now o (s ∷ c ∷ m ∷ []))
+  kept-delayed none s c m = refl
+  kept-delayed (some o) s c m = rw (dated-delayed s, dated-delayed c, dated-delayed m)
 
   latests-delayed : (h : History) (ks : List ℕ)
       → map stillLatest (map (λ j. record { message = datedOf (now + d) (newest (atPlace j) (delayed d h)) }) ks)
@@ -236,7 +242,8 @@ record-as-delayed d c lim now h =
       status-delayed d h,
       control-delayed d h,
       stop-delayed d h,
-      part-delayed d now (opening h) (sessionStatus h) (sessionControl h) (sessionStop h),
+      part-delayed d now (opening h),
+      kept-delayed d now (opening h) (sessionStatus h) (sessionControl h) (sessionStop h),
       length-map h (delay d),
       tallies-delayed d lim rules01 steady01 h,
     )

@@ -84,9 +84,9 @@ age-stops = age-hourly 2400 (omega arith)
 
 -- and so does the session's, which opened 290 ms before it
 pub session-stops : lookUpOf (run (hours 2400)) 0 .shown .session
-    ≡ part.Opened (record { since = 4294967000; age = 4294967295; protocol = sessionIn 258 .protocol; plug = sessionIn 258 .plug; status = dated.Nothing; control = dated.Nothing; stop = dated.Nothing })
-unfolding opening sinceFinished sessionStatus sessionControl sessionStop inSession roleOf openingBy
+    ≡ part.Opened (record { since = 4294967000; age = 4294967295; protocol = sessionIn 258 .protocol; plug = sessionIn 258 .plug })
+unfolding opening sinceFinished roleOf openingBy
 session-stops =
     ap (λ (l : LookedUp). l .shown .session)
     (record-ticked hour (omega arith) status opened charging 0 4 limits first own-charging (omega arith) (omega arith) 2400 (omega arith))
-    ∙ session-ticked hour (omega arith) status opened unrolled 4 limits 2400
+    ∙ session-ticked hour (omega arith) status opened unrolled 4 limits 2400 .0

@@ -3,7 +3,7 @@ use Prim.Native.Nat.{ℕ, zero, suc, _+_, _*_, _<_}
 use native.Mathlib.Nat.{suc-mul}
 use native.Mathlib.Omega.{arith}
 use mathlib.Core.Path.{_≡_, refl, sym, ap, ap₂, _∙_}
-use mathlib.Core.List.{_∷_}
+use mathlib.Core.List.{[], _∷_}
 use mathlib.Core.Bool.{false}
 use mathlib.Core.Option.{Option, some}
 use lib.ListN.{length, getD}
@@ -16,7 +16,7 @@ use Rattle.rule_pages.specs.declared.Role.the-variants.{Status, Controller, Com
 use Rattle.rules.specs.History.{Event, tick, History, Said, timeOf, newest, asked, controllerOf, opening, inSession}
 use Rattle.rules.specs.Times.{receivedOf, earlierIn, stampOf, latestTime, ageOf, Unrolled}
 use Rattle.rules.specs.Rules.{isOpen, sessionStatus, sessionControl, sessionStop, findings01}
-use Rattle.rules.specs.Record.{placeCount, datedAt, datedOf, atPlace, partOf, recordAsOf, recordOf}
+use Rattle.rules.specs.Record.{placeCount, datedAt, datedOf, atPlace, partOf, keptShown, recordAsOf, recordOf}
 use Rattle.rules.proofs.Counted.{count-at}
 use Rattle.rules.proofs.Unrolled.{unrolled-next}
 use Rattle.watch_clock.specs.Regular.{tickTime, ticked}
@@ -120,7 +120,10 @@ module _ (every : ℕ) (half : every < 2147483648) (e : Event) (h : History) (un
 
   -- and so has the session's part
   pub session-ticked : (c : ℕ) (lim : PlainLimits) (n : ℕ)
-      → recordOf c lim (after n) .session ≡ partOf (tickTime every (timeOf e) n) (opening (e ∷ h)) (sessionStatus (e ∷ h)) (sessionControl (e ∷ h)) (sessionStop (e ∷ h))
+      → (recordOf c lim (after n) .session ≡ partOf (tickTime every (timeOf e) n) (opening (e ∷ h)))
+      × (recordOf c lim (after n) .kept ≡ keptShown (tickTime every (timeOf e) n) (opening (e ∷ h)) (sessionStatus (e ∷ h) ∷ sessionControl (e ∷ h) ∷ sessionStop (e ∷ h) ∷ []))
   unfolding recordAsOf
-  session-ticked c lim n =
-      rw (latest-ticked n, opening-ticked every (timeOf e) (e ∷ h) n, status-ticked every (timeOf e) (e ∷ h) n, control-ticked every (timeOf e) (e ∷ h) n, stop-ticked every (timeOf e) (e ∷ h) n)
+  session-ticked c lim n = (
+    rw (latest-ticked n, opening-ticked every (timeOf e) (e ∷ h) n),
+    rw (latest-ticked n, opening-ticked every (timeOf e) (e ∷ h) n, status-ticked every (timeOf e) (e ∷ h) n, control-ticked every (timeOf e) (e ∷ h) n, stop-ticked every (timeOf e) (e ∷ h) n),
+  )

@@ -82,7 +82,7 @@ abbrev pub stillLatest : Latest → Latest
 stillLatest l = record { message = stillDated (l .message) }
 
 abbrev pub stillOpen : OpenSession → OpenSession
-stillOpen s = record { since = 0; age = s .age; protocol = s .protocol; plug = s .plug; status = stillDated (s .status); control = stillDated (s .control); stop = stillDated (s .stop) }
+stillOpen s = record { since = 0; age = s .age; protocol = s .protocol; plug = s .plug }
 
 abbrev pub stillPart : SessionPart → SessionPart
 stillPart part.Closed = part.Closed
@@ -96,6 +96,7 @@ still r =
       last = stillLast (r .last);
       latest = map stillLatest (r .latest);
       session = stillPart (r .session);
+      kept = map stillLatest (r .kept);
       accepted = r .accepted;
       tallies = r .tallies;
     }
@@ -111,9 +112,10 @@ datedTime dated.Nothing = 0
 datedTime (dated.At t age m) = t
 datedTime (dated.OlderAt t age m) = t
 
-abbrev pub partTimes : SessionPart → ℕ × ℕ × ℕ × ℕ
-partTimes part.Closed = (0, 0, 0, 0)
-partTimes (part.Opened s) = (s .since, datedTime (s .status), datedTime (s .control), datedTime (s .stop))
+abbrev pub sinceIn : SessionPart → ℕ
+sinceIn part.Closed = 0
+sinceIn (part.Opened s) = s .since
 
-abbrev pub timesIn : Record → ℕ × List ℕ × (ℕ × ℕ × ℕ × ℕ)
-timesIn r = (lastTimeIn (r .last), map (λ (l : Latest). datedTime (l .message)) (r .latest), partTimes (r .session))
+abbrev pub timesIn : Record → ℕ × List ℕ × ℕ × List ℕ
+timesIn r =
+    (lastTimeIn (r .last), map (λ (l : Latest). datedTime (l .message)) (r .latest), sinceIn (r .session), map (λ (l : Latest). datedTime (l .message)) (r .kept))

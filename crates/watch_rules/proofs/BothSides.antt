@@ -2,7 +2,7 @@
 -- the very cases that hold by looking back (specs/Readings.antt), closed by computing.
 use Prim.Native.Nat.{ℕ}
 use mathlib.Core.Path.{_≡_, refl}
-use mathlib.Core.List.{List, [], _∷_}
+use mathlib.Core.List.{List, [], _∷_, map}
 use lib.ListN.{getD}
 use Rattle.signal.specs.Signal.{getBits}
 use Rattle.signal.specs.Twos.{toSigned}
@@ -36,7 +36,8 @@ Runs (answers asked replies) = repliesFrom emptyTable asked ≡ replies
 Runs (shows asked post shown) = lookUpOf (runFrom emptyTable asked) post ≡ shown
 Runs (senses asked post sensor) = lookUpOf (runFrom emptyTable asked) post .shown .limits .sensor ≡ sensor
 Runs (reads-by asked post iface) = lookUpOf (runFrom emptyTable asked) post .shown .limits .interface ≡ iface
-Runs (in-session asked post session) = lookUpOf (runFrom emptyTable asked) post .shown .session ≡ session
+Runs (in-session asked post session ks) =
+    (lookUpOf (runFrom emptyTable asked) post .shown .session ≡ session) × (lookUpOf (runFrom emptyTable asked) post .shown .kept ≡ map (λ d. record { message = d }) ks)
 Runs (keeps asked post kind latest) = latestRun asked post kind ≡ latest
 Runs (dates asked post kind d) = isDated (latestRun asked post kind) d
 Runs (counts asked post accepted tallies) =
@@ -50,4 +51,4 @@ AllRun (c ∷ cs) = Runs c × AllRun cs
 
 pub both-sides : AllRun e8to13
 unfolding placeOf placeNamed somePlace placeIn heardOf oneMore counted withCounts feedAt feedOf isOther setUpOf releaseOf lookUpOf postRecord limitsFit sessionAfter stampIn agedTo withFrame silentIn lateAfter anyFindings unreadyIn carryingIn stoppedIn controlFindings statusFindings openingFindings finishedFindings messageFindings afterTick afterFrame lowersBadly outside leaking badInsulation differs messageOf builtOf statusIn parametersIn sessionIn controlIn rows ofKind firstAt covered unlabelled offender strayBelow judgedNumber judgeOn isForeign judgeFor roleOf statusBy openingBy limitsIn limitsBy commandBy placeBy datedAt olderBuilt.messageOf olderBuilt.builtOf wholesOf pad rawsOf getBits leNumber beNumber toSigned
-both-sides = (refl, (refl, (refl, (refl, (refl, (refl, (refl, (refl, (refl, (refl, (refl, ((refl, refl), (refl, (refl, (refl, (refl, ((refl, refl), ((refl, refl), (refl, (refl, (refl, (refl, (refl, (refl, (refl, (refl, (refl, (refl, (refl, (refl, (refl, (refl, (refl, (refl, (refl, (refl, (refl, (refl, (refl, (refl, (refl, (refl, (refl, (refl, (refl, (refl, (refl, (refl, (refl, ((refl, refl), ((refl, refl), ((refl, refl), ((refl, refl), (refl, (refl, (refl, (refl, (refl, (refl, (refl, (refl, (refl, (refl, (refl, (refl, (refl, (refl, (refl, (refl, (refl, (refl, (refl, (refl, (refl, ((refl, refl), (refl, (refl, (refl, (refl, (refl, tt))))))))))))))))))))))))))))))))))))))))))))))))))))))))))))))))))))))))))))))))
+both-sides = (refl, (refl, (refl, (refl, (refl, (refl, (refl, (refl, (refl, (refl, (refl, ((refl, refl), (refl, (refl, (refl, (refl, ((refl, refl), ((refl, refl), (refl, (refl, (refl, (refl, (refl, (refl, (refl, (refl, (refl, (refl, (refl, (refl, (refl, (refl, (refl, (refl, (refl, (refl, (refl, (refl, (refl, (refl, (refl, (refl, (refl, (refl, (refl, (refl, (refl, (refl, (refl, ((refl, refl), ((refl, refl), ((refl, refl), ((refl, refl), (refl, (refl, (refl, (refl, (refl, (refl, (refl, (refl, (refl, (refl, (refl, (refl, (refl, (refl, ((refl, refl), (refl, (refl, (refl, (refl, (refl, (refl, ((refl, refl), ((refl, refl), ((refl, refl), ((refl, refl), (refl, ((refl, refl), (refl, (refl, (refl, (refl, (refl, (refl, (refl, tt)))))))))))))))))))))))))))))))))))))))))))))))))))))))))))))))))))))))))))))))))))))))

@@ -5,22 +5,24 @@ use Prim.Native.Nat.{ℕ, _+_, _-_, _≤_, _<_}
 use native.Mathlib.Omega.{arith}
 use mathlib.Core.Path.{_≡_, refl, ap, sym, subst, _∙_}
 use mathlib.Core.List.{List, [], _∷_}
-use mathlib.Core.Bool.{Bool, true, false, cond}
+use mathlib.Core.Bool.{Bool, true, false, cond, _&&_, _||_, true≢false}
 use mathlib.Core.Option.{Option, none}
-use lib.Dec.{eqb, ltb}
+use lib.Dec.{eqb, leb, ltb}
 use lib.ListN.{getD}
 use borrow.Author.Tests.{eqb-true, eqb-false, eq-eqb, ne-eqb, ltb-true, ltb-false, leb-true, lt-ltb, le-ltb}
 use Rattle.refusals.specs.declared.Refusal.the-variants.{Earlier, OtherInterface}
 use Rattle.page_rows.specs.declared.Interface.{Interface}
 use Rattle.page_rows.specs.declared.Interface.the-variants.{Newer, Older}
 use Rattle.page_rows.specs.Messages.{messageCount}
-use Rattle.page_rows.specs.Interfaces.{safetyKind, isOn}
+use Rattle.page_rows.specs.Interfaces.{isOn}
 use Rattle.page_rows.proofs.Rules.{not-both}
 use Rattle.page_read.specs.declared.Judged.{Judged}
 use Rattle.page_read.specs.declared.Judged.the-variants as judged
 use Rattle.page_read.specs.Judge.{judgeOn}
 use Rattle.page_read.proofs.Interfaces.{on-own, on-table}
 use Rattle.page_interfaces.specs.Foreign.{isForeign, judgeFor}
+use Rattle.message_types.specs.KindNumbers.{safetyControlKind, sequenceKind}
+use Rattle.older_types.specs.KindNumbers as older
 use Rattle.rule_limits.specs.declared.PlainLimits.{PlainLimits}
 use Rattle.rule_limits.specs.Sensor.{interfaceOf}
 use Rattle.rule_pages.specs.Places.{placeBy}
@@ -76,28 +78,43 @@ own-pages (a ∷ rs) = steps-own (run.accepted rs) (own-pages rs) (run-kept rs .
 
 -- ---- a place is one kind's on an interface
 
-kind-older : (k : ℕ) → 9 ≤ k → kindAt Older (placeBy k) ≡ k
+kind-newer : (k : ℕ) → isOn Newer k ≡ true → kindAt Newer (placeBy k) ≡ k
 unfolding placeBy kindAt
-kind-older k low = go (ltb k 12) (ltb k 21) refl refl
+kind-newer k on = go (ltb k older.statusKind) refl on
   where
-    go : (a b : Bool) → ltb k 12 ≡ a → ltb k 21 ≡ b → kindAt Older (placeBy k) ≡ k
-    go true b e f = let l : k < 12 = ltb-true k 12 e in rw (e, le-ltb k 9 low, lt-ltb k 12 l)
+    go : (b : Bool) → ltb k older.statusKind ≡ b → b || leb sequenceKind k ≡ true → kindAt Newer (placeBy k) ≡ k
+    go true e q = rw (e, e)
+    go false e q =
+        let l : sequenceKind ≤ k = leb-true sequenceKind k q in
+        let m : older.stopKind ≤ k = omega arith in
+        let v : older.statusKind ≤ older.statusKind + (k - sequenceKind) = omega arith in
+        rw (e, le-ltb k older.stopKind m, le-ltb k sequenceKind l, le-ltb (older.statusKind + (k - sequenceKind)) older.statusKind v) (omega arith)
+
+kind-older : (k : ℕ) → safetyControlKind ≤ k → k < sequenceKind → kindAt Older (placeBy k) ≡ k
+unfolding placeBy kindAt
+kind-older k low high = go (ltb k older.statusKind) (ltb k older.stopKind) refl refl
+  where
+    go : (a b : Bool) → ltb k older.statusKind ≡ a → ltb k older.stopKind ≡ b → kindAt Older (placeBy k) ≡ k
+    go true b e f = let l : k < older.statusKind = ltb-true k older.statusKind e in rw (e, le-ltb k safetyControlKind low, lt-ltb k older.statusKind l)
     go false true e f =
-        let l : 12 ≤ k = ltb-false k 12 e in
-        let u : k < 21 = ltb-true k 21 f in
-        let v : k - 12 < 9 = omega arith in
-        rw (e, f, lt-ltb (k - 12) 9 v) (omega arith)
+        let l : older.statusKind ≤ k = ltb-false k older.statusKind e in
+        let u : k < older.stopKind = ltb-true k older.stopKind f in
+        let v : k - older.statusKind < safetyControlKind = omega arith in
+        rw (e, f, lt-ltb (k - older.statusKind) safetyControlKind v) (omega arith)
     go false false e f =
-        let l : 21 ≤ k = ltb-false k 21 f in
-        let v : 12 ≤ k - 9 = omega arith in
-        let w : 9 ≤ k - 9 = omega arith in
-        rw (e, f, le-ltb (k - 9) 9 w, le-ltb (k - 9) 12 v) (omega arith)
+        let l : older.stopKind ≤ k = ltb-false k older.stopKind f in
+        let v : older.statusKind ≤ k - safetyControlKind = omega arith in
+        let w : safetyControlKind ≤ k - safetyControlKind = omega arith in
+        rw (e, f, lt-ltb k sequenceKind high, le-ltb (k - safetyControlKind) safetyControlKind w, le-ltb (k - safetyControlKind) older.statusKind v) (omega arith)
 
 -- THEOREM: on an interface that has the kind, its place keeps it
 pub kind-at : (iface : Interface) (k : ℕ) → isOn iface k ≡ true → kindAt iface (placeBy k) ≡ k
-unfolding placeBy kindAt
-kind-at Newer k e = rw e
-kind-at Older k e = kind-older k (leb-true safetyKind k e)
+kind-at Newer k e = kind-newer k e
+kind-at Older k e = go (leb safetyControlKind k) refl e
+  where
+    go : (b : Bool) → leb safetyControlKind k ≡ b → b && ltb k sequenceKind ≡ true → kindAt Older (placeBy k) ≡ k
+    go true l q = kind-older k (leb-true safetyControlKind k l) (ltb-true k sequenceKind q)
+    go false l q = absurd (true≢false (sym q))
 
 place-one : (iface : Interface) (j k : ℕ) → isOn iface j ≡ true → isOn iface k ≡ true → placeBy j ≡ placeBy k → j ≡ k
 place-one iface j k p q e = sym (kind-at iface j p) ∙ ap (kindAt iface) e ∙ kind-at iface k q

@@ -1,5 +1,5 @@
 -- 02, Req 11: "read by the post's own pages". Which of the messages a post has heard: those of its own interface.
-use Prim.Native.Nat.{ℕ, _+_, _<_}
+use Prim.Native.Nat.{ℕ, _+_, _-_, _<_}
 use mathlib.Core.Path.{_≡_}
 use mathlib.Core.List.{[], _∷_}
 use mathlib.Core.Bool.{true, cond}
@@ -9,6 +9,8 @@ use Rattle.page_rows.specs.declared.Interface.{Interface}
 use Rattle.page_rows.specs.declared.Interface.the-variants.{Newer, Older}
 use Rattle.page_rows.specs.Messages.{messageCount}
 use Rattle.page_rows.specs.Interfaces.{isOn}
+use Rattle.message_types.specs.KindNumbers.{safetyControlKind, sequenceKind}
+use Rattle.older_types.specs.KindNumbers as older
 use Rattle.rule_limits.specs.Sensor.{interfaceOf}
 use Rattle.rules.specs.History.{frame, tick, History, Said}
 use Rattle.watch_rules.specs.Steps.{Standing, free, held}
@@ -28,8 +30,8 @@ OnOwn (held c lim h) = OnPages (interfaceOf (lim .interface)) h
 
 -- the kind whose latest frame a place keeps, on a post of the interface
 unfoldable pub kindAt : Interface → ℕ → ℕ
-kindAt Newer j = j
-kindAt Older j = cond (ltb j 9) (j + 12) (cond (ltb j 12) j (j + 9))
+kindAt Newer j = cond (ltb j older.statusKind) j (sequenceKind + (j - older.statusKind))
+kindAt Older j = cond (ltb j safetyControlKind) (j + older.statusKind) (cond (ltb j older.statusKind) j (j + safetyControlKind))
 
 -- a frame, where it is of the kind k
 abbrev pub onlyOf : ℕ → Option Said → Option Said

@@ -3,7 +3,7 @@
 use Prim.Native.Nat.{ℕ}
 use mathlib.Core.Path.{_≡_, refl}
 use mathlib.Core.Bool.{true, false}
-use mathlib.Core.List.{List, [], _∷_, reverse}
+use mathlib.Core.List.{List, [], _∷_, _++_, map, reverse}
 use lib.IntN.{pos, negsuc}
 use lib.ListN.{getD, replicate}
 use Rattle.refusals.specs.declared.Refusal.the-variants.{ChannelFree, Earlier, UnknownIdentifier, OtherInterface, TooShort, TooLong, NoLabel, UncoveredBit, ChannelTaken, LimitOutside, NoSuchPost, NotSetUp}
@@ -18,12 +18,16 @@ use Rattle.payload.specs.Payload.{leNumber, beNumber}
 use Rattle.signal.specs.Twos.{toSigned}
 use Rattle.message_types.specs.declared.CpState.the-variants as cp
 use Rattle.message_types.specs.declared.PpState.the-variants as pp
-use Rattle.message_types.specs.declared.Message.the-variants.{Stop, SafetyState, Probes}
+use Rattle.message_types.specs.declared.Message.the-variants.{Stop, SafetyState, Probes, Sequence, Energy, Ocpp}
 use Rattle.message_types.specs.declared.StopOrigin.the-variants.{Evse, Pev}
 use Rattle.message_types.specs.declared.Protocol.the-variants.{CcsIso15118v2013}
 use Rattle.message_types.specs.declared.Plug.the-variants.{CcsDcExtended}
 use Rattle.message_types.specs.declared.SystemEnable.the-variants.{Allowed}
-use Rattle.message_types.specs.KindNumbers.{safetyStateKind, probesKind}
+use Rattle.message_types.specs.declared.Permission.the-variants as permission
+use Rattle.message_types.specs.declared.Button.the-variants as button
+use Rattle.message_types.specs.declared.Step.the-variants as step
+use Rattle.message_types.specs.declared.Validity.the-variants as validity
+use Rattle.message_types.specs.KindNumbers.{safetyStateKind, probesKind, sequenceKind, energyKind, ocppKind}
 use Rattle.message_parts.specs.Parts.{statusIn, parametersIn, sessionIn, controlIn}
 use Rattle.message_build.specs.Built.{messageOf, builtOf}
 use Rattle.messages.specs.Readings as messages
@@ -48,6 +52,7 @@ use Rattle.rule_asks.specs.Judgements.{lowersBadly, outside, leaking, badInsula
 use Rattle.rules.specs.Rules.{sessionStatus, sessionControl, sessionStop, limitOf, f1, f2, f3, f4, f5, f6, f7, f8, f9, f10, f11, f12, findings01}
 use Rattle.rules.specs.Counts.{talliesOf}
 use Rattle.rules.specs.Record.{placeCount, datedAt, recordAsOf}
+use Rattle.rules.specs.After.{keptCount}
 use Rattle.watch_rules.specs.declared.Answer.the-variants.{Findings, Refused}
 use Rattle.watch_rules.specs.declared.Setting.the-variants as setting
 use Rattle.watch_rules.specs.declared.LookedUp.{LookedUp}
@@ -58,7 +63,7 @@ use Rattle.watch_rules.specs.Run.{Request, setUp, release, frame, tick, 
 
 -- a reading of frames and messages (E1 to E7); requests to the empty table in order of arrival, with their replies;
 -- such requests, and a post's record after them, or the sensor kind or the interface in it, or its latest message in a place, or that one's time and age,
--- or its session's part, or its counts;
+-- or its session's part with what it keeps, or its counts;
 -- how many of them were refused; and the index's entry for a channel after them
 pub data Case : Type 0 where
   codec : messages.Case → Case
@@ -66,7 +71,7 @@ pub data Case : Type 0 where
   shows : List Request → ℕ → LookedUp → Case
   senses : List Request → ℕ → Sensor → Case
   reads-by : List Request → ℕ → Interface → Case
-  in-session : List Request → ℕ → SessionPart → Case
+  in-session : List Request → ℕ → SessionPart → List Dated → Case
   keeps : List Request → ℕ → ℕ → Dated → Case
   dates : List Request → ℕ → ℕ → ℕ × ℕ → Case
   counts : List Request → ℕ → ℕ → List ℕ → Case
@@ -87,7 +92,8 @@ Holds (answers asked replies) = replies01From [] asked ≡ replies
 Holds (shows asked post shown) = lookUp01 (acceptedFrom [] asked) post ≡ shown
 Holds (senses asked post sensor) = lookUp01 (acceptedFrom [] asked) post .shown .limits .sensor ≡ sensor
 Holds (reads-by asked post iface) = lookUp01 (acceptedFrom [] asked) post .shown .limits .interface ≡ iface
-Holds (in-session asked post session) = lookUp01 (acceptedFrom [] asked) post .shown .session ≡ session
+Holds (in-session asked post session ks) =
+    (lookUp01 (acceptedFrom [] asked) post .shown .session ≡ session) × (lookUp01 (acceptedFrom [] asked) post .shown .kept ≡ map (λ d. record { message = d }) ks)
 Holds (keeps asked post kind latest) = latestShown asked post kind ≡ latest
 Holds (dates asked post kind d) = isDated (latestShown asked post kind) d
 Holds (counts asked post accepted tallies) =
@@ -110,7 +116,7 @@ limits = limitsWith 0
 abbrev limitsOn : ℕ → PlainLimits
 limitsOn n = record { voltage = 5000; charge = 1000; discharge = 500; silence = 500; sensor = 0; interface = n }
 
--- the record of a post that was just set up: never heard, no message in any of the twenty-one places, no session
+-- the record of a post that was just set up: never heard, no message in any of the twenty-five places, no session
 abbrev none : Latest
 none = record { message = dated.Nothing }
 
@@ -122,6 +128,7 @@ emptyRecord =
       last = last.Never;
       latest = replicate placeCount none;
       session = part.Closed;
+      kept = replicate keptCount none;
       accepted = 0;
       tallies = 0 ∷ 0 ∷ 0 ∷ 0 ∷ 0 ∷ 0 ∷ 0 ∷ 0 ∷ 0 ∷ 0 ∷ 0 ∷ 0 ∷ [];
     }
@@ -194,6 +201,18 @@ charging t = frame 4 t 0x68005 true (0 ∷ 0 ∷ 0 ∷ 0 ∷ 0 ∷ [])
 
 abbrev olderStop : ℕ → Request
 olderStop t = frame 4 t 0x68006 true (1 ∷ [])
+
+-- a frame of each of the rest of 000's on channel 4, all of their bytes 0
+abbrev zeroFrame : ℕ → ℕ → ℕ → Request
+zeroFrame t m n = frame 4 t m true (replicate n 0)
+
+abbrev rest : ℕ → List Request
+rest t =
+    zeroFrame t 0x63002 3 ∷ zeroFrame t 0x63201 8 ∷ zeroFrame t 0x6b100 6 ∷ zeroFrame t 0x6b101 6 ∷ zeroFrame t 0x6b102 8 ∷ zeroFrame t 0x6b103 8 ∷ zeroFrame t 0x6b104 6
+    ∷ zeroFrame t 0x6b200 8 ∷ zeroFrame t 0x6b201 8 ∷ zeroFrame t 0x6b202 8 ∷ zeroFrame t 0x6b203 8 ∷ zeroFrame t 0x6b204 8 ∷ zeroFrame t 0x6b300 2 ∷ []
+
+abbrev restCount : ℕ
+restCount = 13
 
 abbrev e1to7 : List messages.Case → List Case → List Case
 e1to7 [] rest = rest
@@ -361,16 +380,9 @@ e8to13 =
     ∷ keeps (reading 1 ∷ charging 10 ∷ tick 4 12 ∷ []) 0 8 (dated.OlderAt 10 2 (older.Charging (record { voltage = 0; current = pos 0; charge = 0 })))
     ∷ keeps (reading 1 ∷ charging 10 ∷ reading 0 ∷ tick 4 12 ∷ []) 0 8 dated.Nothing
     ∷ in-session (reading 1 ∷ olderSession 0 2 1 0 ∷ charging 1 ∷ frame 4 2 0x68003 true (1 ∷ 0 ∷ 2 ∷ 0 ∷ []) ∷ olderStatus 3 0 0 0 0 255 ∷ []) 0
-    (part.Opened
-    (record {
-      since = 0;
-      age = 3;
-      protocol = CcsIso15118v2013;
-      plug = CcsDcExtended;
-      status = dated.OlderAt 3 0 (older.Status (record { voltage = 0; current = pos 0; modules = pos 25; enclosure = pos 25; enable = Allowed; insulation = 510 }));
-      control = dated.OlderAt 2 1 (older.Precharge (record { voltage = 1; current = 2 }));
-      stop = dated.Nothing;
-    }))
+    (part.Opened (record { since = 0; age = 3; protocol = CcsIso15118v2013; plug = CcsDcExtended }))
+    (dated.OlderAt 3 0 (older.Status (record { voltage = 0; current = pos 0; modules = pos 25; enclosure = pos 25; enable = Allowed; insulation = 510 }))
+    ∷ dated.OlderAt 2 1 (older.Precharge (record { voltage = 1; current = 2 })) ∷ dated.Nothing ∷ [])
     -- an old and a new post side by side: each by its own pages
     ∷ answers (reading 1 ∷ setUp 1 9 limits ∷ olderSession 0 2 1 0 ∷ frame 9 0 0x6b001 true (2 ∷ 1 ∷ []) ∷ frame 9 1 0x68001 true (2 ∷ 1 ∷ 0 ∷ 0 ∷ 0 ∷ 0 ∷ 0 ∷ 0 ∷ []) ∷ session 1 ∷ charging 2 ∷ frame 9 2 0x6b003 true (0 ∷ 0 ∷ 0 ∷ 0 ∷ 0 ∷ 0 ∷ 0x48 ∷ []) ∷ [])
     (done ∷ done ∷ found 0 ∷ found 0 ∷ fed (Refused OtherInterface) ∷ fed (Refused OtherInterface) ∷ found 16 ∷ found 16 ∷ [])
@@ -389,26 +401,32 @@ e8to13 =
     ∷ counts (set-up ∷ session 0 ∷ status 1 0 0 255 ∷ stop 2 1 ∷ control 3 0x88 0x13 0x04 ∷ control 4 0x88 0x13 0x08 ∷ finished 5 ∷ finished 6 ∷ []) 0 7 (0 ∷ 0 ∷ 0 ∷ 0 ∷ 0 ∷ 0 ∷ 0 ∷ 0 ∷ 0 ∷ 0 ∷ 1 ∷ 2 ∷ [])
     -- the session's part keeps the latest stop; one before the opening, or of the session before, is none of it
     ∷ in-session (set-up ∷ session 0 ∷ stop 1 1 ∷ stop 3 3 ∷ tick 4 5 ∷ []) 0
-    (part.Opened
-    (record {
-      since = 0;
-      age = 5;
-      protocol = CcsIso15118v2013;
-      plug = CcsDcExtended;
-      status = dated.Nothing;
-      control = dated.Nothing;
-      stop = dated.At 3 2 (Stop (record { origin = Pev }));
-    }))
+    (part.Opened (record { since = 0; age = 5; protocol = CcsIso15118v2013; plug = CcsDcExtended })) (dated.Nothing ∷ dated.Nothing ∷ dated.At 3 2 (Stop (record { origin = Pev })) ∷ [])
     ∷ in-session (set-up ∷ session 0 ∷ stop 1 1 ∷ finished 2 ∷ stop 3 3 ∷ session 4 ∷ []) 0
-    (part.Opened (record { since = 4; age = 0; protocol = CcsIso15118v2013; plug = CcsDcExtended; status = dated.Nothing; control = dated.Nothing; stop = dated.Nothing }))
-    ∷ in-session (set-up ∷ session 0 ∷ stop 1 1 ∷ finished 2 ∷ []) 0 part.Closed
+    (part.Opened (record { since = 4; age = 0; protocol = CcsIso15118v2013; plug = CcsDcExtended })) (replicate keptCount dated.Nothing)
+    ∷ in-session (set-up ∷ session 0 ∷ stop 1 1 ∷ finished 2 ∷ []) 0 part.Closed (replicate keptCount dated.Nothing)
     -- on an older post the three functions after its Emergency_Stop
     ∷ answers (reading 1 ∷ olderSession 0 2 1 0 ∷ olderStatus 1 0 0 0 0 255 ∷ charging 2 ∷ olderStop 3 ∷ frame 4 4 0x68002 true (0 ∷ 0 ∷ []) ∷ frame 4 5 0x68003 true (0 ∷ 0 ∷ 0 ∷ 0 ∷ []) ∷ charging 6
     ∷ frame 4 7 0x68007 true (0 ∷ []) ∷ olderStop 8 ∷ olderSession 9 2 1 0 ∷ olderStatus 10 0 0 0 0 255 ∷ charging 11 ∷ [])
     (done ∷ found 0 ∷ found 0 ∷ found 0 ∷ found 0 ∷ found 2048 ∷ found 2048 ∷ found 2048
     ∷ found 0 ∷ found 0 ∷ found 0 ∷ found 0 ∷ found 0 ∷ [])
     ∷ in-session (reading 1 ∷ olderSession 0 2 1 0 ∷ olderStop 1 ∷ []) 0
-    (part.Opened (record { since = 0; age = 1; protocol = CcsIso15118v2013; plug = CcsDcExtended; status = dated.Nothing; control = dated.Nothing; stop = dated.OlderAt 1 0 (older.Stop (record { origin = Evse })) }))
+    (part.Opened (record { since = 0; age = 1; protocol = CcsIso15118v2013; plug = CcsDcExtended })) (dated.Nothing ∷ dated.Nothing ∷ dated.OlderAt 1 0 (older.Stop (record { origin = Evse })) ∷ [])
+    -- 02, Req 14: the rest of 000's are accepted on a newer post with no finding, and get 29 on an older one; they raise F2 of a late controller, and F1 in a
+    -- silent session, and nothing else
+    ∷ answers (reading 0 ∷ rest 0) (done ∷ replicate restCount (found 0))
+    ∷ answers (reading 1 ∷ rest 0) (done ∷ replicate restCount (fed (Refused OtherInterface)))
+    ∷ answers (set-up ∷ controller 1000 ∷ session 1000 ∷ rest 1201 ++ rest 1501) (done ∷ found 0 ∷ found 0 ∷ replicate restCount (found 2) ++ replicate restCount (found 3))
+    -- a bit that no signal covers is 6, a byte too few 4, one too many 15, a number without a label 5; the identifiers beside them are unknown
+    ∷ answers (set-up ∷ frame 4 0 0x63002 true (4 ∷ 0 ∷ 0 ∷ []) ∷ frame 4 0 0x6b202 true (0 ∷ 0 ∷ 0 ∷ 0 ∷ 0 ∷ 1 ∷ 0 ∷ 0 ∷ []) ∷ zeroFrame 0 0x63002 2 ∷ zeroFrame 0 0x6b300 3
+    ∷ frame 4 0 0x6b203 true (1 ∷ replicate 7 0) ∷ frame 4 0 0x6b204 true (0 ∷ 4 ∷ replicate 6 0) ∷ zeroFrame 0 0x6b106 6 ∷ zeroFrame 0 0x63200 8 ∷ frame 4 0 0x6b300 false (0 ∷ 0 ∷ []) ∷ [])
+    (done ∷ fed (Refused UncoveredBit) ∷ fed (Refused UncoveredBit) ∷ fed (Refused TooShort) ∷ fed (Refused TooLong)
+    ∷ fed (Refused (NoLabel 0)) ∷ fed (Refused (NoLabel 8)) ∷ fed (Refused UnknownIdentifier) ∷ fed (Refused UnknownIdentifier) ∷ fed (Refused UnknownIdentifier) ∷ [])
+    -- the record shows each under its kind: a Sequence_Control, an EV_Information_Energy of -1, 2 and -32,768 kWh, and an OCPP_Control of -12.5 A
+    ∷ keeps (set-up ∷ frame 4 10 0x63002 true (3 ∷ 5 ∷ 1 ∷ []) ∷ tick 4 12 ∷ []) 0 (placeBy sequenceKind)
+    (dated.At 10 2 (Sequence (record { authorisation = permission.Allowed; chademo = button.Pressed; done = step.Done; valid = validity.Invalid; parameters = step.Done; stop = button.Pressed })))
+    ∷ keeps (set-up ∷ rest 5 ++ (frame 4 10 0x6b104 true (0xFF ∷ 0xFF ∷ 2 ∷ 0 ∷ 0 ∷ 0x80 ∷ []) ∷ tick 4 12 ∷ [])) 0 (placeBy energyKind) (dated.At 10 2 (Energy (record { minimum = negsuc 0; target = pos 2; maximum = negsuc 32767 })))
+    ∷ keeps (set-up ∷ frame 4 10 0x6b300 true (0x83 ∷ 0xFF ∷ []) ∷ []) 0 (placeBy ocppKind) (dated.At 10 0 (Ocpp (record { target = negsuc 124 })))
     ∷ []
 
 abbrev pub table : List Case
@@ -421,4 +439,4 @@ joined (c ∷ cs) rest a b = (a .0, joined cs rest (a .1) b)
 
 pub readings : All table
 unfolding standing findFrom holder otherHolds feed01 setUp01 release01 lookUp01 feedSteps setUpSteps releaseSteps limitsFit sinceFinished opening inSession earlierIn lowersBadly outside leaking badInsulation differs sessionStatus sessionControl sessionStop limitOf f1 f2 f3 f4 f5 f6 f7 f8 f9 f10 f11 f12 findings01 recordAsOf messageOf builtOf statusIn parametersIn sessionIn controlIn rows ofKind firstAt covered unlabelled offender strayBelow judgedNumber judgeOn isForeign judgeFor roleOf statusBy openingBy limitsIn limitsBy commandBy placeBy datedAt olderBuilt.messageOf olderBuilt.builtOf wholesOf pad rawsOf getBits leNumber beNumber toSigned accepted talliesOf
-readings = joined messages.table e8to13 messages.readings (refl, (refl, (refl, (refl, (refl, (refl, (refl, (refl, (refl, (refl, (refl, ((refl, refl), (refl, (refl, (refl, (refl, ((refl, refl), ((refl, refl), (refl, (refl, (refl, (refl, (refl, (refl, (refl, (refl, (refl, (refl, (refl, (refl, (refl, (refl, (refl, (refl, (refl, (refl, (refl, (refl, (refl, (refl, (refl, (refl, (refl, (refl, (refl, (refl, (refl, (refl, (refl, ((refl, refl), ((refl, refl), ((refl, refl), ((refl, refl), (refl, (refl, (refl, (refl, (refl, (refl, (refl, (refl, (refl, (refl, (refl, (refl, (refl, (refl, (refl, (refl, (refl, (refl, (refl, (refl, (refl, ((refl, refl), (refl, (refl, (refl, (refl, (refl, tt))))))))))))))))))))))))))))))))))))))))))))))))))))))))))))))))))))))))))))))))
+readings = joined messages.table e8to13 messages.readings (refl, (refl, (refl, (refl, (refl, (refl, (refl, (refl, (refl, (refl, (refl, ((refl, refl), (refl, (refl, (refl, (refl, ((refl, refl), ((refl, refl), (refl, (refl, (refl, (refl, (refl, (refl, (refl, (refl, (refl, (refl, (refl, (refl, (refl, (refl, (refl, (refl, (refl, (refl, (refl, (refl, (refl, (refl, (refl, (refl, (refl, (refl, (refl, (refl, (refl, (refl, (refl, ((refl, refl), ((refl, refl), ((refl, refl), ((refl, refl), (refl, (refl, (refl, (refl, (refl, (refl, (refl, (refl, (refl, (refl, (refl, (refl, (refl, (refl, ((refl, refl), (refl, (refl, (refl, (refl, (refl, (refl, ((refl, refl), ((refl, refl), ((refl, refl), ((refl, refl), (refl, ((refl, refl), (refl, (refl, (refl, (refl, (refl, (refl, (refl, tt)))))))))))))))))))))))))))))))))))))))))))))))))))))))))))))))))))))))))))))))))))))))

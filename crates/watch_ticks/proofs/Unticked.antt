@@ -4,9 +4,9 @@ use Prim.Native.Nat.{ℕ}
 use mathlib.Core.Path.{_≡_, refl, sym, ap, _∙_}
 use mathlib.Core.List.{List, [], _∷_, map}
 use mathlib.Core.Bool.{Bool, true, false, cond}
-use lib.Dec.{ltb}
 use mathlib.Core.Option.{Option, none, some}
-use Rattle.message_types.specs.KindNumbers.{kindCount}
+use Rattle.page_rows.specs.declared.Interface.the-variants.{Newer}
+use Rattle.page_rows.specs.Interfaces.{isOn}
 use Rattle.older_build.specs.Built as older
 use Rattle.rule_pages.specs.Said.{openingBy}
 use Rattle.message_build.specs.Built.{messageOf}
@@ -22,7 +22,7 @@ use Rattle.rules.specs.declared.Record.{Record}
 use Rattle.rules.specs.History.{History, Said, newest, opening, countFrom}
 use Rattle.rules.specs.Times.{receivedOf, latestTime, ageOf}
 use Rattle.rules.specs.Rules.{sessionStatus, sessionControl, sessionStop}
-use Rattle.rules.specs.Record.{placeCount, datedAt, datedOf, atPlace, partOf, recordAsOf, recordOf}
+use Rattle.rules.specs.Record.{placeCount, datedAt, datedOf, atPlace, partOf, keptShown, recordAsOf, recordOf}
 use Rattle.watch_clock.specs.Later.{atTime}
 use Rattle.watch_clock.proofs.Later.{place-timely, newest-retimed, opening-retimed, status-retimed, control-retimed, stop-retimed}
 use Rattle.watch_ticks.specs.Marks.{Mark, whole, without, frames}
@@ -40,19 +40,20 @@ plainDated (some m) = datedAt (m .time) 0 (m .kind) (m .raw)
 abbrev plainLatest : Option Said → Latest
 plainLatest o = record { message = plainDated o }
 
-abbrev plainPart : Option Said → Option Said → Option Said → Option Said → SessionPart
-plainPart none s d m = part.Closed
-plainPart (some o) s d m =
+abbrev plainPart : Option Said → SessionPart
+plainPart none = part.Closed
+plainPart (some o) =
     part.Opened
     (record {
       since = o .time;
       age = 0;
       protocol = openingBy (o .kind) (o .raw) .protocol;
       plug = openingBy (o .kind) (o .raw) .plug;
-      status = plainDated s;
-      control = plainDated d;
-      stop = plainDated m;
     })
+
+abbrev plainKept : Option Said → List (Option Said) → List Latest
+plainKept none ks = map (λ (o : Option Said). plainLatest none) ks
+plainKept (some o) ks = map plainLatest ks
 
 -- what was found, as it was received
 abbrev received : Option Said → Option Said
@@ -60,7 +61,7 @@ received o = atTime receivedOf o
 
 ageless-at : (t age k raw : ℕ) → ageless (datedAt t age k raw) ≡ datedAt t 0 k raw
 unfolding datedAt
-ageless-at t age k raw = go (ltb k kindCount)
+ageless-at t age k raw = go (isOn Newer k)
   where
     go : (b : Bool) → ageless (cond b (dated.At t age (messageOf k raw)) (dated.OlderAt t age (older.messageOf k raw))) ≡ cond b (dated.At t 0 (messageOf k raw)) (dated.OlderAt t 0 (older.messageOf k raw))
     go true = refl
@@ -70,9 +71,14 @@ dated-plain : (now : ℕ) (o : Option Said) → ageless (datedOf now o) ≡ plai
 dated-plain now none = refl
 dated-plain now (some m) = ageless-at (receivedOf (m .time)) (ageOf now (m .time)) (m .kind) (m .raw)
 
-part-plain : (now : ℕ) (o s d m : Option Said) → agelessPart (partOf now o s d m) ≡ plainPart (received o) (received s) (received d) (received m)
-part-plain now none s d m = refl
-part-plain now (some o) s d m = rw (dated-plain now s, dated-plain now d, dated-plain now m)
+part-plain : (now : ℕ) (o : Option Said) → agelessPart (partOf now o) ≡ plainPart (received o)
+part-plain now none = refl
+part-plain now (some o) = refl
+
+kept-plain : (now : ℕ) (o s d m : Option Said)
+    → map agelessLatest (keptShown now o (s ∷ d ∷ m ∷ [])) ≡ plainKept (received o) (received s ∷ received d ∷ received m ∷ [])
+kept-plain now none s d m = refl
+kept-plain now (some o) s d m = rw (dated-plain now s, dated-plain now d, dated-plain now m)
 
 latests-plain : (now : ℕ) (h : History) (ks : List ℕ)
     → map agelessLatest (map (λ j. record { message = datedOf now (newest (atPlace j) h) }) ks) ≡ map (λ j. plainLatest (received (newest (atPlace j) h))) ks
@@ -86,7 +92,8 @@ plainRecord c lim h =
       limits = limitsOf lim;
       last = last.Never;
       latest = map (λ j. plainLatest (received (newest (atPlace j) h))) (countFrom 0 placeCount);
-      session = plainPart (received (opening h)) (received (sessionStatus h)) (received (sessionControl h)) (received (sessionStop h));
+      session = plainPart (received (opening h));
+      kept = plainKept (received (opening h)) (received (sessionStatus h) ∷ received (sessionControl h) ∷ received (sessionStop h) ∷ []);
       accepted = 0;
       tallies = [];
     }
@@ -94,7 +101,11 @@ plainRecord c lim h =
 record-plain : (c : ℕ) (lim : PlainLimits) (h : History) → unticked (recordOf c lim h) ≡ plainRecord c lim h
 unfolding recordAsOf unticked plainRecord
 record-plain c lim h =
-    rw (latests-plain (latestTime h) h (countFrom 0 placeCount), part-plain (latestTime h) (opening h) (sessionStatus h) (sessionControl h) (sessionStop h))
+    rw (
+      latests-plain (latestTime h) h (countFrom 0 placeCount),
+      part-plain (latestTime h) (opening h),
+      kept-plain (latestTime h) (opening h) (sessionStatus h) (sessionControl h) (sessionStop h),
+    )
 
 -- ---- which are those of the kept events
 

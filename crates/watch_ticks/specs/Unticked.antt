@@ -20,9 +20,7 @@ agelessLatest l = record { message = ageless (l .message) }
 
 abbrev pub agelessPart : SessionPart → SessionPart
 agelessPart part.Closed = part.Closed
-agelessPart (part.Opened s) =
-    part.Opened
-    (record { since = s .since; age = 0; protocol = s .protocol; plug = s .plug; status = ageless (s .status); control = ageless (s .control); stop = ageless (s .stop) })
+agelessPart (part.Opened s) = part.Opened (record { since = s .since; age = 0; protocol = s .protocol; plug = s .plug })
 
 unfoldable pub unticked : Record → Record
 unticked r =
@@ -32,6 +30,7 @@ unticked r =
       last = last.Never;
       latest = map agelessLatest (r .latest);
       session = agelessPart (r .session);
+      kept = map agelessLatest (r .kept);
       accepted = 0;
       tallies = [];
     }

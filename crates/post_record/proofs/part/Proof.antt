@@ -11,26 +11,8 @@ is-set-requires c κs = search needs
 returns : tie.Need-returns
 returns c = rw (sym (c .before .is-set .ensures) ∙ not-true _ (c .if1 .taken))
 
-element-copy-out-st : tie.Need-element-copy-out-st
-element-copy-out-st c = search needs
-
-element-copy-out-ct : tie.Need-element-copy-out-ct
-element-copy-out-ct c = search needs
-
-element-copy-out-em : tie.Need-element-copy-out-em
-element-copy-out-em c = search needs
-
 session-in-requires : tie.Need-session-in-requires
 session-in-requires c κs = search needs
-
-dated-requires : tie.Need-dated-requires
-dated-requires c κs = search needs
-
-dated-requires-2 : tie.Need-dated-requires-2
-dated-requires-2 c κs = search needs
-
-dated-requires-3 : tie.Need-dated-requires-3
-dated-requires-3 c κs = search needs
 
 received-requires : tie.Need-received-requires
 received-requires c κs = search needs
@@ -40,15 +22,11 @@ age-requires c κs = search needs
 
 returns-2 : tie.Need-returns-2
 returns-2 c =
-    let d = c .before .before .before .before in
-    let n = d .before in
-    let o = n .before .before .before .before in
+    let n = c .before .before in
+    let o = n .before in
     rw (
       sym (o .before .is-set .ensures) ∙ not-false _ (o .if1 .left),
       n .session-in .ensures,
-      d .dated .ensures,
-      c .before .before .before .dated2 .ensures,
-      c .before .before .dated3 .ensures,
       c .before .received .ensures,
       c .age .ensures,
     )
@@ -56,16 +34,4 @@ returns-2 c =
 pub part-spec : {M : Type 1} → statement M
 part-spec =
     tie.close
-    (tie.spec
-    is-set-requires
-    returns
-    element-copy-out-st
-    element-copy-out-ct
-    element-copy-out-em
-    session-in-requires
-    dated-requires
-    dated-requires-2
-    dated-requires-3
-    received-requires
-    age-requires
-    returns-2)
+    (tie.spec is-set-requires returns session-in-requires received-requires age-requires returns-2)

@@ -18,7 +18,14 @@ sub-result c = search needs
 
 returns-3 : tie.Need-returns-3
 unfolding placeBy
-returns-3 c = rw (le-ltb _ _ (c .before .if1 .left), le-ltb _ _ (c .if2 .left))
+returns-3 c = rw (le-ltb _ _ (c .before .before .if1 .left), le-ltb _ _ (c .before .if2 .left), lt-ltb _ _ (c .if3 .taken))
+
+add-result : tie.Need-add-result
+add-result c = search needs
+
+returns-4 : tie.Need-returns-4
+unfolding placeBy
+returns-4 c = rw (le-ltb _ _ (c .before .before .if1 .left), le-ltb _ _ (c .before .if2 .left), le-ltb _ _ (c .if3 .left))
 
 pub place-by-spec : {M : Type 1} → statement M
-place-by-spec = tie.close (tie.spec returns returns-2 sub-result returns-3)
+place-by-spec = tie.close (tie.spec returns returns-2 sub-result returns-3 add-result returns-4)
