@@ -70,7 +70,8 @@ use Rattle.lent_walks.proofs.Elem.{elem, whole-raw, as-value, writes-at, reads-
 use Rattle.lent_walks.proofs.InPlace.{Of}
 use Rattle.lent_walks.proofs.Locals.{alloc-all, free-all, span, var, val}
 use Rattle.lent_table.proofs.Entry.{table-val, Held}
-use Rattle.lent_heads.proofs.Posts.{slot-val, head-val, post-val, post-of, table-of, us-of, ss-of, xs-of, us-at, xs-at, post-at, head-at, headed, us-long, us-within, count-is, xs-long, xs-within, entry-fits, head-is, ss-long, ss-within, table-set, stored-is, head-stored, headed-long, headed-within, headed-at, slot-stored, slot-left, τS, Parts, Known}
+use Rattle.lent_look.proofs.InMemory.{slot-val, head-val, post-val, post-of, table-of, us-of, ss-of, xs-of, us-at, xs-at, post-at, head-at, us-long, us-within, count-is, xs-long, xs-within, entry-fits, head-is}
+use Rattle.lent_heads.proofs.Posts.{headed, ss-long, ss-within, table-set, stored-is, head-stored, headed-long, headed-within, headed-at, slot-stored, slot-left, τS, Parts, Known}
 
 abbrev τT : Ty
 τT = T′.mir

@@ -60,7 +60,8 @@ use Rattle.lent_walks.proofs.Params.{Param, word, rows, mir-types, mirs-are, la
 use Rattle.lent_table.proofs.Entry.{table-val, Wanted, values, in-a-row, signature, ended, Tok, Own, Held, Walk, Shown}
 use Rattle.lent_table.proofs.Entry as Entry
 use Rattle.lent_heads.proofs.InHead as In
-use Rattle.lent_heads.proofs.Posts.{head-val, head-at, posts-long, count-is, entry-fits, Parts, Known}
+use Rattle.lent_look.proofs.InMemory.{head-val, head-at, posts-long, count-is, entry-fits}
+use Rattle.lent_heads.proofs.Posts.{Parts, Known}
 
 -- a head's step, with the entry's parameters
 abbrev pub OfHead : {n : ℕ} → List (Param (suc n)) → Type 0

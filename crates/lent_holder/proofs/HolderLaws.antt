@@ -16,11 +16,11 @@ use Rattle.watch_rules.specs.Table.{postCount, channelCount, isChannel, holds, 
 use Rattle.watch_rules.specs.Steps.{Steps, Standing, held, standing, holdsIn, holder, answerIn, feed01, InRange, Kept}
 use Rattle.watch_rules.proofs.Standings.{held-on, holder-holds, holder-is}
 use Rattle.watch_rules.proofs.Indexed.{named-back, place-in}
-use Rattle.watch_rules.proofs.Same.{place-named}
+use Rattle.watch_rules.proofs.Same.{some-low, place-named, place-past}
 use Rattle.watch_rules.proofs.Index.{place-holds}
 use Rattle.watch_rules.proofs.Right.{feed-right}
 use Rattle.plain_words.specs.Words.{refusalWord}
-use Rattle.lent_holder.specs.Holder.{holderWord, holder01}
+use Rattle.lent_holder.specs.Holder.{holderWord, holderAt, holder01}
 
 -- ---- of every table
 
@@ -29,6 +29,17 @@ and-second true b e = e
 and-second false b e = absurd (true≢false (sym e))
 
 module _ (t : Table) (c : ℕ) where
+  -- the head of the post that the index names tells it
+  pub holder-same : holderAt (postIn t (somePlace t c) .head) (somePlace t c) c ≡ holderWord t c
+  unfolding holderWord holderAt
+  holder-same = go (isChannel c) (holds (postIn t (somePlace t c) .head) c) refl
+    where
+      go : (a b : Bool) → holds (postIn t (somePlace t c) .head) c ≡ b
+          → cond (a && b) (somePlace t c) (refusalWord ChannelFree) ≡ cond (a && ltb (placeIn t c) postCount) (placeIn t c) (refusalWord ChannelFree)
+      go true true e = rw (place-named t c e, lt-ltb (somePlace t c) postCount (some-low t c))
+      go true false e = rw (place-past t c e)
+      go false b e = refl
+
   -- what the word tells: a place of a post, or 1
   told : holderWord t c < 65536 → (isChannel c ≡ true) × (placeIn t c < postCount) × (holderWord t c ≡ placeIn t c)
   unfolding holderWord

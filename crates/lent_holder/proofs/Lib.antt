@@ -1,3 +1,4 @@
 pub mod Entries
 pub mod HolderLaws
 pub mod Night
+pub mod InHolder

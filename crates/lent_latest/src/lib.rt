@@ -1,10 +1,12 @@
 // The latest frame of a kind over the C interface: its time as received, its age and its kind, and its bytes as they came. The lent table is only read.
+// OCPP_Control is the last of the kinds of either interface's messages.
 // For C callers; a caller in Rattle asks `watch::look_up`.
 ghost use mathlib.Core.Path.{_≡_};
 ghost use mathlib.Core.Bool.{_&&_};
 ghost use lib.ListN.{length};
 ghost use Rattle.plain_words.specs.Words.{outcomeWord};
 ghost use Rattle.lent_latest.specs.Latest.{ofKindIn, isShown, hasRoom, keptOutcome, timeLeft, bytesLeft, latestWord, timeAfter, frameAfter};
+use message_types::OCPP;
 use plain_words::refusal_word;
 use post_ages::age;
 use post_ages::received;
@@ -14,9 +16,6 @@ use rule_pages::place_by;
 use rules::Slot;
 use watch_places::is_post;
 use watch_rules::Table;
-
-// The kinds of either interface's messages.
-const KINDS: usize = 30;
 
 // As of the time of the post's latest event. Where no frame was accepted nothing is written, so nothing lent can be too short; a number that is no kind can
 // stand in a table of the caller's own making alone.
@@ -29,7 +28,7 @@ pub fn hand_out(at: u64, l: Slot, times: &mut [u32], buf: &mut [u8]) -> u32
         return 0;
     }
     let kind = l.kind as usize;
-    if KINDS <= kind {
+    if OCPP < kind {
         return 0;
     }
     if times.len() < 3 {
@@ -76,7 +75,7 @@ fn latest_of(t: Table, post: u32, kind: u32, times: &mut [u32], buf: &mut [u8]) 
         return refusal_word(Refusal::NotSetUp);
     }
     let k = kind as usize;
-    if KINDS <= k {
+    if OCPP < k {
         return refusal_word(Refusal::UnknownIdentifier);
     }
     let j = place_by(k);

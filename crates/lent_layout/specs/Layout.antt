@@ -31,7 +31,7 @@ tableBytes = postCount * postBytes + channelCount * entryBytes + 8
 
 -- another one wherever a place of the table means something else
 abbrev pub layoutNumber : ℕ
-layoutNumber = 6
+layoutNumber = 7
 
 abbrev pub layoutWord : ℕ
 layoutWord = tableBytes + postCount * 2 ^ 32 + placeCount * 2 ^ 40 + layoutNumber * 2 ^ 48

@@ -6,10 +6,10 @@ use rules::PLACES;
 use watch_rules::POSTS;
 
 // Bytes of a table.
-const TABLE: u64 = 12040;
+const TABLE: u64 = 13576;
 
 // Another number wherever a place of the table means something else.
-const LAYOUT: u64 = 6;
+const LAYOUT: u64 = 7;
 
 #[no_mangle]
 pub extern "C" fn rokemaipu_layout() -> u64

@@ -30,11 +30,12 @@ use Rattle.rules.specs.Times.{earlierIn}
 use Rattle.rules.specs.History as history
 use Rattle.rule_asks.specs.Judgements.{lowersBadly, outside, leaking, badInsulation, differs}
 use Rattle.rules.specs.Rules.{sessionStatus, sessionControl, sessionStop, limitOf, f1, f2, f3, f4, f5, f6, f7, f8, f9, f10, f11, f12, findings01}
+use Rattle.rules.specs.declared.Latest.{Latest}
 use Rattle.rules.specs.declared.Post.{Post}
 use Rattle.rules.specs.declared.Dated.the-variants as dated
 use Rattle.rules.specs.Record.{isSet, unknown, slotAt, session01, headAt, latests}
 use Rattle.rules.proofs.Excludes.{excludes}
-use Rattle.rules.specs.After.{statusPlace, controlPlace, stopPlace, keptCount, datedIn}
+use Rattle.rules.specs.After.{statusPlace, controlPlace, stopPlace, keptCount, datedIn, shownIn}
 use Rattle.watch_rules.specs.declared.Setting.the-variants as setting
 use Rattle.watch_rules.specs.declared.Setting.{Setting}
 use Rattle.watch_rules.specs.declared.LookedUp.{LookedUp}
@@ -47,7 +48,7 @@ use Rattle.lent_latest.specs.Latest.{hands, keptOf, nowOf, latestWord, timeAfte
 use Rattle.lent_latest.proofs.LatestLaws.{latest-refused, latest-shown, some-bytes}
 use Rattle.lent_latest.proofs.LatestLooks.{latest-of-run}
 use Rattle.lent_session.specs.InSession.{partOf, handsPart, partWord, partTime, partFrame}
-use Rattle.lent_session.proofs.SessionLaws.{as-it-came, part-refused, shownAt, part-shown, closed, part-right, part-closed}
+use Rattle.lent_session.proofs.SessionLaws.{as-it-came, part-refused, part-shown, closed, part-right, part-closed}
 
 abbrev limits : PlainLimits
 limits = record { voltage = 5000; charge = 1000; discharge = 500; silence = 500; sensor = 0; interface = 0 }
@@ -146,7 +147,7 @@ pub status-out : (partTime (run night) 0 statusPlace (99 ∷ 99 ∷ 99 ∷ []) b
 status-out = rw latest-time at (as-it-came Newer (run night) 0 statusPlace (99 ∷ 99 ∷ 99 ∷ []) buffer 0x63000 true status 10 0 allowed (computed .4) each-byte kept-status handed)
 
 -- the record shows the status that is handed out
-pub status-shown : shownAt (lookUpOf (run night) 0 .shown .session) statusPlace ≡ datedIn (postIn (run night) 0 .head .time) (partOf (run night) 0 statusPlace)
+pub status-shown : (d : Latest) → getD (lookUpOf (run night) 0 .shown .kept) statusPlace d ≡ shownIn (postIn (run night) 0 .head .time) (partOf (run night) 0 statusPlace)
 status-shown = part-shown (run night) 0 statusPlace refl (used-in night heard (computed .0)) (ltb-true statusPlace keptCount refl)
 
 shut : isSet (postIn (run quiet) 0 .head .session .opened) ≡ false

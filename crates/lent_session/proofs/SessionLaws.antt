@@ -16,17 +16,14 @@ use Rattle.page_rows.specs.declared.Interface.{Interface}
 use Rattle.page_interfaces.specs.Foreign.{judgeFor}
 use Rattle.page_rows.specs.Table.{lengthOf}
 use Rattle.rule_limits.specs.declared.PlainLimits.{PlainLimits}
-use Rattle.rules.specs.declared.Dated.{Dated}
-use Rattle.rules.specs.declared.Dated.the-variants as dated
-use Rattle.rules.specs.declared.SessionPart.{SessionPart}
-use Rattle.rules.specs.declared.SessionPart.the-variants as part
+use Rattle.rules.specs.declared.Latest.{Latest}
 use Rattle.rules.specs.declared.Post.{Post}
-use Rattle.rules.specs.declared.Session.{Session}
 use Rattle.rules.specs.History.{History, Said, opening, inSession}
 use Rattle.rules.specs.Times.{receivedOf, ageOf}
 use Rattle.rules.specs.Rules.{sessionStatus, sessionControl, sessionStop}
 use Rattle.rules.specs.Record.{isSet, unknown, slotAt, slotOf, keptOf, session01, headAt, postOf}
-use Rattle.rules.specs.After.{statusPlace, controlPlace, stopPlace, keptCount, datedIn, partIn, postRecord}
+use Rattle.rules.specs.After.{statusPlace, controlPlace, stopPlace, keptCount, shownIn, openKept, postRecord}
+use Rattle.rules.proofs.Counted.{count-at}
 use Rattle.watch_rules.specs.declared.Table.{Table}
 use Rattle.watch_rules.specs.Table.{postCount, noPost, postIn, isPost, lookUpOf}
 use Rattle.watch_rules.specs.Steps.{Steps, held, standing, keptPost, Kept}
@@ -35,7 +32,7 @@ use Rattle.lent_look.proofs.Asked.{set-up}
 use Rattle.plain_words.specs.Words.{Told}
 use Rattle.lent_latest.specs.Latest.{nowOf}
 use Rattle.lent_latest.proofs.LatestLaws.{slot-came, slot-told, not-handed, handed-behind}
-use Rattle.lent_session.specs.InSession.{isPart, openKept, partOf, handsPart, partOutcome, partWord, partTime, partFrame}
+use Rattle.lent_session.specs.InSession.{isPart, partOf, handsPart, partOutcome, partWord, partTime, partFrame}
 
 -- a frame that was read to what the session keeps is handed out byte for byte
 pub as-it-came : (iface : Interface) (t : Table) (i j : ℕ) (times buf : List ℕ) (id : ℕ) (extended : Bool) (bs : List ℕ) (time k n : ℕ)
@@ -62,11 +59,6 @@ part-kept t i j times buf = handed-behind (handsPart t i j times buf) (nowOf t i
 
 -- ---- the record shows its message
 
--- the message of a place of the record's session part
-abbrev pub shownAt : SessionPart → ℕ → Dated
-shownAt part.Closed j = dated.Nothing
-shownAt (part.Opened s) j = cond (eqb j statusPlace) (s .status) (cond (eqb j controlPlace) (s .control) (s .stop))
-
 -- a place that is neither of the first two
 third : (j : ℕ) → j < keptCount → eqb j statusPlace ≡ false → eqb j controlPlace ≡ false → j ≡ stopPlace
 third j l f g =
@@ -74,19 +66,10 @@ third j l f g =
     let m : j ≡ controlPlace → ⊥ = eqb-false j controlPlace g in
     omega arith
 
-shown-part : (now : ℕ) (s : Session) (j : ℕ) → j < keptCount → shownAt (partIn now s) j ≡ datedIn now (openKept s j)
-shown-part now s j l = go (isSet (s .opened)) (eqb j statusPlace) (eqb j controlPlace) refl refl refl
-  where
-    go : (o a b : Bool) → isSet (s .opened) ≡ o → eqb j statusPlace ≡ a → eqb j controlPlace ≡ b → shownAt (partIn now s) j ≡ datedIn now (openKept s j)
-    go false a b e f g = rw e
-    go true true b e f g = rw (e, eqb-true j statusPlace f)
-    go true false true e f g = rw (e, eqb-true j controlPlace g)
-    go true false false e f g = rw (e, third j l f g)
-
 pub part-shown : (t : Table) (i j : ℕ) → isPost i ≡ true → isSet (postIn t i .head .used) ≡ true → j < keptCount
-    → shownAt (lookUpOf t i .shown .session) j ≡ datedIn (nowOf t i) (partOf t i j)
+    → (d : Latest) → getD (lookUpOf t i .shown .kept) j d ≡ shownIn (nowOf t i) (partOf t i j)
 unfolding postRecord
-part-shown t i j l u m = rw (set-up t i l u) (shown-part (postIn t i .head .time) (postIn t i .head .session) j m)
+part-shown t i j l u m d = rw (set-up t i l u) (count-at (λ k. shownIn (nowOf t i) (partOf t i k)) d j 0 keptCount j (omega arith) m)
 
 -- 01: "With no session open all of the session's part is none": the answer is 0
 pub closed : (t : Table) (i j : ℕ) (times buf : List ℕ) → isPost i ≡ true → isSet (postIn t i .head .used) ≡ true → j < keptCount → isSet (postIn t i .head .session .opened) ≡ false

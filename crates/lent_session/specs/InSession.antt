@@ -2,14 +2,12 @@
 -- over the C interface: answered, refused and handed out as the latest frame of a kind (`lent_latest`), from what the session keeps.
 -- 01: "With no session open all of the session's part is none."
 use Prim.Native.Nat.{ℕ}
-use mathlib.Core.Bool.{Bool, cond}
+use mathlib.Core.Bool.{Bool}
 use mathlib.Core.List.{List}
 use lib.Dec.{ltb}
 use lib.ListN.{length}
 use Rattle.rules.specs.declared.Slot.{Slot}
-use Rattle.rules.specs.declared.Session.{Session}
-use Rattle.rules.specs.Record.{isSet, unknown}
-use Rattle.rules.specs.After.{keptCount, keptIn}
+use Rattle.rules.specs.After.{keptCount, openKept}
 use Rattle.watch_rules.specs.declared.Table.{Table}
 use Rattle.watch_rules.specs.Table.{postIn, lookUpOf}
 use Rattle.plain_words.specs.Words.{Outcome, outcomeWord}
@@ -18,9 +16,6 @@ use Rattle.lent_latest.specs.Latest.{nowOf, latestOutcome, hands, timeLeft, byt
 -- a place of a session; any other number gets 3
 abbrev pub isPart : ℕ → Bool
 isPart j = ltb j keptCount
-
-abbrev pub openKept : Session → ℕ → Slot
-openKept s j = cond (isSet (s .opened)) (keptIn s j) unknown
 
 abbrev pub partOf : Table → ℕ → ℕ → Slot
 partOf t i j = openKept (postIn t i .head .session) j

@@ -3,8 +3,8 @@
 // The lent table is only read. For C callers; a caller in Rattle asks `watch::look_up`.
 ghost use mathlib.Core.Path.{_≡_};
 ghost use Prim.Native.Nat.{_<_};
-ghost use Rattle.rules.specs.After.{keptCount};
-ghost use Rattle.lent_session.specs.InSession.{openKept, partWord, partTime, partFrame};
+ghost use Rattle.rules.specs.After.{keptCount, openKept};
+ghost use Rattle.lent_session.specs.InSession.{partWord, partTime, partFrame};
 use lent_latest::hand_out;
 use plain_words::refusal_word;
 use refusals::Refusal;

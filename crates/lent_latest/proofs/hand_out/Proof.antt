@@ -12,6 +12,7 @@ use Rattle.payload.specs.Payload.{storedIn}
 use Rattle.payload.proofs.Stored.{stored-in}
 use Rattle.refusals.specs.declared.Refusal.the-variants.{ShortBuffer}
 use Rattle.page_rows.specs.Messages.{messageCount}
+use Rattle.message_types.specs.KindNumbers.{ocppKind}
 use Rattle.page_rows.specs.Table.{lengthOf, bigOf}
 use Rattle.page_rows.proofs.Rules.{short-length}
 use Rattle.rules.specs.declared.Slot.{Slot}
@@ -34,6 +35,13 @@ ends : (now : ℕ) (l : Slot) (times buf : List ℕ) (b d p q : Bool) → isSet 
     → Ends now l times buf (outcomeWord (cond (b && d) (cond (p && q) (answers (lengthOf (l .kind))) (refuses ShortBuffer)) (answers 0))) (timeLeft ((b && d) && (p && q)) now l times) (bytesLeft ((b && d) && (p && q)) l buf)
 ends now l times buf b d p q e k f g = (rw (e, k, f, g), rw (e, k, f, g), rw (e, k, f, g))
 
+-- the last of the kinds is OCPP_Control's
+some-kind : (k : ℕ) → k ≤ ocppKind → ltb k messageCount ≡ true
+some-kind k l = lt-ltb k messageCount (omega arith)
+
+no-kind : (k : ℕ) → ocppKind < k → ltb k messageCount ≡ false
+no-kind k l = le-ltb k messageCount (omega arith)
+
 set-three : (xs : List ℕ) (x y z : ℕ) → 3 ≤ length xs → set (set (set xs 0 x) 1 y) 2 z ≡ x ∷ y ∷ z ∷ drop 3 xs
 set-three [] x y z l = absurd (let o : ⊥ = omega (arith, l) in o)
 set-three (a ∷ []) x y z l = absurd (let o : ⊥ = omega (arith, l) in o)
@@ -49,14 +57,14 @@ returns-2 : tie.Need-returns-2
 returns-2 c =
     let s = c .before .before in
     let a = s .before .before .before .before .before .args in
-    ends (a .at) (a .l) (a .times .now) (a .buf .now) true false _ _ (sym (s .before .is-set .ensures) ∙ not-false _ (s .if1 .left)) (le-ltb _ _ (c .if2 .taken)) refl refl
+    ends (a .at) (a .l) (a .times .now) (a .buf .now) true false _ _ (sym (s .before .is-set .ensures) ∙ not-false _ (s .if1 .left)) (no-kind (a .l .kind) (c .if2 .taken)) refl refl
 
 returns-3 : tie.Need-returns-3
 returns-3 c =
     let k = c .before .before in
     let s = k .before .before in
     let a = s .before .before .before .before .before .args in
-    let e = ends (a .at) (a .l) (a .times .now) (a .buf .now) true true false _ (sym (s .before .is-set .ensures) ∙ not-false _ (s .if1 .left)) (lt-ltb _ _ (k .if2 .left)) (lt-leb _ _ (c .before .if3 .taken)) refl in
+    let e = ends (a .at) (a .l) (a .times .now) (a .buf .now) true true false _ (sym (s .before .is-set .ensures) ∙ not-false _ (s .if1 .left)) (some-kind (a .l .kind) (k .if2 .left)) (lt-leb _ _ (c .before .if3 .taken)) refl in
     (c .refusal-word .ensures ∙ e .0, e .1, e .2)
 
 returns-4 : tie.Need-returns-4
@@ -66,7 +74,7 @@ returns-4 c =
     let k = r .before in
     let s = k .before .before in
     let a = s .before .before .before .before .before .args in
-    let e = ends (a .at) (a .l) (a .times .now) (a .buf .now) true true true false (sym (s .before .is-set .ensures) ∙ not-false _ (s .if1 .left)) (lt-ltb _ _ (k .if2 .left)) (le-leb _ _ (r .if3 .left)) (lt-leb _ _ (rw (n .length-of .ensures) at (c .before .if4 .taken))) in
+    let e = ends (a .at) (a .l) (a .times .now) (a .buf .now) true true true false (sym (s .before .is-set .ensures) ∙ not-false _ (s .if1 .left)) (some-kind (a .l .kind) (k .if2 .left)) (le-leb _ _ (r .if3 .left)) (lt-leb _ _ (rw (n .length-of .ensures) at (c .before .if4 .taken))) in
     (c .refusal-word2 .ensures ∙ e .0, e .1, e .2)
 
 slice-write-times-2 : tie.Need-slice-write-times-2
@@ -102,7 +110,7 @@ returns-5 c =
     let s = k .before .before in
     let a = s .before .before .before .before .before .args in
     let long : lengthOf (a .l .kind) ≤ length (a .buf .now) = rw (n .length-of .ensures) at (room .if4 .left) in
-    let e = ends (a .at) (a .l) (a .times .now) (a .buf .now) true true true true (sym (s .before .is-set .ensures) ∙ not-false _ (s .if1 .left)) (lt-ltb _ _ (k .if2 .left)) (le-leb _ _ (r .if3 .left)) (le-leb _ _ long) in (
+    let e = ends (a .at) (a .l) (a .times .now) (a .buf .now) true true true true (sym (s .before .is-set .ensures) ∙ not-false _ (s .if1 .left)) (some-kind (a .l .kind) (k .if2 .left)) (le-leb _ _ (r .if3 .left)) (le-leb _ _ long) in (
       n .length-of .ensures ∙ e .0,
       ap₂ (λ (x y : ℕ). set (set (set (a .times .now) 0 x) 1 y) 2 (a .l .kind)) (stamp .received .ensures) (aged .age .ensures)
           ∙ set-three (a .times .now) (receivedOf (a .l .time)) (ageOf (a .at) (a .l .time)) (a .l .kind) (r .if3 .left)
