@@ -49,9 +49,9 @@ fn all_of(m: Message) -> [i64; MOST] {
     match m {
         Message::Status(s) => fields::of_status(s),
         Message::Session(s) => fields::of_session(s),
-        Message::Cui(s) => fields::of_cui(s),
-        Message::Secc(s) => fields::of_secc(s),
-        Message::Spcc(s) => fields::of_spcc(s),
+        Message::Cui(s) => desk_values::fields::of_cui(s),
+        Message::Secc(s) => desk_values::fields::of_secc(s),
+        Message::Spcc(s) => desk_values::fields::of_spcc(s),
         _ => older_take::raws(m),
     }
 }
@@ -60,9 +60,9 @@ fn built(kind: usize, f: [i64; MOST]) -> Message {
     match kind {
         STATUS => Message::Status(fields::status(f)),
         SESSION => Message::Session(fields::session(f)),
-        CUI => Message::Cui(fields::cui(f)),
-        SECC => Message::Secc(fields::secc(f)),
-        SPCC => Message::Spcc(fields::spcc(f)),
+        CUI => Message::Cui(desk_values::fields::cui(f)),
+        SECC => Message::Secc(desk_values::fields::secc(f)),
+        SPCC => Message::Spcc(desk_values::fields::spcc(f)),
         _ => older_build::built(kind, f),
     }
 }

@@ -1,24 +1,37 @@
 // A post's record as one line, the table's count of what was refused, and its index: the steps `record`, `refused` and `index`, for the desk alone.
 use desk_values::message;
-use message_types::PROBES;
+use message_types::BATTERY;
+use message_types::CONTROLLER;
+use message_types::CUI;
+use message_types::ID;
+use message_types::OCPP;
 use message_types::Plug;
 use message_types::Protocol;
 use message_types::SAFETY_CONTROL;
+use message_types::SEQUENCE;
+use message_types::STATUS;
 use message_types::labels::plug_number;
 use message_types::labels::protocol_number;
 use notation_answers::answer;
 use notation_answers::answer::named;
 use notation_read::fields;
 use notation_read::fields::Last;
+use page_rows::Interface;
 use rule_limits::Limits;
 use rule_limits::kept::interface_number;
 use rule_limits::kept::sensor_number;
+use rule_pages::place_by;
+use rules::CONTROL_PLACE;
 use rules::Dated;
 use rules::FINDINGS;
+use rules::KEPT;
 use rules::LastTime;
+use rules::Latest;
 use rules::OpenSession;
 use rules::PLACES;
 use rules::Record;
+use rules::STATUS_PLACE;
+use rules::STOP_PLACE;
 use rules::SessionPart;
 use text_pen::Pen;
 use watch_rules::CHANNELS;
@@ -86,25 +99,27 @@ fn put_part(out: &mut [u8], pen: Pen, name: &[u8], d: Dated) -> Pen {
 fn put_open(out: &mut [u8], pen: Pen, s: OpenSession) -> Pen {
     let protocol = s.protocol;
     let plug = s.plug;
-    let status = s.status;
-    let control = s.control;
-    let stop = s.stop;
     let p = put_time(out, pen, b" open=1 since=", s.since, s.age);
-    let q = put_first(out, p, protocol, plug);
-    let r = put_part(out, q, b" spms=", status);
-    let t = put_part(out, r, b" sdpc=", control);
-    put_part(out, t, b" sstop=", stop)
+    put_first(out, p, protocol, plug)
 }
 
 fn put_session(out: &mut [u8], pen: Pen, s: SessionPart) -> Pen {
     match s {
-        SessionPart::Closed => text_pen::put(
-            out,
-            pen,
-            b" open=0 since=- first=- spms=- sdpc=- sstop=-",
-        ),
+        SessionPart::Closed => text_pen::put(out, pen, b" open=0 since=- first=-"),
         SessionPart::Opened(o) => put_open(out, pen, o),
     }
+}
+
+fn put_kept(out: &mut [u8], pen: Pen, kept: [Latest; KEPT]) -> Pen {
+    let st = kept[STATUS_PLACE];
+    let ct = kept[CONTROL_PLACE];
+    let em = kept[STOP_PLACE];
+    let status = st.message;
+    let control = ct.message;
+    let stop = em.message;
+    let p = put_part(out, pen, b" spms=", status);
+    let q = put_part(out, p, b" sdpc=", control);
+    put_part(out, q, b" sstop=", stop)
 }
 
 fn is_known(d: Dated) -> bool {
@@ -121,40 +136,62 @@ struct Listed {
     some: bool,
 }
 
-// 004's messages alone have standard identifiers: their places stand between those of the other documents, whose identifiers ascend by place.
-fn is_standard(place: usize) -> bool {
-    if place < SAFETY_CONTROL {
-        return false;
-    }
-    place <= PROBES
-}
-
-// desk.md: "standard identifiers first, then extended, each ascending by identifier"
+// desk.md: "standard identifiers first, then extended, each ascending by identifier". 004's messages alone have standard identifiers.
 fn put_latest(out: &mut [u8], pen: Pen, r: Record) -> Pen {
+    let latest = r.latest;
+    let limits = r.limits;
+    let iface = limits.interface;
     let none = Listed { pen, some: false };
-    let standard = put_form(out, none, r, false);
-    let all = put_form(out, standard, r, true);
+    let standard = put_kinds(out, none, latest, SAFETY_CONTROL, older_types::STATUS);
+    let all = put_extended(out, standard, latest, iface);
     put_none(out, all)
 }
 
-fn put_form(out: &mut [u8], listed: Listed, r: Record, extended: bool) -> Listed {
+// The identifiers of 001 ascend by kind; those of 000 that were added stand between its others.
+fn put_extended(out: &mut [u8], l: Listed, latest: [Latest; PLACES], iface: Interface) -> Listed {
+    match iface {
+        Interface::Newer => put_newer(out, l, latest),
+        Interface::Older => put_kinds(out, l, latest, older_types::STATUS, SEQUENCE),
+    }
+}
+
+fn put_newer(out: &mut [u8], l: Listed, latest: [Latest; PLACES]) -> Listed {
+    let a = put_kinds(out, l, latest, STATUS, CONTROLLER);
+    let b = put_kinds(out, a, latest, SEQUENCE, BATTERY);
+    let c = put_kinds(out, b, latest, CONTROLLER, ID);
+    let d = put_kinds(out, c, latest, BATTERY, CUI);
+    let e = put_kinds(out, d, latest, ID, SAFETY_CONTROL);
+    put_kinds(out, e, latest, CUI, OCPP + 1)
+}
+
+// The latest messages of the kinds from `first` on, before `end`.
+fn put_kinds(
+    out: &mut [u8],
+    listed: Listed,
+    latest: [Latest; PLACES],
+    first: usize,
+    end: usize,
+) -> Listed {
     let mut l = listed;
-    let mut k = 0;
-    while k < PLACES {
-        let latest = r.latest[k];
-        let d = latest.message;
-        let is_in = is_standard(k) != extended;
-        l = put_next(out, l, is_in, d);
+    let mut k = first;
+    while k < end {
+        let d = latest_at(latest, place_by(k));
+        l = put_next(out, l, d);
         k += 1;
     }
     l
 }
 
-// A known one of the form.
-fn put_next(out: &mut [u8], listed: Listed, is_in: bool, d: Dated) -> Listed {
-    if !is_in {
-        return listed;
+fn latest_at(latest: [Latest; PLACES], place: usize) -> Dated {
+    if PLACES <= place {
+        return Dated::Nothing;
     }
+    let l = latest[place];
+    l.message
+}
+
+// A known one.
+fn put_next(out: &mut [u8], listed: Listed, d: Dated) -> Listed {
     if !is_known(d) {
         return listed;
     }
@@ -207,9 +244,11 @@ fn put_counts(out: &mut [u8], pen: Pen, r: Record) -> Pen {
 fn put_session_part(out: &mut [u8], pen: Pen, r: Record) -> Pen {
     let last = r.last;
     let session = r.session;
+    let kept = r.kept;
     let p = put_last(out, pen, last);
     let q = put_session(out, p, session);
-    put_counts(out, q, r)
+    let s = put_kept(out, q, kept);
+    put_counts(out, s, r)
 }
 
 fn put_messages(out: &mut [u8], pen: Pen, r: Record) -> Pen {

@@ -3,6 +3,7 @@
 mod changes; // changes.rt: one signal changed
 mod frames; // frames.rt: frames read
 mod older_frames; // older_frames.rt: frames of document 001
+mod rest; // rest.rt: frames of document 000 that 01 leaves out
 mod safety; // safety.rt: the safety controller
 mod screen; // screen.rt: a probe and a duty, a line each
 mod show; // show.rt: a frame read and a signal changed, a line each
@@ -19,6 +20,7 @@ fn codec() {
     changes::all();
     safety::all();
     older_frames::all();
+    rest::all();
     text(b"read-write, write-read and one-message, run on two frames of each kind\n");
     trips::all();
 }

@@ -1,18 +1,25 @@
 // The pages' names of labels and of kinds: 000's, and of the safety controller 004's.
 use crate::show::text;
+use message_types::Button;
+use message_types::CeState;
 use message_types::ChargeStatus;
 use message_types::ControllerState;
 use message_types::CpState;
 use message_types::LowerOutput;
+use message_types::Mating;
 use message_types::OutputContactors;
+use message_types::Permission;
+use message_types::PilotState;
 use message_types::Plug;
 use message_types::PowerFunction;
 use message_types::PpState;
 use message_types::Protocol;
 use message_types::SessionEnd;
 use message_types::SetpointsMode;
+use message_types::Step;
 use message_types::StopOrigin;
 use message_types::SystemEnable;
+use message_types::Validity;
 
 pub fn enable(l: SystemEnable) {
     match l {
@@ -141,6 +148,68 @@ pub fn pp(l: PpState) {
     }
 }
 
+pub fn permission(l: Permission) {
+    match l {
+        Permission::NotAllowed => text(b"Not_Allowed"),
+        Permission::Allowed => text(b"Allowed"),
+    }
+}
+
+pub fn button(l: Button) {
+    match l {
+        Button::NotPressed => text(b"Not_Pressed"),
+        Button::Pressed => text(b"Pressed"),
+    }
+}
+
+pub fn step(l: Step) {
+    match l {
+        Step::NotDone => text(b"Not_Done"),
+        Step::Done => text(b"Done"),
+    }
+}
+
+pub fn validity(l: Validity) {
+    match l {
+        Validity::Invalid => text(b"Invalid"),
+        Validity::Valid => text(b"Valid"),
+    }
+}
+
+pub fn pilot(l: PilotState) {
+    match l {
+        PilotState::EOrF => text(b"E_or_F"),
+        PilotState::D => text(b"D"),
+        PilotState::C => text(b"C"),
+        PilotState::B => text(b"B"),
+        PilotState::A => text(b"A"),
+    }
+}
+
+pub fn ce(l: CeState) {
+    match l {
+        CeState::Undefined => text(b"Undefined"),
+        CeState::A => text(b"A"),
+        CeState::B0 => text(b"B0"),
+        CeState::B0Aux => text(b"B0_Aux"),
+        CeState::B => text(b"B"),
+        CeState::BAux => text(b"B_Aux"),
+        CeState::C => text(b"C"),
+        CeState::CAux => text(b"C_Aux"),
+        CeState::Ec => text(b"EC"),
+        CeState::E => text(b"E"),
+    }
+}
+
+pub fn mating(l: Mating) {
+    match l {
+        Mating::Unmated => text(b"Unmated"),
+        Mating::Mated => text(b"Mated"),
+        Mating::MatedEvAux => text(b"Mated_EVAux"),
+        Mating::MatedEvseAux => text(b"Mated_EVSEAux"),
+    }
+}
+
 pub fn kind(k: usize) {
     match k {
         0 => text(b"Power_Modules_Status"),
@@ -154,6 +223,19 @@ pub fn kind(k: usize) {
         8 => text(b"EV_ID_CCS_Part2_DIN"),
         9 => text(b"ChargeControl1"),
         10 => text(b"ChargeState1"),
-        _ => text(b"PT1000State"),
+        11 => text(b"PT1000State"),
+        30 => text(b"Sequence_Control"),
+        31 => text(b"ADM_CS_SECC_Outputs"),
+        32 => text(b"EV_Information_Battery"),
+        33 => text(b"EV_Information_Voltages"),
+        34 => text(b"EV_Information_Charge_Limits"),
+        35 => text(b"EV_Information_Discharge_Limits"),
+        36 => text(b"EV_Information_Energy"),
+        37 => text(b"ADM_CO_CUI1_Inputs"),
+        38 => text(b"ADM_CS_SECC_Inputs"),
+        39 => text(b"ADM_CS_SPCC_Inputs"),
+        40 => text(b"CCS_Extra_Information"),
+        41 => text(b"MCS_Extra_Information"),
+        _ => text(b"OCPP_Control"),
     }
 }

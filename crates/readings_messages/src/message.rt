@@ -1,4 +1,5 @@
 // A message's fields in words, in the order of the pages: tenths with their point, labels by name, flags as 0 and 1.
+use crate::inputs;
 use crate::labels;
 use crate::show::natural;
 use crate::show::refusal;
@@ -7,6 +8,7 @@ use crate::show::text;
 use crate::tenths::flag;
 use crate::tenths::short_tenths;
 use crate::tenths::word_tenths;
+use crate::vehicle;
 use message_types::ChargeControl1;
 use message_types::ChargeState1;
 use message_types::DcPowerControl;
@@ -204,6 +206,19 @@ fn fields(m: Message) {
         Message::SafetyControl(c) => safety_control(c),
         Message::SafetyState(s) => safety_state(s),
         Message::Probes(p) => probes(p),
+        Message::Sequence(m) => inputs::sequence(m),
+        Message::Outputs(m) => inputs::outputs(m),
+        Message::Battery(m) => vehicle::battery(m),
+        Message::Voltages(m) => vehicle::voltages(m),
+        Message::ChargeLimits(m) => vehicle::limits(m),
+        Message::DischargeLimits(m) => vehicle::limits(m),
+        Message::Energy(m) => vehicle::energy(m),
+        Message::Cui(m) => inputs::cui(m),
+        Message::Secc(m) => inputs::secc(m),
+        Message::Spcc(m) => inputs::spcc(m),
+        Message::Ccs(m) => inputs::ccs(m),
+        Message::Mcs(m) => inputs::mcs(m),
+        Message::Ocpp(m) => vehicle::ocpp(m),
     }
 }
 

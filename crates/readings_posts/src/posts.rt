@@ -3,6 +3,7 @@ use crate::steps::frame;
 use crate::steps::latest;
 use crate::steps::limits;
 use crate::steps::limits_with;
+use crate::steps::older_limits;
 use crate::steps::record;
 use crate::steps::release;
 use crate::steps::set_up;
@@ -26,6 +27,14 @@ const CONTROL: u32 = 0x6b003;
 const FINISHED: u32 = 0x6b004;
 
 const STOP: u32 = 0x6b005;
+
+const SEQUENCE: u32 = 0x63002;
+
+const SPCC: u32 = 0x6b202;
+
+const CCS: u32 = 0x6b203;
+
+const OCPP: u32 = 0x6b300;
 
 fn insulation() {
     text(b"E8 under precharge at 500.0 V: insulation raw 25, raw 24; after the session no F9\n");
@@ -228,6 +237,46 @@ fn stops() {
     record(t, 0);
 }
 
+// 02, Req 14: the rest of 000's messages are accepted and recorded as thirteen more kinds, and raise only F1 and F2.
+fn rest() {
+    text(
+        b"Req 14 the rest of 000's: no session; a late controller; a silent session; refusals 3, 4, 5, 6, and 29 on an older post\n",
+    );
+    let mut t = set_up(watch::empty(), 0, 4, limits());
+    t = frame(t, 4, 0, SEQUENCE, &[3u8, 5, 1]);
+    t = frame(t, 4, 1, 0x63201, &[0x0fu8, 0, 0, 0, 0, 0, 0, 0]);
+    t = frame(t, 4, 2, 0x6b100, &[0x50u8, 0, 0x2a, 0x0a, 0x50, 0x64]);
+    t = frame(t, 4, 3, 0x6b101, &[0xd0u8, 7, 0x40, 0x1f, 0xa0, 0x0f]);
+    t = frame(t, 4, 4, 0x6b102, &[0x0au8, 0, 0xe8, 3, 1, 0, 0x96, 0]);
+    t = frame(t, 4, 5, 0x6b103, &[0x0au8, 0, 0xe8, 3, 1, 0, 0x96, 0]);
+    t = frame(t, 4, 6, 0x6b104, &[0xffu8, 0xff, 2, 0, 0, 0x80]);
+    t = frame(t, 4, 7, 0x6b200, &[1u8, 0, 0, 0, 0x41, 0x41, 0x41, 0x41]);
+    t = frame(t, 4, 8, 0x6b201, &[1u8, 0, 0, 0, 0, 0x41, 0x41, 0x41]);
+    t = frame(t, 4, 9, SPCC, &[1u8, 0x41, 0x41, 0x41, 0x41, 0, 0x41, 0x41]);
+    t = frame(t, 4, 10, CCS, &[9u8, 0x15, 2, 0, 0, 0, 0, 0]);
+    t = frame(t, 4, 11, 0x6b204, &[1u8, 3, 0, 0, 0, 0, 0, 0]);
+    t = frame(t, 4, 12, OCPP, &[0x83u8, 0xff]);
+    t = frame(t, 4, 20, CONTROLLER, &[7u8]);
+    t = frame(t, 4, 220, SEQUENCE, &[0u8, 0, 0]);
+    t = frame(t, 4, 221, SEQUENCE, &[0u8, 0, 0]);
+    t = frame(t, 4, 221, SESSION, &[2u8, 1]);
+    t = frame(t, 4, 720, CONTROLLER, &[7u8]);
+    t = frame(t, 4, 721, OCPP, &[0u8, 0]);
+    t = frame(t, 4, 722, OCPP, &[0u8, 0]);
+    t = frame(t, 4, 722, SEQUENCE, &[4u8, 0, 0]);
+    t = frame(t, 4, 722, SPCC, &[0u8, 0, 0, 0, 0, 1, 0, 0]);
+    t = frame(t, 4, 722, SEQUENCE, &[0u8, 0]);
+    t = frame(t, 4, 722, CCS, &[1u8, 0, 0, 0, 0, 0, 0, 0]);
+    t = frame(t, 4, 722, 0x63003, &[0u8]);
+    latest(t, 0, message_types::SEQUENCE);
+    latest(t, 0, message_types::ENERGY);
+    latest(t, 0, message_types::OCPP);
+    record(t, 0);
+    t = set_up(t, 1, 5, older_limits());
+    t = frame(t, 5, 0, SEQUENCE, &[0u8, 0, 0]);
+    t = frame(t, 5, 0, OCPP, &[0u8]);
+}
+
 pub fn all() {
     insulation();
     sensors();
@@ -236,4 +285,5 @@ pub fn all() {
     channels();
     safety();
     stops();
+    rest();
 }

@@ -9,10 +9,14 @@ use refusals::Refusal;
 use rule_limits::Interface;
 use rule_limits::Limits;
 use rule_limits::Sensor;
+use rules::CONTROL_PLACE;
 use rules::Dated;
+use rules::KEPT;
 use rules::LastTime;
-use rules::OpenSession;
+use rules::Latest;
 use rules::PLACES;
+use rules::STATUS_PLACE;
+use rules::STOP_PLACE;
 use rules::SessionPart;
 use watch_rules::Answer;
 use watch_rules::Setting;
@@ -148,7 +152,7 @@ fn interface(x: Interface) {
     }
 }
 
-fn session(s: SessionPart) {
+fn session(s: SessionPart, k: [Latest; KEPT]) {
     match s {
         SessionPart::Closed => text(b"no session\n"),
         SessionPart::Opened(o) => {
@@ -157,16 +161,19 @@ fn session(s: SessionPart) {
             text(b", ");
             natural(o.age as u64);
             text(b" ms ago\n");
-            kept(o);
+            kept(k);
         }
     }
 }
 
 // What the session keeps.
-fn kept(o: OpenSession) {
-    let status = o.status;
-    let control = o.control;
-    let stop = o.stop;
+fn kept(k: [Latest; KEPT]) {
+    let st = k[STATUS_PLACE];
+    let ct = k[CONTROL_PLACE];
+    let em = k[STOP_PLACE];
+    let status = st.message;
+    let control = ct.message;
+    let stop = em.message;
     text(b"    status: ");
     dated(status);
     text(b"    control: ");
@@ -195,7 +202,8 @@ pub fn record(t: Table, post: u32) {
             let l = shown.last;
             last_time(l);
             let s = shown.session;
-            session(s);
+            let k = shown.kept;
+            session(s, k);
         }
     }
 }

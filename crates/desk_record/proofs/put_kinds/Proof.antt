@@ -1,28 +1,25 @@
--- `desk_record::put_form`: the buffer keeps its length over the places of a form.
+-- `desk_record::put_kinds`: the buffer keeps its length over the kinds.
 use mathlib.Core.Path.{_≡_}
 use Prim.Native.Nat.{_-_}
 use lib.ListN.{length}
 use borrow.Author.Needs.{needs}
-use Rattle.desk_record.proofs.put_form.Statement.{statement}
-use Rattle.desk_record.proofs.put_form.Tie as tie
+use Rattle.desk_record.proofs.put_kinds.Statement.{statement}
+use Rattle.desk_record.proofs.put_kinds.Tie as tie
 
 abbrev Inv-loop : tie.InvT-loop
-Inv-loop out₀ r extended l₀ k₀ out l k = length out ≡ length out₀
+Inv-loop out₀ latest first end l₀ k₀ out l k = length out ≡ length out₀
 
 abbrev μ-loop : tie.MeasureT-loop
-μ-loop out₀ r extended l₀ k₀ out l k = 21 - k
+μ-loop out₀ latest first end l₀ k₀ out l k = end - k
 
 loop-holds : tie.Need-loop-holds Inv-loop μ-loop
 loop-holds c = search needs
 
-mul-latest : tie.Need-mul-latest Inv-loop μ-loop
-mul-latest c = search needs
+place-by-requires : tie.Need-place-by-requires Inv-loop μ-loop
+place-by-requires c κs = search needs
 
-element-copy-out-latest : tie.Need-element-copy-out-latest Inv-loop μ-loop
-element-copy-out-latest c = search needs
-
-is-standard-requires : tie.Need-is-standard-requires Inv-loop μ-loop
-is-standard-requires c κs = search needs
+latest-at-requires : tie.Need-latest-at-requires Inv-loop μ-loop
+latest-at-requires c κs = search needs
 
 put-next-requires : tie.Need-put-next-requires Inv-loop μ-loop
 put-next-requires c κs = search needs
@@ -42,16 +39,15 @@ same-length c = search needs
 returns : tie.Need-returns Inv-loop μ-loop
 returns c = search needs
 
-pub put-form-spec : {M : Type 1} → statement M
-put-form-spec =
+pub put-kinds-spec : {M : Type 1} → statement M
+put-kinds-spec =
     tie.close
     (tie.spec
     Inv-loop
     μ-loop
     loop-holds
-    mul-latest
-    element-copy-out-latest
-    is-standard-requires
+    place-by-requires
+    latest-at-requires
     put-next-requires
     add-k
     loop-less
