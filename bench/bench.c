@@ -52,15 +52,26 @@ static times line(const char *what, work *f, void *with, int turns, double calls
 
 /* ---- frames without a table */
 
+/* The rest of document 000, from Sequence_Control to OCPP_Control: the messages that no rule asks for, and that of every 100 ms twice. */
+static const frame rest_mix[MIX] = {
+    {0x63002, 3, {0x01, 0x07, 0x00}},                               {0x63201, 8, {0xf7, 0xff, 0xff, 0xff, 0xff, 0xff, 0xff, 0xff}},
+    {0x6b100, 6, {76, 0, 40, 10, 80, 100}},                         {0x6b101, 6, {0xc4, 0x09, 0x94, 0x11, 0x0a, 0x0f}},
+    {0x6b102, 8, {50, 0, 0xdc, 0x05, 2, 0, 60, 0}},                 {0x6b103, 8, {0, 0, 0x2c, 0x01, 0, 0, 11, 0}},
+    {0x6b104, 6, {0xfb, 0xff, 30, 0, 46, 0}},                       {0x6b200, 8, {5, 0, 0, 0, 78, 84, 57, 57}},
+    {0x6b201, 8, {1, 0, 0, 0, 0, 81, 58, 59}},                      {0x6b202, 8, {2, 81, 82, 58, 59, 0, 60, 61}},
+    {0x6b203, 8, {6, 50, 0, 0, 0, 0, 0, 0}},                        {0x6b204, 8, {6, 1, 0, 0, 0, 0, 0, 0}},
+    {0x6b203, 8, {6, 51, 0, 0, 0, 0, 0, 0}},                        {0x6b300, 2, {0xe8, 0x03}},
+};
+
+typedef struct { const frame *mix; uint32_t kind[MIX]; int64_t raws[MIX][ROKEMAIPU_SIGNALS]; } messages;
+
 static uint64_t read_mix(const side *s, void *with) {
+    const messages *m = with;
     int64_t raws[ROKEMAIPU_SIGNALS] = {0};
     uint64_t seen = 0;
-    (void)with;
-    for (int i = 0; i < MIX; i++) seen = 31 * seen + s->read(mix[i].id, true, mix[i].bytes, mix[i].n, raws, ROKEMAIPU_SIGNALS) + (uint64_t)raws[0];
+    for (const frame *f = m->mix; f < m->mix + MIX; f++) seen = 31 * seen + s->read(f->id, true, f->bytes, f->n, raws, ROKEMAIPU_SIGNALS) + (uint64_t)raws[0];
     return seen;
 }
-
-typedef struct { uint32_t kind[MIX]; int64_t raws[MIX][ROKEMAIPU_SIGNALS]; } messages;
 
 static uint64_t write_mix(const side *s, void *with) {
     const messages *m = with;
@@ -70,11 +81,12 @@ static uint64_t write_mix(const side *s, void *with) {
     return seen;
 }
 
-static void bench_codec(void) {
+static void bench_codec(const char *read, const char *write, const frame *mix) {
     static messages m;
+    m.mix = mix;
     for (int i = 0; i < MIX; i++) m.kind[i] = sides[0].read(mix[i].id, true, mix[i].bytes, mix[i].n, m.raws[i], ROKEMAIPU_SIGNALS);
-    line("read", read_mix, NULL, TURNS, MIX);
-    line("write", write_mix, &m, TURNS, MIX);
+    line(read, read_mix, &m, TURNS, MIX);
+    line(write, write_mix, &m, TURNS, MIX);
 }
 
 /* ---- a signal changed: of 16 bits on byte edges, and of one bit */
@@ -115,11 +127,12 @@ static void same_changes(const frame *f, bool extended, const side *s) {
         }
 }
 
-/* A revision before Req 04 knows no frame of the safety controller. */
+/* A revision before Req 04 knows no frame of the safety controller, one before Req 14 none of the rest. */
 static void bench_changes(void) {
     for (int k = 1; k < SIDES; k++)
         for (const frame *f = mix; f < mix + MIX; f++) same_changes(f, true, &sides[k]);
     for (uint32_t id = 6; id <= 8; id++) same_changes(&(frame){id, 8, {0x82, 0x15, 3}}, false, &sides[1]);
+    for (const frame *f = rest_mix; f < rest_mix + MIX; f++) same_changes(f, true, &sides[1]);
     bench_change("change, 16 bits", words, sizeof words / sizeof *words, 0x7fff);
     bench_change("change, one bit", flags, sizeof flags / sizeof *flags, 1);
 }
@@ -141,9 +154,11 @@ static const frame older_mix[MIX] = {
     {0x68006, 1, {1}},                                              {0x68007, 1, {0}},
 };
 
-typedef struct { _Alignas(PAGE) uint8_t room[SIDES][4 * PAGE]; size_t at; const frame *mix; uint32_t posts, turn[SIDES]; } depot;
+static const frame *newer_mix = mix; /* or rest_mix */
 
-_Static_assert((PLACES - 1) * STEP + sizeof(rokemaipu_table) <= 4 * PAGE, "the tables have room");
+typedef struct { _Alignas(PAGE) uint8_t room[SIDES][5 * PAGE]; size_t at; const frame *mix; uint32_t posts, turn[SIDES]; } depot;
+
+_Static_assert((PLACES - 1) * STEP + sizeof(rokemaipu_table) <= 5 * PAGE, "the tables have room");
 
 static rokemaipu_table *table_of(depot *d, const side *s) { return (rokemaipu_table *)(d->room[s - sides] + d->at); }
 
@@ -163,6 +178,38 @@ static uint64_t tick(const side *s, void *with) {
     return s->tick(table_of(d, s), channel_of(d, s), 2001);
 }
 
+/* As the buses of a depot hand them over: any post's next, any message, in no order that the processor could learn. A stop is none of them: a revision before
+ * Req 14 finds nothing behind it. */
+enum { LOT = 1 << 16 };
+typedef struct { uint8_t post, frame; } drawn;
+static drawn lot[LOT];
+
+static void draw(void) {
+    uint32_t x = 1;
+    for (drawn *next = lot; next < lot + LOT; next++) {
+        do x = 1664525 * x + 1013904223, next->post = x >> 24, next->frame = (x >> 8) % MIX;
+        while (mix[next->frame].id == 0x6b005);
+    }
+}
+
+static uint64_t any_frames(const side *s, void *with) {
+    depot *d = with;
+    rokemaipu_table *t = table_of(d, s);
+    uint64_t seen = 0;
+    for (const drawn *next = lot; next < lot + LOT; next++) {
+        const frame *f = &d->mix[next->frame];
+        seen = 31 * seen + s->frame(t, next->post % d->posts, 2000, f->id, true, f->bytes, f->n);
+    }
+    return seen;
+}
+
+static uint64_t any_ticks(const side *s, void *with) {
+    depot *d = with;
+    uint64_t seen = 0;
+    for (const drawn *next = lot; next < lot + LOT; next++) seen = 31 * seen + s->tick(table_of(d, s), next->post % d->posts, 2001);
+    return seen;
+}
+
 static void charge(depot *d, uint32_t turn) {
     for (const frame *f = d->mix; f < d->mix + MIX; f++) {
         uint32_t first = sides[0].frame(table_of(d, &sides[0]), turn % d->posts, turn, f->id, true, f->bytes, f->n);
@@ -173,7 +220,7 @@ static void charge(depot *d, uint32_t turn) {
 
 static void set_up(depot *d, uint32_t interface, uint32_t posts, size_t at) {
     memset(d, 0, sizeof *d);
-    d->mix = interface == ROKEMAIPU_OLDER ? older_mix : mix, d->posts = posts, d->at = at;
+    d->mix = interface == ROKEMAIPU_OLDER ? older_mix : newer_mix, d->posts = posts, d->at = at;
     for (const side *s = sides; s < sides + SIDES; s++) {
         s->start(table_of(d, s));
         for (uint32_t i = 0; i < posts; i++) s->set_up(table_of(d, s), i, i, 5000, 1000, 500, 500, 0, interface);
@@ -335,21 +382,37 @@ static void bench_comparisons(void) {
     bench_compare("one record, 512 x", &one, &one);
 }
 
+#ifndef BEFORE
+static void bench_rest(void) {
+    bench_codec("rest, read", "rest, write", rest_mix);
+    newer_mix = rest_mix;
+    bench_watch("rest, frame, 1 post", frames, ROKEMAIPU_NEWER, 1, TURNS, MIX);
+    newer_mix = mix;
+}
+#endif
+
 int main(void) {
-    bench_codec();
+    bench_codec("read", "write", mix);
     bench_changes();
     bench_watch("frame in place, 1 post", frames, ROKEMAIPU_NEWER, 1, TURNS, MIX);
     bench_watch("frame in place, 8 posts", frames, ROKEMAIPU_NEWER, 8, TURNS, MIX);
-#ifndef BEFORE /* a revision before Req 13 has 8 posts, one before Req 11 none of the older interface */
+#ifndef BEFORE /* a revision before Req 13 has 8 posts, one before Req 11 none of the older interface, one before Req 14 no rest of 000 */
     bench_watch("frame in place, 16 posts", frames, ROKEMAIPU_NEWER, 16, TURNS, MIX);
     bench_watch("older frame, 1 post", frames, ROKEMAIPU_OLDER, 1, TURNS, MIX);
     bench_watch("older frame, 16 posts", frames, ROKEMAIPU_OLDER, 16, TURNS, MIX);
+    bench_rest();
+#endif
+    draw();
+    bench_watch("frame, 8 posts, any order", any_frames, ROKEMAIPU_NEWER, 8, 1, LOT);
+#ifndef BEFORE
+    bench_watch("frame, 16 posts, any order", any_frames, ROKEMAIPU_NEWER, 16, 1, LOT);
 #endif
     bench_watch("tick in place, 1 post", tick, ROKEMAIPU_NEWER, 1, 4 * TURNS, 1);
     bench_watch("tick in place, 8 posts", tick, ROKEMAIPU_NEWER, 8, 4 * TURNS, 1);
 #ifndef BEFORE
     bench_watch("tick in place, 16 posts", tick, ROKEMAIPU_NEWER, 16, 4 * TURNS, 1);
 #endif
+    bench_watch("tick, 8 posts, any order", any_ticks, ROKEMAIPU_NEWER, 8, 1, LOT);
     bench_log();
     bench_batch();
     bench_comparisons();

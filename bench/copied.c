@@ -35,8 +35,10 @@ int main(void) {
     size_t first = counted(rokemaipu_frame(&t, 0, 10, 0x6b001, true, session, 2));
     size_t last = counted(rokemaipu_frame(&t, 15, 10, 0x63000, true, status, 8));
     size_t tick = counted(rokemaipu_tick(&t, 15, 20));
+    size_t holder = counted(rokemaipu_holder(&t, 15));
     size_t setting = counted(rokemaipu_set_up(&t, 15, 15, 5000, 1000, 500, 500, 0, 0));
-    if (first == (size_t)-1 || last == (size_t)-1 || tick == (size_t)-1 || setting == (size_t)-1) return printf("bench: a step was refused\n"), 1;
-    printf("bytes copied by memcpy: frame on the first of 16 posts %zu, on the last %zu; tick %zu; set-up %zu\n", first, last, tick, setting);
+    if (first == (size_t)-1 || last == (size_t)-1 || tick == (size_t)-1 || holder == (size_t)-1 || setting == (size_t)-1)
+        return printf("bench: a step was refused\n"), 1;
+    printf("bytes copied by memcpy: frame on the first of 16 posts %zu, on the last %zu; tick %zu; holder %zu; set-up %zu\n", first, last, tick, holder, setting);
     printf("a table has %zu bytes, a post %zu\n", sizeof(rokemaipu_table), sizeof(rokemaipu_post));
 }

@@ -1,4 +1,4 @@
-/* A frame and a tick in place with 32 posts of 42 places beside the library's 16 posts of 21 places, in one run: what they take is not to grow with the table.
+/* A frame and a tick in place with 32 posts of 50 places beside the library's 16 posts of 25 places, in one run: what they take is not to grow with the table.
  * The larger entries are built from the same sources with two numbers changed (bench/larger), for this alone. */
 #define _POSIX_C_SOURCE 199309L
 #include "bench.h"
@@ -7,13 +7,13 @@
 #include <stdlib.h>
 #include <string.h>
 
-typedef struct { rokemaipu_head head; rokemaipu_slot latest[42]; } larger_post;
+typedef struct { rokemaipu_head head; rokemaipu_slot latest[50]; } larger_post;
 typedef struct { larger_post posts[32]; uint32_t index[ROKEMAIPU_CHANNELS]; uint64_t refused; } larger_table;
 uint32_t larger_rokemaipu_frame(larger_table *t, uint32_t channel, uint32_t time, uint32_t id, bool extended, const uint8_t *payload, size_t length);
 uint32_t larger_rokemaipu_tick(larger_table *t, uint32_t channel, uint32_t time);
 
 enum { PAGE = 4096, PLACES = 16, STEP = PAGE / PLACES + 8, TURNS = 1000, AGAIN = 90 };
-static _Alignas(PAGE) uint8_t room[4 * PAGE], large_room[11 * PAGE];
+static _Alignas(PAGE) uint8_t room[5 * PAGE], large_room[13 * PAGE];
 static uint64_t sum;
 
 _Static_assert((PLACES - 1) * STEP + sizeof(rokemaipu_table) <= sizeof room, "the tables have room");
@@ -56,7 +56,7 @@ static void line(bool tick, uint32_t posts) {
             }
         for (int large = 0; large < 2; large++) mean[large] += best[large] / PLACES;
     }
-    printf("%s, %u post%s set up %7.1f ns of 32 with 42 places  %7.1f ns of 16 with 21, %5.2f times\n", tick ? "tick" : "frame", posts, posts > 1 ? "s" : "",
+    printf("%s, %u post%s set up %7.1f ns of 32 with 50 places  %7.1f ns of 16 with 25, %5.2f times\n", tick ? "tick" : "frame", posts, posts > 1 ? "s" : "",
         mean[1], mean[0], mean[1] / mean[0]);
 }
 

@@ -25,6 +25,17 @@ static uint32_t judge_standard(uint32_t id, const uint8_t *p, size_t n, uint64_t
     return *raw & ~covered[id - 6] ? R(6) : id + 3;
 }
 
+/* What is wrong in the messages that documents 000 and 001 lay out alike and that have uncovered bits or labels; else 0. */
+enum { SEQUENCE, SPCC, CCS, MCS };
+static uint32_t wrong_in(int message, uint64_t r) {
+    switch (message) {
+    case SEQUENCE: return r & ~(uint64_t)0x010703 ? R(6) : 0;
+    case SPCC: return r >> 40 & 0xff ? R(6) : 0;
+    case CCS: return (r & 0xff) > 12 || (r & 0xff) % 3 ? R5(0) : 0;
+    default: return (r & 0xff) > 9 ? R5(0) : (r >> 8 & 0xff) > 3 ? R5(8) : 0;
+    }
+}
+
 /* The kind and the payload number, or the refusal. */
 static uint32_t judge(uint32_t id, bool extended, const uint8_t *p, size_t n, uint64_t *raw) {
     uint32_t kind;
@@ -40,10 +51,24 @@ static uint32_t judge(uint32_t id, bool extended, const uint8_t *p, size_t n, ui
     case 0x6b004: kind = 6, length = 1; break;
     case 0x6b005: kind = 7, length = 1; break;
     case 0x6b105: kind = 8, length = 6; break;
+    case 0x63002: kind = 30, length = 3; break;
+    case 0x63201: kind = 31, length = 8; break;
+    case 0x6b100: kind = 32, length = 6; break;
+    case 0x6b101: kind = 33, length = 6; break;
+    case 0x6b102: kind = 34, length = 8; break;
+    case 0x6b103: kind = 35, length = 8; break;
+    case 0x6b104: kind = 36, length = 6; break;
+    case 0x6b200: kind = 37, length = 8; break;
+    case 0x6b201: kind = 38, length = 8; break;
+    case 0x6b202: kind = 39, length = 8; break;
+    case 0x6b203: kind = 40, length = 8; break;
+    case 0x6b204: kind = 41, length = 8; break;
+    case 0x6b300: kind = 42, length = 2; break;
     default: return R(3);
     }
     if (n != length) return R(n < length ? 4 : 15);
     uint64_t r = *raw = number(p, n);
+    uint32_t wrong = 0;
     switch (kind) {
     case 0: if ((r >> 48 & 0xff) > 1) return R5(48); break;
     case 2: if (r > 13) return R5(0); break;
@@ -52,8 +77,12 @@ static uint32_t judge(uint32_t id, bool extended, const uint8_t *p, size_t n, ui
     case 5: if (!(0x117 >> (r >> 48 & 15) & 1)) return R5(48); break;
     case 6: if (r > 1) return R5(0); break;
     case 7: if (r != 1 && r != 3) return R5(0); break;
+    case 30: wrong = wrong_in(SEQUENCE, r); break;
+    case 39: wrong = wrong_in(SPCC, r); break;
+    case 40: wrong = wrong_in(CCS, r); break;
+    case 41: wrong = wrong_in(MCS, r); break;
     }
-    return kind;
+    return wrong ? wrong : kind;
 }
 
 /* The older controllers': by the identifier's place in document 001. */
@@ -66,19 +95,20 @@ static uint32_t judge_older(uint32_t id, const uint8_t *p, size_t n, uint64_t *r
     else return R(3);
     if (n != lengths[which]) return R(n < lengths[which] ? 4 : 15);
     uint64_t r = *raw = number(p, n);
+    uint32_t wrong = 0;
     switch (which) {
     case 0: if ((r >> 48 & 0xff) > 1) return R5(48); break;
-    case 2: if (r & ~(uint64_t)0x010703) return R(6); break;
+    case 2: wrong = wrong_in(SEQUENCE, r); break;
     case 4: if ((r & 0xff) > 7) return R5(0); if ((r >> 8 & 0xff) > 4) return R5(8); break;
     case 7: if (r > 1) return R5(0); break;
     case 9: if (r != 1 && r != 3) return R5(0); break;
     case 10: if (r > 1) return R5(0); break;
     case 11: if (r > 13) return R5(0); break;
-    case 15: if (r >> 40 & 0xff) return R(6); break;
-    case 16: if ((r & 0xff) > 12 || (r & 0xff) % 3) return R5(0); break;
-    case 17: if ((r & 0xff) > 9) return R5(0); if ((r >> 8 & 0xff) > 3) return R5(8); break;
+    case 15: wrong = wrong_in(SPCC, r); break;
+    case 16: wrong = wrong_in(CCS, r); break;
+    case 17: wrong = wrong_in(MCS, r); break;
     }
-    return which + ROKEMAIPU_OLDER_POWER_MODULES_STATUS;
+    return wrong ? wrong : which + ROKEMAIPU_OLDER_POWER_MODULES_STATUS;
 }
 
 /* By the pages of a post's interface, and 29 for an identifier that only the other's have. */
@@ -97,7 +127,7 @@ static uint32_t asked(uint32_t kind) {
         [12] = STATUS_OF, [13] = LIMITS_TOLD, [23] = CONTROLLER_OF, [16] = OPENING, [17] = COMMAND, [18] = COMMAND, [20] = COMMAND, [21] = STOPPING, [22] = FINISHED};
     return all[kind];
 }
-static uint32_t place_by(uint32_t kind) { return kind < 12 ? kind : kind < 21 ? kind - 12 : kind - 9; }
+static uint32_t place_by(uint32_t kind) { return kind < 12 ? kind : kind < 21 ? kind - 12 : kind < 30 ? kind - 9 : kind - 18; }
 
 /* The power function that a frame asks for: DC_Power_Control's, or that for which the older interface's message stands. */
 static uint64_t function_of(uint32_t kind, uint64_t r) { return kind == 17 ? 2 : kind == 18 ? 4 : kind == 20 ? 8 : r >> 48 & 15; }
@@ -112,6 +142,10 @@ static uint32_t told(uint32_t kind, uint64_t r, uint32_t most, int shift) {
 
 static int64_t s16(uint64_t x) { return (int16_t)x; }
 static int64_t s14(uint64_t x) { return (int64_t)((x & 0x3fff) ^ 0x2000) - 0x2000; }
+
+static void bits(int64_t *raws, int n, uint64_t r) {
+    for (int i = 0; i < n; i++) raws[i] = r >> i & 1;
+}
 
 uint32_t peer_read(uint32_t id, bool extended, const uint8_t *p, size_t n, int64_t *raws, size_t places) {
     uint64_t r;
@@ -135,6 +169,17 @@ uint32_t peer_read(uint32_t id, bool extended, const uint8_t *p, size_t n, int64
         for (int i = 0; i < 5; i++) raws[10 + i] = r >> (16 + i) & 1;
         break;
     case 11: for (int i = 0; i < 4; i++, r <<= 16) raws[3 * i] = s14(r >> 50), raws[3 * i + 1] = r >> 48 & 1, raws[3 * i + 2] = r >> 49 & 1; break;
+    case 30: raws[0] = r & 1, raws[1] = r >> 1 & 1, raws[2] = r >> 8 & 1, raws[3] = r >> 9 & 1, raws[4] = r >> 10 & 1, raws[5] = r >> 16; break;
+    case 31: bits(raws, 4, r), raws[4] = r >> 4; break;
+    case 32: raws[0] = r & 0xffff; for (int i = 0; i < 4; i++) raws[1 + i] = r >> (16 + 8 * i) & 0xff; break;
+    case 33: case 34: case 35: for (int i = 0; i < 4; i++) raws[i] = r >> (16 * i) & 0xffff; break;
+    case 36: for (int i = 0; i < 3; i++) raws[i] = s16(r >> (16 * i)); break;
+    case 37: bits(raws, 6, r), raws[6] = r >> 6 & 0x3ffffff; for (int i = 0; i < 4; i++) raws[7 + i] = r >> (32 + 8 * i) & 0xff; break;
+    case 38: bits(raws, 4, r), raws[4] = r >> 4 & 0xfffffffff; for (int i = 0; i < 3; i++) raws[5 + i] = r >> (40 + 8 * i) & 0xff; break;
+    case 39: bits(raws, 4, r), raws[4] = r >> 4 & 15; for (int i = 0; i < 6; i++) raws[5 + i] = r >> (8 + 8 * (i < 4 ? i : i + 1)) & 0xff; break;
+    case 40: raws[0] = r & 0xff, raws[1] = r >> 8 & 0xffff, raws[2] = r >> 24; break;
+    case 41: raws[0] = r & 0xff, raws[1] = r >> 8 & 0xff, raws[2] = r >> 16; break;
+    case 42: raws[0] = s16(r); break;
     default: raws[0] = r & 0xff; break;
     }
     return kind;
@@ -148,14 +193,28 @@ static bool flags(const int64_t *z, int n) {
     return true;
 }
 
+/* the number of n signals of so many bits each, one after the other; R7 is told where one does not hold its number */
+static uint64_t joined(const int64_t *z, int n, int width, int negative, bool *bad) {
+    uint64_t r = 0;
+    int64_t most = ((int64_t)1 << (width - negative)) - 1;
+    for (int i = 0; i < n; i++) {
+        if (!in(z[i], negative ? -most - 1 : 0, most)) *bad = true;
+        r |= ((uint64_t)z[i] & (((uint64_t)1 << width) - 1)) << (i * width);
+    }
+    return r;
+}
+
+static bool is_little(uint32_t kind) { return kind < 9 || kind >= 30; }
+
 static void store(uint32_t kind, uint8_t *p, size_t n, uint64_t r) {
-    if (kind < 9) for (size_t i = 0; i < n; i++) p[i] = (uint8_t)(r >> (8 * i));
+    if (is_little(kind)) for (size_t i = 0; i < n; i++) p[i] = (uint8_t)(r >> (8 * i));
     else for (size_t i = 0; i < n; i++) p[i] = (uint8_t)(r >> (56 - 8 * i));
 }
 
 uint32_t peer_write(uint32_t kind, const int64_t *z, size_t places, uint8_t *buffer, size_t room) {
     uint64_t r;
     size_t n;
+    bool bad = false;
     if (places < ROKEMAIPU_SIGNALS) return R(7);
     switch (kind) {
     case 0:
@@ -201,8 +260,21 @@ uint32_t peer_write(uint32_t kind, const int64_t *z, size_t places, uint8_t *buf
             r = r << 16 | ((uint64_t)z[0] & 0x3fff) << 2 | (uint64_t)z[2] << 1 | (uint64_t)z[1];
         }
         break;
+    case 30: n = 3, r = joined(z, 2, 1, 0, &bad) | joined(z + 2, 3, 1, 0, &bad) << 8 | joined(z + 5, 1, 1, 0, &bad) << 16; break;
+    case 31: n = 8, r = joined(z, 4, 1, 0, &bad) | joined(z + 4, 1, 60, 0, &bad) << 4; break;
+    case 32: n = 6, r = joined(z, 1, 16, 0, &bad) | joined(z + 1, 4, 8, 0, &bad) << 16; break;
+    case 33: n = 6, r = joined(z, 3, 16, 0, &bad); break;
+    case 34: case 35: n = 8, r = joined(z, 4, 16, 0, &bad); break;
+    case 36: n = 6, r = joined(z, 3, 16, 1, &bad); break;
+    case 37: n = 8, r = joined(z, 6, 1, 0, &bad) | joined(z + 6, 1, 26, 0, &bad) << 6 | joined(z + 7, 4, 8, 0, &bad) << 32; break;
+    case 38: n = 8, r = joined(z, 4, 1, 0, &bad) | joined(z + 4, 1, 36, 0, &bad) << 4 | joined(z + 5, 3, 8, 0, &bad) << 40; break;
+    case 39: n = 8, r = joined(z, 4, 1, 0, &bad) | joined(z + 4, 1, 4, 0, &bad) << 4 | joined(z + 5, 4, 8, 0, &bad) << 8 | joined(z + 9, 2, 8, 0, &bad) << 48; break;
+    case 40: n = 8, r = joined(z, 1, 8, 0, &bad) | joined(z + 1, 1, 16, 0, &bad) << 8 | joined(z + 2, 1, 40, 0, &bad) << 24, bad |= wrong_in(CCS, r) != 0; break;
+    case 41: n = 8, r = joined(z, 2, 8, 0, &bad) | joined(z + 2, 1, 48, 0, &bad) << 16, bad |= wrong_in(MCS, r) != 0; break;
+    case 42: n = 2, r = joined(z, 1, 16, 1, &bad); break;
     default: return R(7);
     }
+    if (bad) return R(7);
     if (room < n) return R(8);
     store(kind, buffer, n, r);
     return (uint32_t)n;
@@ -224,20 +296,37 @@ static const place places[] = {
     {10, 40, 1, 16, 0, 0}, {10, 41, 1, 17, 0, 0}, {10, 42, 1, 18, 0, 0}, {10, 43, 1, 19, 0, 0}, {10, 44, 1, 20, 0, 0},
     {11, 7, 14, 50, 1, 0}, {11, 8, 1, 48, 0, 0}, {11, 9, 1, 49, 0, 0}, {11, 23, 14, 34, 1, 0}, {11, 24, 1, 32, 0, 0}, {11, 25, 1, 33, 0, 0},
     {11, 39, 14, 18, 1, 0}, {11, 40, 1, 16, 0, 0}, {11, 41, 1, 17, 0, 0}, {11, 55, 14, 2, 1, 0}, {11, 56, 1, 0, 0, 0}, {11, 57, 1, 1, 0, 0},
+    {30, 0, 1, 0, 0, 0}, {30, 1, 1, 1, 0, 0}, {30, 8, 1, 8, 0, 0}, {30, 9, 1, 9, 0, 0}, {30, 10, 1, 10, 0, 0}, {30, 16, 1, 16, 0, 0},
+    {31, 0, 1, 0, 0, 0}, {31, 1, 1, 1, 0, 0}, {31, 2, 1, 2, 0, 0}, {31, 3, 1, 3, 0, 0}, {31, 4, 60, 4, 0, 0},
+    {32, 0, 16, 0, 0, 0}, {32, 16, 8, 16, 0, 0}, {32, 24, 8, 24, 0, 0}, {32, 32, 8, 32, 0, 0}, {32, 40, 8, 40, 0, 0},
+    {33, 0, 16, 0, 0, 0}, {33, 16, 16, 16, 0, 0}, {33, 32, 16, 32, 0, 0},
+    {34, 0, 16, 0, 0, 0}, {34, 16, 16, 16, 0, 0}, {34, 32, 16, 32, 0, 0}, {34, 48, 16, 48, 0, 0},
+    {35, 0, 16, 0, 0, 0}, {35, 16, 16, 16, 0, 0}, {35, 32, 16, 32, 0, 0}, {35, 48, 16, 48, 0, 0},
+    {36, 0, 16, 0, 1, 0}, {36, 16, 16, 16, 1, 0}, {36, 32, 16, 32, 1, 0},
+    {37, 0, 1, 0, 0, 0}, {37, 1, 1, 1, 0, 0}, {37, 2, 1, 2, 0, 0}, {37, 3, 1, 3, 0, 0}, {37, 4, 1, 4, 0, 0}, {37, 5, 1, 5, 0, 0},
+    {37, 6, 26, 6, 0, 0}, {37, 32, 8, 32, 0, 0}, {37, 40, 8, 40, 0, 0}, {37, 48, 8, 48, 0, 0}, {37, 56, 8, 56, 0, 0},
+    {38, 0, 1, 0, 0, 0}, {38, 1, 1, 1, 0, 0}, {38, 2, 1, 2, 0, 0}, {38, 3, 1, 3, 0, 0}, {38, 4, 36, 4, 0, 0}, {38, 40, 8, 40, 0, 0},
+    {38, 48, 8, 48, 0, 0}, {38, 56, 8, 56, 0, 0},
+    {39, 0, 1, 0, 0, 0}, {39, 1, 1, 1, 0, 0}, {39, 2, 1, 2, 0, 0}, {39, 3, 1, 3, 0, 0}, {39, 4, 4, 4, 0, 0}, {39, 8, 8, 8, 0, 0},
+    {39, 16, 8, 16, 0, 0}, {39, 24, 8, 24, 0, 0}, {39, 32, 8, 32, 0, 0}, {39, 48, 8, 48, 0, 0}, {39, 56, 8, 56, 0, 0},
+    {40, 0, 8, 0, 0, 0x1249}, {40, 8, 16, 8, 0, 0}, {40, 24, 40, 24, 0, 0},
+    {41, 0, 8, 0, 0, 0x3ff}, {41, 8, 8, 8, 0, 15}, {41, 16, 48, 16, 0, 0},
+    {42, 0, 16, 0, 1, 0},
 };
 
 uint32_t peer_change(uint32_t id, bool extended, uint8_t *p, size_t n, uint32_t start, int64_t z) {
-    static const uint8_t first[] = {0, 6, 10, 11, 13, 14, 22, 23, 24, 30, 34, 49, sizeof places / sizeof *places};
+    static const uint8_t firsts[] = {0, 6, 10, 11, 13, 14, 22, 23, 24, 30, 34, 49, 61, 67, 72, 77, 80, 84, 88, 91, 102, 110, 121, 124, 127, sizeof places / sizeof *places};
     uint64_t r;
     uint32_t kind = judge(id, extended, p, n, &r);
     if (kind >= ROKEMAIPU_REFUSED) return kind;
-    const place *s = places + first[kind], *end = places + first[kind + 1];
+    const uint8_t *first = firsts + (kind < 12 ? kind : kind - 18);
+    const place *s = places + first[0], *end = places + first[1];
     while (s < end && s->start != start) s++;
     if (s == end) return R(13);
     int64_t most = ((int64_t)1 << (s->width - s->negative)) - 1;
     if (!in(z, s->negative ? -most - 1 : 0, most)) return R(7);
     if (s->labels && (z > 15 || !(s->labels >> z & 1))) return R5(start);
-    if (kind < 9 && start % 8 == 0 && s->width % 8 == 0) {
+    if (is_little(kind) && start % 8 == 0 && s->width % 8 == 0) {
         for (size_t i = 0; i < s->width / 8; i++) p[start / 8 + i] = (uint8_t)(z >> (8 * i));
         return 0;
     }

@@ -35,11 +35,11 @@
 extern "C" {
 #endif
 
-#define ROKEMAIPU_VERSION 400 /* 4.00: whatever compiles with one 4.xx compiles with each later one */
+#define ROKEMAIPU_VERSION 500 /* 5.00: whatever compiles with one 5.xx compiles with each later one */
 
 #define ROKEMAIPU_POSTS 16
-#define ROKEMAIPU_KINDS 30 /* of messages, of both interfaces */
-#define ROKEMAIPU_PLACES 21 /* a post's latest frames */
+#define ROKEMAIPU_KINDS 43 /* of messages, of both interfaces */
+#define ROKEMAIPU_PLACES 25 /* a post's latest frames */
 #define ROKEMAIPU_FINDINGS 12 /* finding 1 to this one */
 #define ROKEMAIPU_SIGNALS 16 /* places of raw numbers; no message has more signals */
 #define ROKEMAIPU_RECORD_BYTES 20 /* no record of the night log is longer */
@@ -141,8 +141,8 @@ enum rokemaipu_interface {
     ROKEMAIPU_OLDER = 1  /* documents 001 and 004 */
 };
 
-/* Kinds of messages, by the identifier of their extended frames; 9 to 11 are the safety controller's, standard frames, which either interface has. 0 to 8 only
- * the newer one has, and 12 to 29, in the order of document 001, only the older one. What their raw numbers are stands in rokemaipu_pages.h. */
+/* Kinds of messages, by the identifier of their extended frames; 9 to 11 are the safety controller's, standard frames, which either interface has. 0 to 8 and
+ * 30 to 42 only the newer one has, and 12 to 29, in the order of document 001, only the older one. What their raw numbers are stands in rokemaipu_pages.h. */
 enum rokemaipu_kind {
     ROKEMAIPU_POWER_MODULES_STATUS = 0,    /* 0x63000 */
     ROKEMAIPU_DC_POWER_PARAMETERS = 1,     /* 0x63001 */
@@ -173,7 +173,20 @@ enum rokemaipu_kind {
     ROKEMAIPU_OLDER_EV_ID = 26,                   /* 0x6800c */
     ROKEMAIPU_OLDER_ADM_CS_SPCC_INPUTS = 27,      /* 0x6800d */
     ROKEMAIPU_OLDER_CCS_EXTRA_INFORMATION = 28,   /* 0x6800e */
-    ROKEMAIPU_OLDER_MCS_EXTRA_INFORMATION = 29    /* 0x6800f */
+    ROKEMAIPU_OLDER_MCS_EXTRA_INFORMATION = 29,   /* 0x6800f */
+    ROKEMAIPU_SEQUENCE_CONTROL = 30,                /* 0x63002 */
+    ROKEMAIPU_ADM_CS_SECC_OUTPUTS = 31,             /* 0x63201 */
+    ROKEMAIPU_EV_INFORMATION_BATTERY = 32,          /* 0x6b100 */
+    ROKEMAIPU_EV_INFORMATION_VOLTAGES = 33,         /* 0x6b101 */
+    ROKEMAIPU_EV_INFORMATION_CHARGE_LIMITS = 34,    /* 0x6b102 */
+    ROKEMAIPU_EV_INFORMATION_DISCHARGE_LIMITS = 35, /* 0x6b103 */
+    ROKEMAIPU_EV_INFORMATION_ENERGY = 36,           /* 0x6b104 */
+    ROKEMAIPU_ADM_CO_CUI1_INPUTS = 37,              /* 0x6b200 */
+    ROKEMAIPU_ADM_CS_SECC_INPUTS = 38,              /* 0x6b201 */
+    ROKEMAIPU_ADM_CS_SPCC_INPUTS = 39,              /* 0x6b202 */
+    ROKEMAIPU_CCS_EXTRA_INFORMATION = 40,           /* 0x6b203 */
+    ROKEMAIPU_MCS_EXTRA_INFORMATION = 41,           /* 0x6b204 */
+    ROKEMAIPU_OCPP_CONTROL = 42                     /* 0x6b300 */
 };
 
 /* Kinds of insulation sensors. In a table of your own making every other number counts as measuring. */
@@ -286,12 +299,12 @@ typedef struct rokemaipu_head { /* 240 bytes: what the findings are read from, a
     rokemaipu_session session;
 } rokemaipu_head;
 
-typedef struct rokemaipu_post { /* 744 bytes */
+typedef struct rokemaipu_post { /* 840 bytes */
     rokemaipu_head head;
-    rokemaipu_slot latest[ROKEMAIPU_PLACES]; /* kind k, 0 to 11, at place k; 12 to 20 at k - 12; 21 to 29 at k - 9 */
+    rokemaipu_slot latest[ROKEMAIPU_PLACES]; /* kind k, 0 to 11, at place k; 12 to 20 at k - 12; 21 to 29 at k - 9; 30 to 42 at k - 18 */
 } rokemaipu_post;
 
-typedef struct rokemaipu_table { /* 12,040 bytes; zeroed memory is the empty table */
+typedef struct rokemaipu_table { /* 13,576 bytes; zeroed memory is the empty table */
     rokemaipu_post posts[ROKEMAIPU_POSTS];
     uint32_t index[ROKEMAIPU_CHANNELS]; /* by channel: 0 where no post holds it, else one more than the number of the post that does */
     uint64_t refused; /* frames and ticks refused since the table was made; it stays at 4,294,967,295 */
@@ -299,7 +312,7 @@ typedef struct rokemaipu_table { /* 12,040 bytes; zeroed memory is the empty tab
 
 /* The table's layout as one word: its bytes in the low 32 bits, then its posts and a post's places with 8 bits each, then the number of the
  * layout, which is another one wherever a place in the table means something else. */
-#define ROKEMAIPU_LAYOUT ((uint64_t)sizeof(rokemaipu_table) + ((uint64_t)ROKEMAIPU_POSTS << 32) + ((uint64_t)ROKEMAIPU_PLACES << 40) + ((uint64_t)6 << 48))
+#define ROKEMAIPU_LAYOUT ((uint64_t)sizeof(rokemaipu_table) + ((uint64_t)ROKEMAIPU_POSTS << 32) + ((uint64_t)ROKEMAIPU_PLACES << 40) + ((uint64_t)7 << 48))
 
 /* Answers the layout that the library has. Compare it with ROKEMAIPU_LAYOUT before the first call: with another one, no table of this
  * header may be lent. */
@@ -342,7 +355,7 @@ uint32_t rokemaipu_refused(const rokemaipu_table *t);
 
 /* Looks up the latest frame of a kind that the post accepted since set-up: puts its time as received, its age and its kind into the first ROKEMAIPU_TIMES
  * places of times, and its bytes, as they came, into buffer from index 0 on. Answers its number of bytes; 0 where there is none, also of a kind that the
- * post's interface has not, and then nothing is written, whatever is lent. Refuses with 9, 14, with 3 for a kind above 29, then with 8 where times has fewer
+ * post's interface has not, and then nothing is written, whatever is lent. Refuses with 9, 14, with 3 for a kind above 42, then with 8 where times has fewer
  * places or buffer is shorter than the frame. */
 uint32_t rokemaipu_latest(const rokemaipu_table *t, uint32_t post, uint32_t kind, uint32_t *times, size_t places, uint8_t *buffer, size_t room);
 
@@ -352,24 +365,25 @@ uint32_t rokemaipu_in_session(const rokemaipu_table *t, uint32_t post, uint32_t 
 
 /* ---- frames ---- */
 
-/* Reads a frame. Answers its kind, and puts the raw whole numbers of its signals, by the places of rokemaipu_pages.h, into the first
- * ROKEMAIPU_SIGNALS places of raws, with 0 behind them. Refuses with 3, 4 or 15, 5, 6, or with 8 where raws has fewer
- * places. */
+/* Reads a frame by the pages of the newer controllers, documents 000 and 004. Answers its kind, of those of the newer interface, 0 to 11 and 30 to 42, and
+ * puts the raw whole numbers of its signals, by the places of rokemaipu_pages.h, into the first ROKEMAIPU_SIGNALS places of raws, with 0 behind them. Refuses
+ * with 3, also an identifier that only the older pages have, with 4 or 15, 5, 6, or with 8 where raws has fewer places. */
 uint32_t rokemaipu_read(uint32_t id, bool extended, const uint8_t *payload, size_t length, int64_t *raws, size_t places);
 
-/* Writes the frame of a kind from its signals' raw numbers (ROKEMAIPU_SIGNALS places, those behind the signals are passed over) into
- * buffer, from index 0 on. Answers its number of bytes. Refuses with 7, also where raws has fewer places, then with 8. */
+/* Writes the frame of a kind of these pages from its signals' raw numbers (ROKEMAIPU_SIGNALS places, those behind the signals are passed over) into
+ * buffer, from index 0 on. Answers its number of bytes. Refuses with 7, also where raws has fewer places and a kind that only the older pages have or that is
+ * none, then with 8. */
 uint32_t rokemaipu_write(uint32_t kind, const int64_t *raws, size_t places, uint8_t *buffer, size_t room);
 
-/* Changes the signal that starts at a bit, in place; no other bit changes. Answers 0. Refuses with the frame's own 3, 4 or 15, 5, 6, then
- * with 13, 7, and 5 for the new label, with the start bit of the changed signal. */
+/* Changes the signal of a frame of these pages that starts at a bit, in place; no other bit changes. Answers 0. Refuses with the frame's own 3, 4 or 15, 5,
+ * 6, then with 13, 7, and 5 for the new label, with the start bit of the changed signal. */
 uint32_t rokemaipu_change(uint32_t id, bool extended, uint8_t *payload, size_t length, uint32_t start, int64_t raw);
 
-/* Reads a frame by the pages of the older controllers, document 001, as rokemaipu_read does by the newer ones'. Their kinds are those of
+/* Reads a frame by the pages of the older controllers, documents 001 and 004, as rokemaipu_read does by the newer ones'. Their kinds are those of
  * the older interface, 9 to 29. Refuses with 3 also an identifier that only the newer pages have. */
 uint32_t rokemaipu_read_older(uint32_t id, bool extended, const uint8_t *payload, size_t length, int64_t *raws, size_t places);
 
-/* Writes the frame of a kind of these pages likewise. Refuses with 7 also a kind that only the newer pages have. */
+/* Writes the frame of a kind of these pages likewise. Refuses with 7 also a kind that only the newer pages have or that is none. */
 uint32_t rokemaipu_write_older(uint32_t kind, const int64_t *raws, size_t places, uint8_t *buffer, size_t room);
 
 /* Changes a signal of a frame of these pages likewise. */
@@ -477,7 +491,7 @@ uint32_t rokemaipu_compare(const uint8_t *a, size_t size_a, const uint8_t *b, si
  * A line is the record's count from 1, the post that holds its channel (a dash for refusal 1), then A with the decimal finding number or R with the
  * refusal, one space between; refusal 5 adds a space and the start bit; and a line feed: "1 0 A0", "2 - R1", "3 0 R5 48". */
 
-typedef struct rokemaipu_replay { /* 12,056 bytes; zeroed memory is a replay that was just started */
+typedef struct rokemaipu_replay { /* 13,592 bytes; zeroed memory is a replay that was just started */
     rokemaipu_table table; /* look posts up in it as you like */
     uint64_t count;        /* of the records fed so far */
     uint64_t course;       /* 0: set-ups may come; 1: records were fed; else a set-up was refused, with this word */
@@ -536,18 +550,18 @@ ROKEMAIPU_IS(offsetof(rokemaipu_head, controller), 96);
 ROKEMAIPU_IS(offsetof(rokemaipu_head, parameters), 120);
 ROKEMAIPU_IS(offsetof(rokemaipu_head, session), 144);
 ROKEMAIPU_IS(ROKEMAIPU_COUNTS, 13); /* a head of 12 has the same bytes */
-ROKEMAIPU_IS(sizeof(rokemaipu_post), 744);
+ROKEMAIPU_IS(sizeof(rokemaipu_post), 840);
 ROKEMAIPU_IS(offsetof(rokemaipu_post, head), 0);
 ROKEMAIPU_IS(offsetof(rokemaipu_post, latest), 240);
-ROKEMAIPU_IS(sizeof(rokemaipu_table), 12040);
+ROKEMAIPU_IS(sizeof(rokemaipu_table), 13576);
 ROKEMAIPU_IS(offsetof(rokemaipu_table, posts), 0);
-ROKEMAIPU_IS(offsetof(rokemaipu_table, index), 11904);
-ROKEMAIPU_IS(offsetof(rokemaipu_table, refused), 12032);
+ROKEMAIPU_IS(offsetof(rokemaipu_table, index), 13440);
+ROKEMAIPU_IS(offsetof(rokemaipu_table, refused), 13568);
 ROKEMAIPU_IS(ROKEMAIPU_CHANNELS, 32); /* an index of 31 has the same bytes */
-ROKEMAIPU_IS(sizeof(rokemaipu_replay), 12056);
+ROKEMAIPU_IS(sizeof(rokemaipu_replay), 13592);
 ROKEMAIPU_IS(offsetof(rokemaipu_replay, table), 0);
-ROKEMAIPU_IS(offsetof(rokemaipu_replay, count), 12040);
-ROKEMAIPU_IS(offsetof(rokemaipu_replay, course), 12048);
+ROKEMAIPU_IS(offsetof(rokemaipu_replay, count), 13576);
+ROKEMAIPU_IS(offsetof(rokemaipu_replay, course), 13584);
 
 #ifdef __cplusplus
 }

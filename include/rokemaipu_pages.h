@@ -201,6 +201,176 @@ enum rokemaipu_pt1000_state {
     ROKEMAIPU_PT4_SELFTEST_FAILED = 11   /* 0 or 1 */
 };
 
+/* ---- document 000 again, kinds 30 to 42. The names of their signals begin with the message's. */
+
+/* Sequence_Control: extended 0x63002, 3 bytes */
+enum rokemaipu_sequence_control {
+    ROKEMAIPU_SEQUENCE_CONTROL_START_CHARGE_AUTHORISATION = 0, /* of rokemaipu_sequence_control_start_charge_authorisation */
+    ROKEMAIPU_SEQUENCE_CONTROL_CHADEMO_START_BUTTON = 1,       /* of rokemaipu_sequence_control_chademo_start_button */
+    ROKEMAIPU_SEQUENCE_CONTROL_CCS_AUTHORISATION_DONE = 2,     /* of rokemaipu_sequence_control_ccs_authorisation_done */
+    ROKEMAIPU_SEQUENCE_CONTROL_CCS_AUTHORISATION_VALID = 3,    /* of rokemaipu_sequence_control_ccs_authorisation_valid */
+    ROKEMAIPU_SEQUENCE_CONTROL_CHARGE_PARAMETERS_DONE = 4,     /* of rokemaipu_sequence_control_charge_parameters_done */
+    ROKEMAIPU_SEQUENCE_CONTROL_USER_STOP_BUTTON = 5            /* of rokemaipu_sequence_control_user_stop_button */
+};
+enum rokemaipu_sequence_control_start_charge_authorisation {
+    ROKEMAIPU_SEQUENCE_CONTROL_START_CHARGE_AUTHORISATION_NOT_ALLOWED = 0,
+    ROKEMAIPU_SEQUENCE_CONTROL_START_CHARGE_AUTHORISATION_ALLOWED = 1
+};
+enum rokemaipu_sequence_control_chademo_start_button {
+    ROKEMAIPU_SEQUENCE_CONTROL_CHADEMO_START_BUTTON_NOT_PRESSED = 0,
+    ROKEMAIPU_SEQUENCE_CONTROL_CHADEMO_START_BUTTON_PRESSED = 1
+};
+enum rokemaipu_sequence_control_ccs_authorisation_done {
+    ROKEMAIPU_SEQUENCE_CONTROL_CCS_AUTHORISATION_DONE_NOT_DONE = 0,
+    ROKEMAIPU_SEQUENCE_CONTROL_CCS_AUTHORISATION_DONE_DONE = 1
+};
+enum rokemaipu_sequence_control_ccs_authorisation_valid {
+    ROKEMAIPU_SEQUENCE_CONTROL_CCS_AUTHORISATION_VALID_INVALID = 0,
+    ROKEMAIPU_SEQUENCE_CONTROL_CCS_AUTHORISATION_VALID_VALID = 1
+};
+enum rokemaipu_sequence_control_charge_parameters_done {
+    ROKEMAIPU_SEQUENCE_CONTROL_CHARGE_PARAMETERS_DONE_NOT_DONE = 0,
+    ROKEMAIPU_SEQUENCE_CONTROL_CHARGE_PARAMETERS_DONE_DONE = 1
+};
+enum rokemaipu_sequence_control_user_stop_button {
+    ROKEMAIPU_SEQUENCE_CONTROL_USER_STOP_BUTTON_NOT_PRESSED = 0,
+    ROKEMAIPU_SEQUENCE_CONTROL_USER_STOP_BUTTON_PRESSED = 1
+};
+
+/* ADM_CS_SECC_Outputs: extended 0x63201, 8 bytes */
+enum rokemaipu_adm_cs_secc_outputs {
+    ROKEMAIPU_ADM_CS_SECC_OUTPUTS_DIGITAL_OUTPUT1 = 0, /* 0 or 1 */
+    ROKEMAIPU_ADM_CS_SECC_OUTPUTS_DIGITAL_OUTPUT2 = 1, /* 0 or 1 */
+    ROKEMAIPU_ADM_CS_SECC_OUTPUTS_DIGITAL_OUTPUT3 = 2, /* 0 or 1 */
+    ROKEMAIPU_ADM_CS_SECC_OUTPUTS_DIGITAL_OUTPUT4 = 3, /* 0 or 1 */
+    ROKEMAIPU_ADM_CS_SECC_OUTPUTS_RESERVED = 4         /* as it is */
+};
+
+/* EV_Information_Battery: extended 0x6b100, 6 bytes */
+enum rokemaipu_ev_information_battery {
+    ROKEMAIPU_EV_INFORMATION_BATTERY_BATTERY_CAPACITY = 0,        /* kWh */
+    ROKEMAIPU_EV_INFORMATION_BATTERY_PRESENT_STATE_OF_CHARGE = 1, /* % */
+    ROKEMAIPU_EV_INFORMATION_BATTERY_MINIMUM_STATE_OF_CHARGE = 2, /* % */
+    ROKEMAIPU_EV_INFORMATION_BATTERY_TARGET_STATE_OF_CHARGE = 3,  /* % */
+    ROKEMAIPU_EV_INFORMATION_BATTERY_MAXIMUM_STATE_OF_CHARGE = 4  /* % */
+};
+
+/* EV_Information_Voltages: extended 0x6b101, 6 bytes */
+enum rokemaipu_ev_information_voltages {
+    ROKEMAIPU_EV_INFORMATION_VOLTAGES_EV_MINIMUM_VOLTAGE = 0, /* 0.1 V */
+    ROKEMAIPU_EV_INFORMATION_VOLTAGES_EV_MAXIMUM_VOLTAGE = 1, /* 0.1 V */
+    ROKEMAIPU_EV_INFORMATION_VOLTAGES_EV_PRESENT_VOLTAGE = 2  /* 0.1 V */
+};
+
+/* EV_Information_Charge_Limits: extended 0x6b102, 8 bytes */
+enum rokemaipu_ev_information_charge_limits {
+    ROKEMAIPU_EV_INFORMATION_CHARGE_LIMITS_EV_MINIMUM_CHARGE_CURRENT = 0, /* 0.1 A */
+    ROKEMAIPU_EV_INFORMATION_CHARGE_LIMITS_EV_MAXIMUM_CHARGE_CURRENT = 1, /* 0.1 A */
+    ROKEMAIPU_EV_INFORMATION_CHARGE_LIMITS_EV_MINIMUM_CHARGE_POWER = 2,   /* kW */
+    ROKEMAIPU_EV_INFORMATION_CHARGE_LIMITS_EV_MAXIMUM_CHARGE_POWER = 3    /* kW */
+};
+
+/* EV_Information_Discharge_Limits: extended 0x6b103, 8 bytes */
+enum rokemaipu_ev_information_discharge_limits {
+    ROKEMAIPU_EV_INFORMATION_DISCHARGE_LIMITS_EV_MINIMUM_DISCHARGE_CURRENT = 0, /* 0.1 A */
+    ROKEMAIPU_EV_INFORMATION_DISCHARGE_LIMITS_EV_MAXIMUM_DISCHARGE_CURRENT = 1, /* 0.1 A */
+    ROKEMAIPU_EV_INFORMATION_DISCHARGE_LIMITS_EV_MINIMUM_DISCHARGE_POWER = 2,   /* kW */
+    ROKEMAIPU_EV_INFORMATION_DISCHARGE_LIMITS_EV_MAXIMUM_DISCHARGE_POWER = 3    /* kW */
+};
+
+/* EV_Information_Energy: extended 0x6b104, 6 bytes */
+enum rokemaipu_ev_information_energy {
+    ROKEMAIPU_EV_INFORMATION_ENERGY_EV_MINIMUM_ENERGY_REQUEST = 0, /* kWh, signed */
+    ROKEMAIPU_EV_INFORMATION_ENERGY_EV_TARGET_ENERGY_REQUEST = 1,  /* kWh, signed */
+    ROKEMAIPU_EV_INFORMATION_ENERGY_EV_MAXIMUM_ENERGY_REQUEST = 2  /* kWh, signed */
+};
+
+/* ADM_CO_CUI1_Inputs: extended 0x6b200, 8 bytes */
+enum rokemaipu_adm_co_cui1_inputs {
+    ROKEMAIPU_ADM_CO_CUI1_INPUTS_SWITCH0 = 0,             /* 0 or 1 */
+    ROKEMAIPU_ADM_CO_CUI1_INPUTS_SWITCH1 = 1,             /* 0 or 1 */
+    ROKEMAIPU_ADM_CO_CUI1_INPUTS_SWITCH2 = 2,             /* 0 or 1 */
+    ROKEMAIPU_ADM_CO_CUI1_INPUTS_SWITCH3 = 3,             /* 0 or 1 */
+    ROKEMAIPU_ADM_CO_CUI1_INPUTS_SWITCH4 = 4,             /* 0 or 1 */
+    ROKEMAIPU_ADM_CO_CUI1_INPUTS_SWITCH5 = 5,             /* 0 or 1 */
+    ROKEMAIPU_ADM_CO_CUI1_INPUTS_RESERVED = 6,            /* as it is */
+    ROKEMAIPU_ADM_CO_CUI1_INPUTS_COLIBRI_TEMPERATURE = 7, /* °C plus 40 */
+    ROKEMAIPU_ADM_CO_CUI1_INPUTS_CPU_TEMPERATURE = 8,     /* °C plus 40 */
+    ROKEMAIPU_ADM_CO_CUI1_INPUTS_PISTOL_PTC1 = 9,         /* °C plus 40 */
+    ROKEMAIPU_ADM_CO_CUI1_INPUTS_PISTOL_PTC2 = 10         /* °C plus 40 */
+};
+
+/* ADM_CS_SECC_Inputs: extended 0x6b201, 8 bytes */
+enum rokemaipu_adm_cs_secc_inputs {
+    ROKEMAIPU_ADM_CS_SECC_INPUTS_DIGITAL_INPUT1 = 0,  /* 0 or 1 */
+    ROKEMAIPU_ADM_CS_SECC_INPUTS_DIGITAL_INPUT2 = 1,  /* 0 or 1 */
+    ROKEMAIPU_ADM_CS_SECC_INPUTS_DIGITAL_INPUT3 = 2,  /* 0 or 1 */
+    ROKEMAIPU_ADM_CS_SECC_INPUTS_DIGITAL_INPUT4 = 3,  /* 0 or 1 */
+    ROKEMAIPU_ADM_CS_SECC_INPUTS_RESERVED = 4,        /* as it is */
+    ROKEMAIPU_ADM_CS_SECC_INPUTS_CPU_TEMPERATURE = 5, /* °C plus 40 */
+    ROKEMAIPU_ADM_CS_SECC_INPUTS_PISTOL_PTC1 = 6,     /* °C plus 40 */
+    ROKEMAIPU_ADM_CS_SECC_INPUTS_PISTOL_PTC2 = 7      /* °C plus 40 */
+};
+
+/* ADM_CS_SPCC_Inputs: extended 0x6b202, 8 bytes */
+enum rokemaipu_adm_cs_spcc_inputs {
+    ROKEMAIPU_ADM_CS_SPCC_INPUTS_DIGITAL_INPUT1 = 0,   /* 0 or 1 */
+    ROKEMAIPU_ADM_CS_SPCC_INPUTS_DIGITAL_INPUT2 = 1,   /* 0 or 1 */
+    ROKEMAIPU_ADM_CS_SPCC_INPUTS_DIGITAL_INPUT3 = 2,   /* 0 or 1 */
+    ROKEMAIPU_ADM_CS_SPCC_INPUTS_DIGITAL_INPUT4 = 3,   /* 0 or 1 */
+    ROKEMAIPU_ADM_CS_SPCC_INPUTS_RESERVED = 4,         /* as it is */
+    ROKEMAIPU_ADM_CS_SPCC_INPUTS_CPU_TEMPERATURE0 = 5, /* °C plus 40 */
+    ROKEMAIPU_ADM_CS_SPCC_INPUTS_CPU_TEMPERATURE1 = 6, /* °C plus 40 */
+    ROKEMAIPU_ADM_CS_SPCC_INPUTS_PT1K_A = 7,           /* °C plus 40 */
+    ROKEMAIPU_ADM_CS_SPCC_INPUTS_PT1K_B = 8,           /* °C plus 40 */
+    ROKEMAIPU_ADM_CS_SPCC_INPUTS_PT1KS_C = 9,          /* °C plus 40 */
+    ROKEMAIPU_ADM_CS_SPCC_INPUTS_PT1KS_D = 10          /* °C plus 40 */
+};
+
+/* CCS_Extra_Information: extended 0x6b203, 8 bytes */
+enum rokemaipu_ccs_extra_information {
+    ROKEMAIPU_CCS_EXTRA_INFORMATION_CP_STATE = 0,      /* of rokemaipu_ccs_extra_information_cp_state */
+    ROKEMAIPU_CCS_EXTRA_INFORMATION_CP_DUTY_CYCLE = 1, /* 0.1 % */
+    ROKEMAIPU_CCS_EXTRA_INFORMATION_RESERVED = 2       /* as it is */
+};
+enum rokemaipu_ccs_extra_information_cp_state {
+    ROKEMAIPU_CCS_EXTRA_INFORMATION_CP_STATE_E_OR_F = 0,
+    ROKEMAIPU_CCS_EXTRA_INFORMATION_CP_STATE_D = 3,
+    ROKEMAIPU_CCS_EXTRA_INFORMATION_CP_STATE_C = 6,
+    ROKEMAIPU_CCS_EXTRA_INFORMATION_CP_STATE_B = 9,
+    ROKEMAIPU_CCS_EXTRA_INFORMATION_CP_STATE_A = 12
+};
+
+/* MCS_Extra_Information: extended 0x6b204, 8 bytes */
+enum rokemaipu_mcs_extra_information {
+    ROKEMAIPU_MCS_EXTRA_INFORMATION_CE_STATE = 0, /* of rokemaipu_mcs_extra_information_ce_state */
+    ROKEMAIPU_MCS_EXTRA_INFORMATION_ID_STATE = 1, /* of rokemaipu_mcs_extra_information_id_state */
+    ROKEMAIPU_MCS_EXTRA_INFORMATION_RESERVED = 2  /* as it is */
+};
+enum rokemaipu_mcs_extra_information_ce_state {
+    ROKEMAIPU_MCS_EXTRA_INFORMATION_CE_STATE_UNDEFINED = 0,
+    ROKEMAIPU_MCS_EXTRA_INFORMATION_CE_STATE_A = 1,
+    ROKEMAIPU_MCS_EXTRA_INFORMATION_CE_STATE_B0 = 2,
+    ROKEMAIPU_MCS_EXTRA_INFORMATION_CE_STATE_B0_AUX = 3,
+    ROKEMAIPU_MCS_EXTRA_INFORMATION_CE_STATE_B = 4,
+    ROKEMAIPU_MCS_EXTRA_INFORMATION_CE_STATE_B_AUX = 5,
+    ROKEMAIPU_MCS_EXTRA_INFORMATION_CE_STATE_C = 6,
+    ROKEMAIPU_MCS_EXTRA_INFORMATION_CE_STATE_C_AUX = 7,
+    ROKEMAIPU_MCS_EXTRA_INFORMATION_CE_STATE_EC = 8,
+    ROKEMAIPU_MCS_EXTRA_INFORMATION_CE_STATE_E = 9
+};
+enum rokemaipu_mcs_extra_information_id_state {
+    ROKEMAIPU_MCS_EXTRA_INFORMATION_ID_STATE_UNMATED = 0,
+    ROKEMAIPU_MCS_EXTRA_INFORMATION_ID_STATE_MATED = 1,
+    ROKEMAIPU_MCS_EXTRA_INFORMATION_ID_STATE_MATED_EVAUX = 2,
+    ROKEMAIPU_MCS_EXTRA_INFORMATION_ID_STATE_MATED_EVSEAUX = 3
+};
+
+/* OCPP_Control: extended 0x6b300, 2 bytes */
+enum rokemaipu_ocpp_control {
+    ROKEMAIPU_OCPP_CONTROL_DYNAMIC_TARGET_CURRENT = 0 /* 0.1 A, signed */
+};
+
 /* ---- document 001, the pages of the older controllers, for rokemaipu_read_older and rokemaipu_write_older. Labels that are those of a signal above have its
  * enum. */
 
@@ -223,36 +393,12 @@ enum rokemaipu_older_power_modules_limits {
 
 /* Sequence_Control: extended 0x60012, 3 bytes */
 enum rokemaipu_older_sequence_control {
-    ROKEMAIPU_OLDER_SEQUENCE_CONTROL_START_CHARGE_AUTHORISATION = 0, /* of rokemaipu_older_sequence_control_start_charge_authorisation */
-    ROKEMAIPU_OLDER_SEQUENCE_CONTROL_CHADEMO_START_BUTTON = 1,       /* of rokemaipu_older_sequence_control_chademo_start_button */
-    ROKEMAIPU_OLDER_SEQUENCE_CONTROL_CCS_AUTHORISATION_DONE = 2,     /* of rokemaipu_older_sequence_control_ccs_authorisation_done */
-    ROKEMAIPU_OLDER_SEQUENCE_CONTROL_CCS_AUTHORISATION_VALID = 3,    /* of rokemaipu_older_sequence_control_ccs_authorisation_valid */
-    ROKEMAIPU_OLDER_SEQUENCE_CONTROL_CHARGE_PARAMETERS_DONE = 4,     /* of rokemaipu_older_sequence_control_charge_parameters_done */
-    ROKEMAIPU_OLDER_SEQUENCE_CONTROL_USER_STOP_BUTTON = 5            /* of rokemaipu_older_sequence_control_user_stop_button */
-};
-enum rokemaipu_older_sequence_control_start_charge_authorisation {
-    ROKEMAIPU_OLDER_SEQUENCE_CONTROL_START_CHARGE_AUTHORISATION_NOT_ALLOWED = 0,
-    ROKEMAIPU_OLDER_SEQUENCE_CONTROL_START_CHARGE_AUTHORISATION_ALLOWED = 1
-};
-enum rokemaipu_older_sequence_control_chademo_start_button {
-    ROKEMAIPU_OLDER_SEQUENCE_CONTROL_CHADEMO_START_BUTTON_NOT_PRESSED = 0,
-    ROKEMAIPU_OLDER_SEQUENCE_CONTROL_CHADEMO_START_BUTTON_PRESSED = 1
-};
-enum rokemaipu_older_sequence_control_ccs_authorisation_done {
-    ROKEMAIPU_OLDER_SEQUENCE_CONTROL_CCS_AUTHORISATION_DONE_NOT_DONE = 0,
-    ROKEMAIPU_OLDER_SEQUENCE_CONTROL_CCS_AUTHORISATION_DONE_DONE = 1
-};
-enum rokemaipu_older_sequence_control_ccs_authorisation_valid {
-    ROKEMAIPU_OLDER_SEQUENCE_CONTROL_CCS_AUTHORISATION_VALID_INVALID = 0,
-    ROKEMAIPU_OLDER_SEQUENCE_CONTROL_CCS_AUTHORISATION_VALID_VALID = 1
-};
-enum rokemaipu_older_sequence_control_charge_parameters_done {
-    ROKEMAIPU_OLDER_SEQUENCE_CONTROL_CHARGE_PARAMETERS_DONE_NOT_DONE = 0,
-    ROKEMAIPU_OLDER_SEQUENCE_CONTROL_CHARGE_PARAMETERS_DONE_DONE = 1
-};
-enum rokemaipu_older_sequence_control_user_stop_button {
-    ROKEMAIPU_OLDER_SEQUENCE_CONTROL_USER_STOP_BUTTON_NOT_PRESSED = 0,
-    ROKEMAIPU_OLDER_SEQUENCE_CONTROL_USER_STOP_BUTTON_PRESSED = 1
+    ROKEMAIPU_OLDER_SEQUENCE_CONTROL_START_CHARGE_AUTHORISATION = 0, /* of rokemaipu_sequence_control_start_charge_authorisation */
+    ROKEMAIPU_OLDER_SEQUENCE_CONTROL_CHADEMO_START_BUTTON = 1,       /* of rokemaipu_sequence_control_chademo_start_button */
+    ROKEMAIPU_OLDER_SEQUENCE_CONTROL_CCS_AUTHORISATION_DONE = 2,     /* of rokemaipu_sequence_control_ccs_authorisation_done */
+    ROKEMAIPU_OLDER_SEQUENCE_CONTROL_CCS_AUTHORISATION_VALID = 3,    /* of rokemaipu_sequence_control_ccs_authorisation_valid */
+    ROKEMAIPU_OLDER_SEQUENCE_CONTROL_CHARGE_PARAMETERS_DONE = 4,     /* of rokemaipu_sequence_control_charge_parameters_done */
+    ROKEMAIPU_OLDER_SEQUENCE_CONTROL_USER_STOP_BUTTON = 5            /* of rokemaipu_sequence_control_user_stop_button */
 };
 
 /* ADM_CS_SECC_Outputs: extended 0x60013, 8 bytes */
@@ -366,41 +512,16 @@ enum rokemaipu_older_adm_cs_spcc_inputs {
 
 /* CCS_Extra_Information: extended 0x6800e, 8 bytes */
 enum rokemaipu_older_ccs_extra_information {
-    ROKEMAIPU_OLDER_CCS_EXTRA_INFORMATION_CP_STATE = 0,      /* of rokemaipu_older_ccs_extra_information_cp_state */
+    ROKEMAIPU_OLDER_CCS_EXTRA_INFORMATION_CP_STATE = 0,      /* of rokemaipu_ccs_extra_information_cp_state */
     ROKEMAIPU_OLDER_CCS_EXTRA_INFORMATION_CP_DUTY_CYCLE = 1, /* 0.1 % */
     ROKEMAIPU_OLDER_CCS_EXTRA_INFORMATION_RESERVED = 2       /* as it is */
-};
-enum rokemaipu_older_ccs_extra_information_cp_state {
-    ROKEMAIPU_OLDER_CCS_EXTRA_INFORMATION_CP_STATE_E_OR_F = 0,
-    ROKEMAIPU_OLDER_CCS_EXTRA_INFORMATION_CP_STATE_D = 3,
-    ROKEMAIPU_OLDER_CCS_EXTRA_INFORMATION_CP_STATE_C = 6,
-    ROKEMAIPU_OLDER_CCS_EXTRA_INFORMATION_CP_STATE_B = 9,
-    ROKEMAIPU_OLDER_CCS_EXTRA_INFORMATION_CP_STATE_A = 12
 };
 
 /* MCS_Extra_Information: extended 0x6800f, 8 bytes */
 enum rokemaipu_older_mcs_extra_information {
-    ROKEMAIPU_OLDER_MCS_EXTRA_INFORMATION_CE_STATE = 0, /* of rokemaipu_older_mcs_extra_information_ce_state */
-    ROKEMAIPU_OLDER_MCS_EXTRA_INFORMATION_ID_STATE = 1, /* of rokemaipu_older_mcs_extra_information_id_state */
+    ROKEMAIPU_OLDER_MCS_EXTRA_INFORMATION_CE_STATE = 0, /* of rokemaipu_mcs_extra_information_ce_state */
+    ROKEMAIPU_OLDER_MCS_EXTRA_INFORMATION_ID_STATE = 1, /* of rokemaipu_mcs_extra_information_id_state */
     ROKEMAIPU_OLDER_MCS_EXTRA_INFORMATION_RESERVED = 2  /* as it is */
-};
-enum rokemaipu_older_mcs_extra_information_ce_state {
-    ROKEMAIPU_OLDER_MCS_EXTRA_INFORMATION_CE_STATE_UNDEFINED = 0,
-    ROKEMAIPU_OLDER_MCS_EXTRA_INFORMATION_CE_STATE_A = 1,
-    ROKEMAIPU_OLDER_MCS_EXTRA_INFORMATION_CE_STATE_B0 = 2,
-    ROKEMAIPU_OLDER_MCS_EXTRA_INFORMATION_CE_STATE_B0_AUX = 3,
-    ROKEMAIPU_OLDER_MCS_EXTRA_INFORMATION_CE_STATE_B = 4,
-    ROKEMAIPU_OLDER_MCS_EXTRA_INFORMATION_CE_STATE_B_AUX = 5,
-    ROKEMAIPU_OLDER_MCS_EXTRA_INFORMATION_CE_STATE_C = 6,
-    ROKEMAIPU_OLDER_MCS_EXTRA_INFORMATION_CE_STATE_C_AUX = 7,
-    ROKEMAIPU_OLDER_MCS_EXTRA_INFORMATION_CE_STATE_EC = 8,
-    ROKEMAIPU_OLDER_MCS_EXTRA_INFORMATION_CE_STATE_E = 9
-};
-enum rokemaipu_older_mcs_extra_information_id_state {
-    ROKEMAIPU_OLDER_MCS_EXTRA_INFORMATION_ID_STATE_UNMATED = 0,
-    ROKEMAIPU_OLDER_MCS_EXTRA_INFORMATION_ID_STATE_MATED = 1,
-    ROKEMAIPU_OLDER_MCS_EXTRA_INFORMATION_ID_STATE_MATED_EVAUX = 2,
-    ROKEMAIPU_OLDER_MCS_EXTRA_INFORMATION_ID_STATE_MATED_EVSEAUX = 3
 };
 
 #endif

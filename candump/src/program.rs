@@ -32,7 +32,7 @@ impl Program {
 }
 
 /// The product's, which stands in VERSION: this folder takes nothing from outside, and the tests hold both together.
-const VERSION: &str = "4.00";
+const VERSION: &str = "5.00";
 
 pub fn run(program: &Program) -> ExitCode {
     let words: Vec<_> = std::env::args_os().skip(1).collect();

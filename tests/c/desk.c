@@ -109,13 +109,17 @@ static void answer(uint32_t word, bool numbered) {
 static const struct { uint32_t id; bool extended; size_t n; } kinds[ROKEMAIPU_KINDS] = {{0x63000, true, 6}, {0x63001, true, 4}, {0x6b000, true, 1}, {0x6b001, true, 2}, {0x6b002, true, 1},
     {0x6b003, true, 8}, {0x6b004, true, 1}, {0x6b005, true, 1}, {0x6b105, true, 6}, {6, false, 4}, {7, false, 15}, {8, false, 12},
     {0x60010, true, 6}, {0x60011, true, 3}, {0x60012, true, 6}, {0x60013, true, 5}, {0x68001, true, 6}, {0x68002, true, 1}, {0x68003, true, 2}, {0x68004, true, 1}, {0x68005, true, 3},
-    {0x68006, true, 1}, {0x68007, true, 1}, {0x68009, true, 1}, {0x6800a, true, 11}, {0x6800b, true, 8}, {0x6800c, true, 6}, {0x6800d, true, 11}, {0x6800e, true, 3}, {0x6800f, true, 3}};
+    {0x68006, true, 1}, {0x68007, true, 1}, {0x68009, true, 1}, {0x6800a, true, 11}, {0x6800b, true, 8}, {0x6800c, true, 6}, {0x6800d, true, 11}, {0x6800e, true, 3}, {0x6800f, true, 3},
+    {0x63002, true, 6}, {0x63201, true, 5}, {0x6b100, true, 5}, {0x6b101, true, 3}, {0x6b102, true, 4}, {0x6b103, true, 4}, {0x6b104, true, 3}, {0x6b200, true, 11}, {0x6b201, true, 8},
+    {0x6b202, true, 11}, {0x6b203, true, 3}, {0x6b204, true, 3}, {0x6b300, true, 1}};
+
+static bool is_older(uint32_t kind) { return kind > ROKEMAIPU_PT1000_STATE && kind < ROKEMAIPU_SEQUENCE_CONTROL; }
 
 static bool is_celsius(uint32_t kind, size_t i) {
     switch (kind) {
     case ROKEMAIPU_POWER_MODULES_STATUS: case ROKEMAIPU_OLDER_POWER_MODULES_STATUS: return i == 2 || i == 3;
-    case ROKEMAIPU_OLDER_ADM_CO_CUI1_INPUTS: return i >= 7;
-    case ROKEMAIPU_OLDER_ADM_CS_SECC_INPUTS: case ROKEMAIPU_OLDER_ADM_CS_SPCC_INPUTS: return i >= 5;
+    case ROKEMAIPU_ADM_CO_CUI1_INPUTS: case ROKEMAIPU_OLDER_ADM_CO_CUI1_INPUTS: return i >= 7;
+    case ROKEMAIPU_ADM_CS_SECC_INPUTS: case ROKEMAIPU_ADM_CS_SPCC_INPUTS: case ROKEMAIPU_OLDER_ADM_CS_SECC_INPUTS: case ROKEMAIPU_OLDER_ADM_CS_SPCC_INPUTS: return i >= 5;
     default: return false;
     }
 }
@@ -136,7 +140,7 @@ static void put_message(uint32_t kind, const int64_t *raws) {
 static void put_dated(const uint8_t *payload, size_t n, const uint32_t times[ROKEMAIPU_TIMES]) {
     int64_t raws[ROKEMAIPU_SIGNALS];
     uint32_t kind = times[ROKEMAIPU_WHEN_KIND];
-    if (read_on(kind > ROKEMAIPU_PT1000_STATE ? ROKEMAIPU_OLDER : ROKEMAIPU_NEWER, kinds[kind].id, kinds[kind].extended, payload, n, raws) != kind) exit(fprintf(stderr, "desk.c: a kept frame is no frame\n"));
+    if (read_on(is_older(kind) ? ROKEMAIPU_OLDER : ROKEMAIPU_NEWER, kinds[kind].id, kinds[kind].extended, payload, n, raws) != kind) exit(fprintf(stderr, "desk.c: a kept frame is no frame\n"));
     put_message(kind, raws);
     printf("@%" PRIu32 "+%" PRIu32, times[ROKEMAIPU_WHEN], times[ROKEMAIPU_WHEN_AGE]);
 }
@@ -149,11 +153,23 @@ static void put_part(const char *name, uint32_t post, uint32_t part) {
     else putchar('-');
 }
 
+static bool behind(uint32_t kind, uint32_t other) {
+    return kinds[kind].extended != kinds[other].extended ? kinds[kind].extended : kinds[kind].id > kinds[other].id;
+}
+
 static void put_counts(uint32_t post) {
     uint32_t counts[ROKEMAIPU_COUNTS];
     if (rokemaipu_counts(&table, post, counts, ROKEMAIPU_COUNTS)) exit(fprintf(stderr, "desk.c: a post that is looked up has no counts\n"));
     printf(" n=%" PRIu32 " tally=", counts[0]);
     for (size_t k = 1; k < ROKEMAIPU_COUNTS; k++) printf("%s%" PRIu32, k > 1 ? "," : "", counts[k]);
+}
+
+/* the standard ones come first, then the extended ones, each by identifier; behind no kind stands the first */
+static uint32_t next_kind(uint32_t kind) {
+    uint32_t found = ROKEMAIPU_KINDS;
+    for (uint32_t k = 0; k < ROKEMAIPU_KINDS; k++)
+        if ((kind == ROKEMAIPU_KINDS || behind(k, kind)) && (found == ROKEMAIPU_KINDS || behind(found, k))) found = k;
+    return found;
 }
 
 static void record(uint32_t post) {
@@ -178,8 +194,8 @@ static void record(uint32_t post) {
         printf(" open=0 since=- first=- spms=- sdpc=- sstop=-");
     put_counts(post);
     printf(" latest=");
-    for (uint32_t i = 0; i < ROKEMAIPU_KINDS; i++) { /* the standard ones come first; a post has the older interface's or the newer one's */
-        uint32_t kind = (i + ROKEMAIPU_CHARGE_CONTROL_1) % ROKEMAIPU_KINDS;
+    for (uint32_t i = 0, kind = ROKEMAIPU_KINDS; i < ROKEMAIPU_KINDS; i++) {
+        kind = next_kind(kind);
         uint32_t length = rokemaipu_latest(&table, post, kind, times, ROKEMAIPU_TIMES, payload, sizeof payload);
         if (!length) continue;
         if (some) putchar(';');
@@ -210,8 +226,9 @@ static bool write_step(uint32_t interface) {
     size_t n = 0;
     if (!frame_id(1, &id, &extended) || !hex(words[4])) return false;
     bool older = interface == ROKEMAIPU_OLDER;
-    uint32_t kind = older ? ROKEMAIPU_CHARGE_CONTROL_1 : 0, end_of = older ? ROKEMAIPU_KINDS : ROKEMAIPU_PT1000_STATE + 1;
-    while (kind < end_of && (kinds[kind].id != id || kinds[kind].extended != extended)) kind++;
+    uint32_t kind = 0;
+    while (kind < ROKEMAIPU_KINDS && (kinds[kind].id != id || kinds[kind].extended != extended)) kind++;
+    if (kind < ROKEMAIPU_KINDS && extended && is_older(kind) != older) kind = ROKEMAIPU_KINDS;
     for (const char *p = words[3].at, *end = p + words[3].n;; p++, n++) {
         const char *from = p;
         while (p < end && *p != ',') p++;
@@ -224,7 +241,7 @@ static bool write_step(uint32_t interface) {
         if (p == end) break;
     }
     n++;
-    if (kind == end_of) return puts("X"), true;
+    if (kind == ROKEMAIPU_KINDS) return puts("X"), true;
     if (n != kinds[kind].n) return false;
     for (size_t i = 0; i < n; i++) {
         if (is_celsius(kind, i)) raws[i] += 40;

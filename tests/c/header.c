@@ -5,7 +5,7 @@ int main(void) {
     static rokemaipu_table t;
     const uint8_t session[2] = {ROKEMAIPU_COMMUNICATION_PROTOCOL_CCS_ISO_15118_2013_V2, ROKEMAIPU_PLUG_AND_PINS_CCS_DC_EXTENDED};
     int64_t raws[ROKEMAIPU_SIGNALS];
-    if (ROKEMAIPU_VERSION < 300 || rokemaipu_layout() != ROKEMAIPU_LAYOUT) return 1;
+    if (ROKEMAIPU_VERSION < 500 || rokemaipu_layout() != ROKEMAIPU_LAYOUT) return 1;
     if (rokemaipu_set_up(&t, 0, 4, 5000, 1000, 500, 500, ROKEMAIPU_MEASURING, ROKEMAIPU_NEWER)) return 2;
     if (rokemaipu_frame(&t, 4, 0, 0x6b001, true, session, 2)) return 3;
     if (rokemaipu_tick(&t, 4, 501) != ROKEMAIPU_F1_POWER_MODULES_SILENT) return 4;

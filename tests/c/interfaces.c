@@ -175,29 +175,33 @@ static void latest_is(int line, uint32_t post, uint32_t kind, uint32_t time, uin
     is(line, "its first byte", buffer[0], length ? 1 : 77);
 }
 
+/* CCS_Extra_Information, whose CP_State has no label 1 */
+static bool is_pilot(uint32_t kind) { return kind == ROKEMAIPU_CCS_EXTRA_INFORMATION || kind == ROKEMAIPU_OLDER_CCS_EXTRA_INFORMATION; }
+
 static void latest(void) {
-    uint8_t bytes[8] = {1}; /* the lowest bit of each message is a signal's, and 1 has a label */
+    uint8_t bytes[8] = {1}; /* the lowest bit of each message is a signal's, and 1 mostly has a label */
     set_up();
     for (uint32_t kind = 0; kind < ROKEMAIPU_KINDS; kind++) {
-        static const uint32_t ids[ROKEMAIPU_KINDS] = {0x63000, 0x63001, 0x6b000, 0x6b001, 0x6b002, 0x6b003, 0x6b004, 0x6b005, 0x6b105, 6, 7, 8, 0x60010, 0x60011, 0x60012, 0x60013,
-            0x68001, 0x68002, 0x68003, 0x68004, 0x68005, 0x68006, 0x68007, 0x68009, 0x6800a, 0x6800b, 0x6800c, 0x6800d, 0x6800e, 0x6800f};
-        bool standard = kind >= 9 && kind < 12, older = kind >= 9, newer = kind < 12;
-        bytes[0] = kind == ROKEMAIPU_OLDER_CCS_EXTRA_INFORMATION ? 0 : 1;
-        IS(rokemaipu_refusal(rokemaipu_frame(&t, OLD, 100 + kind, ids[kind], !standard, bytes, lengths_of[kind])), older ? 0 : 29);
-        IS(rokemaipu_refusal(rokemaipu_frame(&t, NEW, 200 + kind, ids[kind], !standard, bytes, lengths_of[kind])), newer ? 0 : 29);
+        bytes[0] = is_pilot(kind) ? 0 : 1;
+        IS(rokemaipu_refusal(rokemaipu_frame(&t, OLD, 100 + kind, ids_of[kind], !is_standard(kind), bytes, lengths_of[kind])), is_older(kind) ? 0 : 29);
+        IS(rokemaipu_refusal(rokemaipu_frame(&t, NEW, 200 + kind, ids_of[kind], !is_standard(kind), bytes, lengths_of[kind])), is_newer(kind) ? 0 : 29);
     }
     for (uint32_t kind = 0; kind < ROKEMAIPU_KINDS; kind++) {
-        if (kind == ROKEMAIPU_OLDER_CCS_EXTRA_INFORMATION) continue;
-        latest_is(__LINE__, 0, kind, 100 + kind, kind >= 9 ? lengths_of[kind] : 0); /* a kind that the post's pages have not was never accepted */
-        latest_is(__LINE__, 1, kind, 200 + kind, kind < 12 ? lengths_of[kind] : 0);
-        if (kind >= 9) IS(t.posts[0].latest[place_of(kind)].kind, kind);
-        if (kind < 12) IS(t.posts[1].latest[place_of(kind)].kind, kind);
+        if (is_pilot(kind)) continue;
+        latest_is(__LINE__, 0, kind, 100 + kind, is_older(kind) ? lengths_of[kind] : 0); /* a kind that the post's pages have not was never accepted */
+        latest_is(__LINE__, 1, kind, 200 + kind, is_newer(kind) ? lengths_of[kind] : 0);
+        if (is_older(kind)) IS(t.posts[0].latest[place_of(kind)].kind, kind);
+        if (is_newer(kind)) IS(t.posts[1].latest[place_of(kind)].kind, kind);
+    }
+    for (uint32_t place = 0; place < ROKEMAIPU_PLACES; place++) { /* the older pages have fewer */
+        IS(t.posts[0].latest[place].known, place < 21);
+        IS(t.posts[1].latest[place].known, 1);
     }
     for (uint32_t post = 0; post < 2; post++) {
         IS(rokemaipu_latest(&t, post, ROKEMAIPU_KINDS, NULL, 0, NULL, 0), R(3));
         IS(rokemaipu_latest(&t, post, UINT32_MAX, NULL, 0, NULL, 0), R(3));
     }
-    puts("latest: each of the thirty kinds on posts of either interface, by its kind");
+    puts("latest: each of the forty-three kinds on posts of either interface, by its kind");
 }
 
 /* which of the three messages stands for DC_Power_Control */

@@ -14,7 +14,7 @@ static bool same_table(const rokemaipu_table *a, const rokemaipu_table *b) { ret
 
 static void layout(void) {
     IS(rokemaipu_layout(), ROKEMAIPU_LAYOUT);
-    IS(rokemaipu_layout(), 12040 + 16 * (1ull << 32) + 21 * (1ull << 40) + 6 * (1ull << 48));
+    IS(rokemaipu_layout(), 13576 + 16 * (1ull << 32) + 25 * (1ull << 40) + 7 * (1ull << 48));
     rokemaipu_table t, zero;
     memset(&t, 0, sizeof t);
     memset(&zero, 0, sizeof zero);
@@ -461,10 +461,8 @@ static void full_counts(void) {
 /* ---- any input: tables of random numbers, slices of every length, lent at a fence; a refusal leaves all as it was */
 
 /* by kind, and behind the kinds such that are none */
-static const uint32_t ids[] = {0x63000, 0x63001, 0x6b000, 0x6b001, 0x6b002, 0x6b003, 0x6b004, 0x6b005, 0x6b105, 6, 7, 8, 0x60010, 0x60011, 0x60012, 0x60013, 0x68001, 0x68002, 0x68003,
-    0x68004, 0x68005, 0x68006, 0x68007, 0x68009, 0x6800a, 0x6800b, 0x6800c, 0x6800d, 0x6800e, 0x6800f, 0x63003, 0x68008, 0, 9, 0xffffffff};
+static const uint32_t ids[] = {IDS_OF_KINDS, 0x63003, 0x68008, 0, 9, 0xffffffff};
 enum { IDS = sizeof ids / sizeof *ids };
-static bool is_standard(uint32_t kind) { return kind >= ROKEMAIPU_CHARGE_CONTROL_1 && kind <= ROKEMAIPU_PT1000_STATE; }
 static bool some_form(uint32_t which) { return is_standard(which) ? !below(8) : below(8) != 0; }
 
 /* what an answered frame or tick leaves of the counts of a table */
@@ -537,7 +535,7 @@ static void any_frame(void) {
     IS(rokemaipu_set_up(&ours, 0, 4, 5000, 1000, 500, 500, 0, ROKEMAIPU_NEWER), 0);
     IS(rokemaipu_set_up(&ours, 1, 5, 5000, 1000, 500, 500, 0, ROKEMAIPU_OLDER), 0);
     plain = ours;
-    for (int turn = 0; turn < 600000 && !bad; turn++) {
+    for (int turn = 0; turn < 800000 && !bad; turn++) {
         int64_t got[ROKEMAIPU_SIGNALS] = {0}, want[ROKEMAIPU_SIGNALS] = {0};
         uint32_t which = below(IDS), most = below(4) ? 10 : 1;
         size_t length = which < ROKEMAIPU_KINDS && below(2) ? lengths_of[which] : below(11);

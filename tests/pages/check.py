@@ -11,21 +11,27 @@ from collections import namedtuple
 from pathlib import Path
 
 ROOT = Path(sys.argv[1]) if len(sys.argv) > 1 else Path(__file__).resolve().parents[2]
-# a document: its messages in the order of their kinds (01, "Frames and signals"; 02, Req 04, Req 11), the form of its identifiers (ours), where its rows
-# stand, and where the definitions of its labels, of reading and of writing do
-Document = namedtuple('Document', 'text, messages, extended, code, specs, labels, read, write')
+# some messages of a document, in the order of their kinds (01, "Frames and signals"; 02, Req 04, Req 11, Req 14): the form of their identifiers (ours), where
+# their rows stand, and where the definitions of reading and of writing do
+Document = namedtuple('Document', 'text, messages, extended, code, specs, read, write')
 DOCUMENTS = (
     Document('000.txt', ['Power_Modules_Status', 'DC_Power_Parameters', 'Advantics_Controller_Status', 'New_Charge_Session', 'Charge_Status_Change',
                          'DC_Power_Control', 'Charge_Session_Finished', 'Emergency_Stop', 'EV_ID_CCS_Part2_DIN'],
-             True, 'src/charger.rt', 'specs/Charger.antt', ['message_types'], ['message_parts/specs/Watched.antt', 'message_charger/specs/Build.antt'],
+             True, ['src/charger.rt'], 'specs/Charger.antt', ['message_parts/specs/Watched.antt', 'message_charger/specs/Build.antt'],
              ['message_charger/specs/Take.antt']),
     Document('004.txt', ['ChargeControl1', 'ChargeState1', 'PT1000State'],
-             False, 'src/safety.rt', 'specs/Safety.antt', ['message_types'], ['message_safety/specs/Build.antt'], ['message_safety/specs/Take.antt']),
+             False, ['src/safety.rt'], 'specs/Safety.antt', ['message_safety/specs/Build.antt'], ['message_safety/specs/Take.antt']),
     Document('001.txt', ['Power_Modules_Status', 'Power_Modules_Limits', 'Sequence_Control', 'ADM_CS_SECC_Outputs', 'New_Charge_Session', 'Insulation_Test', 'Precharge',
                          'Charge_Status_Change', 'Charging_Loop', 'Emergency_Stop', 'Charge_Session_Finished', 'Advantics_Controller_Status', 'ADM_CO_CUI1_Inputs',
                          'ADM_CS_SECC_Inputs', 'EV_ID_CCS_Part2_DIN', 'ADM_CS_SPCC_Inputs', 'CCS_Extra_Information', 'MCS_Extra_Information'],
-             True, 'src/older.rt', 'specs/Older.antt', ['message_types', 'older_types'], ['older_power/specs/Build.antt', 'older_inputs/specs/Build.antt'],
-             ['older_power/specs/Take.antt', 'older_inputs/specs/Take.antt']),
+             True, ['src/older.rt'], 'specs/Older.antt',
+             ['message_inputs/specs/Build.antt', 'older_power/specs/Build.antt', 'older_controller/specs/Build.antt'],
+             ['message_inputs/specs/Take.antt', 'older_power/specs/Take.antt', 'older_controller/specs/Take.antt']),
+    Document('000.txt', ['Sequence_Control', 'ADM_CS_SECC_Outputs', 'EV_Information_Battery', 'EV_Information_Voltages', 'EV_Information_Charge_Limits',
+                         'EV_Information_Discharge_Limits', 'EV_Information_Energy', 'ADM_CO_CUI1_Inputs', 'ADM_CS_SECC_Inputs', 'ADM_CS_SPCC_Inputs',
+                         'CCS_Extra_Information', 'MCS_Extra_Information', 'OCPP_Control'],
+             True, ['src/vehicle.rt', 'src/inputs.rt'], 'specs/Rest.antt', ['message_inputs/specs/Build.antt', 'message_vehicle/specs/Build.antt'],
+             ['message_inputs/specs/Take.antt', 'message_vehicle/specs/Take.antt']),
 )
 # 000 and 001 have messages of one name: a kind is a document's message
 KINDS = [(d.text, m) for d in DOCUMENTS for m in d.messages]
@@ -95,18 +101,9 @@ FIELDS = {
                                       'CS_Estop3ChargingAbort': 'estop3', 'CS_ImdRcmChargingAbort': 'imdabort', 'CS_ImdRcmTestFailure': 'imdfailure'}),
     'PT1000State': ('Pt1000State', {f'PT{n}_{word}': f'{field}{n}' for n in range(1, 5)
                                     for word, field in (('Temperature', 'temperature'), ('ChargingStopped', 'stopped'), ('SelftestFailed', 'failed'))}),
-}
-# of 001, where it has other signals than 000's message of that name
-OLDER_FIELDS = {
-    'Power_Modules_Limits': ('PowerModulesLimits', {'Maximum_Voltage': 'voltage', 'Maximum_Current': 'current', 'Reserved': 'reserved'}),
     'Sequence_Control': ('SequenceControl', {'Start_Charge_Authorisation': 'authorisation', 'CHAdeMO_Start_Button': 'chademo', 'CCS_Authorisation_Done': 'done',
                                              'CCS_Authorisation_Valid': 'valid', 'Charge_Parameters_Done': 'parameters', 'User_Stop_Button': 'stop'}),
     'ADM_CS_SECC_Outputs': ('SeccOutputs', {**{f'Digital_Output{n}': f'output{n}' for n in range(1, 5)}, 'Reserved': 'reserved'}),
-    'New_Charge_Session': ('NewChargeSession', {'Communication_Protocol': 'protocol', 'Plug_and_pins': 'plug', 'EV_Maximum_Voltage': 'voltage',
-                                                'EV_Maximum_Current': 'current', 'Battery_Capacity': 'capacity', 'State_of_Charge': 'charge'}),
-    'Insulation_Test': ('InsulationTest', {'Test_Voltage': 'voltage'}),
-    'Precharge': ('PrechargeTarget', {'Target_Voltage': 'voltage', 'Maximum_Current': 'current'}),
-    'Charging_Loop': ('ChargingLoop', {'Target_Voltage': 'voltage', 'Target_Current': 'current', 'State_of_Charge': 'charge'}),
     'ADM_CO_CUI1_Inputs': ('CuiInputs', {**{f'SWITCH{n}': f'switch{n}' for n in range(6)}, 'Reserved': 'reserved', 'Colibri_Temperature': 'colibri',
                                          'CPU_Temperature': 'cpu', 'Pistol_PTC1': 'pistol1', 'Pistol_PTC2': 'pistol2'}),
     'ADM_CS_SECC_Inputs': ('SeccInputs', {**{f'Digital_Input{n}': f'input{n}' for n in range(1, 5)}, 'Reserved': 'reserved', 'CPU_Temperature': 'cpu',
@@ -115,6 +112,23 @@ OLDER_FIELDS = {
                                           'CPU_Temperature1': 'cpu1', 'PT1K_A': 'pt1ka', 'PT1K_B': 'pt1kb', 'PT1KS_C': 'pt1ksc', 'PT1KS_D': 'pt1ksd'}),
     'CCS_Extra_Information': ('CcsExtraInformation', {'CP_State': 'state', 'CP_Duty_Cycle': 'duty', 'Reserved': 'reserved'}),
     'MCS_Extra_Information': ('McsExtraInformation', {'CE_State': 'ce', 'ID_State': 'id', 'Reserved': 'reserved'}),
+    'EV_Information_Battery': ('EvInformationBattery', {'Battery_Capacity': 'capacity', **{f'{word}_State_of_Charge': word.lower()
+                                                                                         for word in ('Present', 'Minimum', 'Target', 'Maximum')}}),
+    'EV_Information_Voltages': ('EvInformationVoltages', {f'EV_{word}_Voltage': word.lower() for word in ('Minimum', 'Maximum', 'Present')}),
+    **{f'EV_Information_{way}_Limits': ('EvInformationLimits', {f'EV_{end}_{way}_{word}': end[:3].lower() + word.lower()
+                                                                       for end in ('Minimum', 'Maximum') for word in ('Current', 'Power')})
+       for way in ('Charge', 'Discharge')},
+    'EV_Information_Energy': ('EvInformationEnergy', {f'EV_{word}_Energy_Request': word.lower() for word in ('Minimum', 'Target', 'Maximum')}),
+    'OCPP_Control': ('OcppControl', {'Dynamic_Target_Current': 'target'}),
+}
+# of 001, where it has other signals than 000's message of that name
+OLDER_FIELDS = {
+    'Power_Modules_Limits': ('PowerModulesLimits', {'Maximum_Voltage': 'voltage', 'Maximum_Current': 'current', 'Reserved': 'reserved'}),
+    'New_Charge_Session': ('NewChargeSession', {'Communication_Protocol': 'protocol', 'Plug_and_pins': 'plug', 'EV_Maximum_Voltage': 'voltage',
+                                                'EV_Maximum_Current': 'current', 'Battery_Capacity': 'capacity', 'State_of_Charge': 'charge'}),
+    'Insulation_Test': ('InsulationTest', {'Test_Voltage': 'voltage'}),
+    'Precharge': ('PrechargeTarget', {'Target_Voltage': 'voltage', 'Maximum_Current': 'current'}),
+    'Charging_Loop': ('ChargingLoop', {'Target_Voltage': 'voltage', 'Target_Current': 'current', 'State_of_Charge': 'charge'}),
 }
 faults = []
 
@@ -194,9 +208,7 @@ specs = (ROWS / 'specs/Messages.antt').read_text()
 listed = constants(code, 'Message')[:-1]
 held('src/contents.rt', [page for _, page in listed], wanted)
 names = [name for name, _ in listed]
-newer, older = array(code, 'MESSAGES', 'Message'), array(code, 'OLDER', 'Message')
-charger, safety = len(DOCUMENTS[0].messages), len(DOCUMENTS[1].messages)
-if names[:charger + safety] != newer or names[charger:] != older:
+if names != [name for some in ('MESSAGES', 'OLDER', 'REST') for name in array(code, some, 'Message')]:
     fault('src/contents.rt: the constants and the arrays do not list the same names in the same order')
 said = re.findall(r'^\s*(?:∷ )?\(([^)]*)\)  -- (\w+)$', specs, re.M)
 held('specs/Messages.antt', [numbers(page) for page, _ in said], wanted)
@@ -207,32 +219,33 @@ for place, have in (('src/contents.rt', names), ('specs/Messages.antt', [name fo
 
 # ---- the rows, and the labels
 rows = seen = 0
+labels = (ROOT / 'crates/message_types/specs/Labels.antt').read_text()
 for document, signals in zip(DOCUMENTS, papers):
-    code = (ROWS / document.code).read_text()
+    code = '\n'.join((ROWS / file).read_text() for file in document.code)
+    place = ', '.join(document.code)
     specs = (ROWS / document.specs).read_text()
-    labels = '\n'.join((ROOT / 'crates' / crate / 'specs/Labels.antt').read_text() for crate in document.labels)
     listed = constants(code, 'Line')
     if 'LINES' in code:
         names = [name for name, _ in listed]
         if names != array(code, 'LINES', 'Line'):
-            fault(f'{document.code}: the constants and LINES do not list the same names in the same order')
+            fault(f'{place}: the constants and LINES do not list the same names in the same order')
     else:
         # a row in each arm, at its place in the table, or the name of its constant
         named = dict(listed)
-        arms = re.findall(r'^\s*(\d+) => (?:Line\(([^)]*)\)|([A-Z_]+)), // (\w+)$', code, re.M)
-        held(f'{document.code}, the places', [int(at) for at, *_ in arms], list(range(rows, rows + len(signals))))
+        arms = re.findall(r'^\s*(\d+) => (?:Line\(([^)]*)\)|([A-Z0-9_]+)), // (\w+)$', code, re.M)
+        held(f'{place}, the places', [int(at) for at, *_ in arms], list(range(rows, rows + len(signals))))
         listed = [(name, named.pop(constant) if constant else numbers(row)) for _, row, constant, name in arms]
         names = [name for name, _ in listed]
         for constant in named:
-            fault(f'{document.code}: {constant} stands at no place of the table')
-    held(document.code, [row for _, row in listed], [row for _, _, _, row, *_ in signals])
+            fault(f'{place}: {constant} stands at no place of the table')
+    held(place, [row for _, row in listed], [row for _, _, _, row, *_ in signals])
     # in specs/ the lowest bit is computed
     said = re.findall(r'^\s*(?:∷ )?line((?: \w+)+)  -- (\w+)$', specs, re.M)
     held(document.specs, [numbers(row) for row, _ in said], [row[:3] + row[4:] for _, _, _, row, *_ in signals])
-    for place, have in ((document.code, names), (document.specs, [name for _, name in said])):
+    for where, have in ((place, names), (document.specs, [name for _, name in said])):
         for name, (message, signal, *_) in zip(have, signals):
             if not alike(name, signal) and not name.endswith('_' + signal.upper()):
-                fault(f'{place}: {name} stands where the document has {message}.{signal}')
+                fault(f'{where}: {name} stands where the document has {message}.{signal}')
 
     for message, signal, _, _, pairs, words in signals:
         # 004 has no word for a label set
@@ -270,8 +283,8 @@ for document, signals in zip(DOCUMENTS, papers):
         fields += len(wanted)
 if fields != rows:
     fault(f'{fields} fields were compared, not {rows}')
-if (len(KINDS), rows, seen) != (30, 139, 128):
-    fault(f'{len(KINDS)} messages, {rows} signals and {seen} labels were compared, not 30, 139 and 128')
+if (len(KINDS), rows, seen) != (43, 206, 159):
+    fault(f'{len(KINDS)} messages, {rows} signals and {seen} labels were compared, not 43, 206 and 159')
 
 if faults:
     sys.exit(f'pages: {len(faults)} faults')

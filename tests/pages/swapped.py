@@ -13,15 +13,18 @@ SWAPS = (
     ('crates/message_parts/specs/Watched.antt', 'modules = celsiusOf', 'enclosure = celsiusOf'),
     ('crates/message_safety/specs/Build.antt', 'stopped3 = flagOf', 'failed3 = flagOf'),
     ('crates/message_charger/specs/Take.antt', 'm .max', 'm .min'),
-    ('crates/older_inputs/specs/Build.antt', 'pt1ksc = celsiusOf', 'pt1ksd = celsiusOf'),
-    ('crates/older_inputs/specs/Take.antt', 'm .colibri', 'm .switch5'),
+    ('crates/message_inputs/specs/Build.antt', 'pt1ksc = celsiusOf', 'pt1ksd = celsiusOf'),
+    ('crates/message_inputs/specs/Take.antt', 'm .colibri', 'm .switch5'),
+    ('crates/message_vehicle/specs/Build.antt', 'present = byteOf', 'minimum = byteOf'),
+    ('crates/message_vehicle/specs/Take.antt', 'pos (m .capacity)', 'pos (m .target)'),
+    ('crates/older_power/specs/Build.antt', 'modules = celsiusOf', 'enclosure = celsiusOf'),
 )
 
 
 def checked(path, first, second):
     """What check.py says of a copy of the definitions in which the two words changed places."""
     with tempfile.TemporaryDirectory() as folder:
-        for crate in ('page_rows', 'message_types', 'message_parts', 'message_charger', 'message_safety', 'older_types', 'older_power', 'older_inputs'):
+        for crate in ('page_rows', 'message_types', 'message_parts', 'message_charger', 'message_safety', 'message_inputs', 'message_vehicle', 'older_power', 'older_controller'):
             shutil.copytree(ROOT / 'crates' / crate, Path(folder, 'crates', crate))
         file = Path(folder, path)
         text = file.read_text()

@@ -3,8 +3,8 @@
 #![allow(dead_code)]
 
 pub const POSTS: usize = 16;
-pub const KINDS: usize = 30;
-pub const PLACES: usize = 21;
+pub const KINDS: usize = 43;
+pub const PLACES: usize = 25;
 pub const FINDINGS: usize = 12;
 pub const KEPT: usize = 3;
 pub const SIGNALS: usize = 16;
@@ -89,7 +89,7 @@ pub struct Replay {
 }
 
 /// What `rokemaipu_layout` answers where the library has this table.
-pub const LAYOUT: u64 = std::mem::size_of::<Table>() as u64 + ((POSTS as u64) << 32) + ((PLACES as u64) << 40) + (6 << 48);
+pub const LAYOUT: u64 = std::mem::size_of::<Table>() as u64 + ((POSTS as u64) << 32) + ((PLACES as u64) << 40) + (7 << 48);
 
 impl Table {
     /// Zeroed memory is the empty table.
