@@ -9,6 +9,7 @@ from sensor import sensor
 from sixteen import moved, sixteen
 from stop import stop
 from traffic import Night, Post
+from vehicle import vehicle
 
 
 def clean():
@@ -276,7 +277,7 @@ def damaged():
     post.idle(3)
     post.frame(45, STATUS, "-", told("R4", "A controller status that lost its only byte."))
     post.frame(46, STATUS, "0e", told("R5:0", "Controller state 14; the pages end at 13."))
-    post.frame(47, "6b100", "000000000000", told("R3", "EV_Information_Battery, a message of the pages but not of 01."))
+    post.frame(47, "6b106", "000000000000", told("R3", "EV_Information_Battery is 6b100; no page has 6b106."))
     post.idle(2)
     post.frame(45, NEW_SESSION, "02", told("R4", "A New_Charge_Session cut in half opens nothing."))
     post.frame(46, NEW_SESSION, "0801", told("R5:0", "Protocol 8 has no label; nothing is opened."))
@@ -325,13 +326,14 @@ def damaged():
         night.at(post.time + 45 + n, f"frame {channel} {post.time + 45 + n} 6b004 x 00", told("R1", why))
     night.at(post.time + 51, f"tick 19 {post.time + 51}", told("R1", "A tick on channel 19, which nobody holds."))
     post.transfer(6, 1000)
-    for bit in (1, 2, 4, 9, 12, 18, 24, 28, 29, 31):
+    for bit in (2, 3, 4, 9, 12, 18, 24, 28, 29, 31):
         post.frame(45, f"{0x63000 ^ 1 << bit:x}", sound,
                    told("R3", f"The identifier of Power_Modules_Status with bit {bit} turned over."))
         post.transfer(1, 1000)
-    post.frame(45, f"{0x63000 ^ 1 << 15:x}", sound,
-               told("R15", "With bit 15 turned over it is a controller status, but one of 8 bytes."))
-    post.transfer(1, 1000)
+    for bit, message in ((1, "Sequence_Control"), (15, "controller status")):
+        post.frame(45, f"{0x63000 ^ 1 << bit:x}", sound,
+                   told("R15", f"With bit {bit} turned over it is a {message}, but one of 8 bytes."))
+        post.transfer(1, 1000)
     post.frame(45, PARAMETERS, "0100010001", told("R4", "Limits of almost nothing, but cut to 5 bytes: not in force."))
     post.transfer(4, 1000)
     post.record()
@@ -357,4 +359,4 @@ def damaged():
     return night
 
 
-NIGHTS = (clean, march, faults, sensor, damaged, safety, coming_round, older, sixteen, moved, stop)
+NIGHTS = (clean, march, faults, sensor, damaged, safety, coming_round, older, sixteen, moved, stop, vehicle)

@@ -18,6 +18,13 @@ PMS, PARAMETERS, STATUS, NEW_SESSION, CHANGE, CONTROL, FINISHED, STOP, EV_ID = (
     "63000", "63001", "6b000", "6b001", "6b002", "6b003", "6b004", "6b005", "6b105")
 
 
+SEQUENCE_CONTROL, OUTPUTS, BATTERY, VOLTAGES, CHARGE_LIMITS, DISCHARGE_LIMITS, ENERGY, CUI1_INPUTS, SECC_INPUTS, \
+    SPCC_INPUTS, CCS_EXTRA, MCS_EXTRA, OCPP = (
+        "63002", "63201", "6b100", "6b101", "6b102", "6b103", "6b104", "6b200", "6b201", "6b202", "6b203", "6b204", "6b300")
+DUTY_5, CP_STATE_C = 50, 6
+CE_STATE_C, MATED = 6, 1
+
+
 def byte(number):
     return f"{number:02x}"
 
@@ -34,6 +41,50 @@ def control_bytes(function, target=0, most=0, least=0, mode=TARGET_MODE, contact
 
 def parameter_bytes(volt=0, charge=0, discharge=0, target=0):
     return struct.pack("<HHHh", volt, charge, discharge, target).hex()
+
+
+def sequence_bytes(allowed=0, start=0, done=0, valid=0, parameters=0, stop=0):
+    """Sequence_Control: a byte for before a session, one for the negotiation, one for the power stages."""
+    return bytes([flags(allowed, start), flags(done, valid, parameters), stop]).hex()
+
+
+def output_bytes(outputs, reserved=0):
+    """ADM_CS_SECC_Outputs: four bits and sixty."""
+    return struct.pack("<Q", outputs | reserved << 4).hex()
+
+
+def battery_bytes(capacity, present, least, target, most):
+    """EV_Information_Battery: kWh and percent."""
+    return struct.pack("<HBBBB", capacity, present, least, target, most).hex()
+
+
+def words(*numbers, signed=False):
+    """EV_Information of voltages, limits and energies: 16 bits each."""
+    return struct.pack(f"<{len(numbers)}{'h' if signed else 'H'}", *numbers).hex()
+
+
+def input_bytes(inputs, *celsius):
+    """ADM_CS_SECC_Inputs: four bits, and the temperatures of the processor and of the pistol's two sensors."""
+    return (bytes([inputs, 0, 0, 0, 0]) + bytes(degrees + 40 for degrees in celsius)).hex()
+
+
+def spcc_bytes(inputs, *celsius):
+    """ADM_CS_SPCC_Inputs: four bits, four temperatures, a byte that no signal covers, and two temperatures more."""
+    degrees = bytes(degrees + 40 for degrees in celsius)
+    return (bytes([inputs]) + degrees[:4] + bytes(1) + degrees[4:]).hex()
+
+
+def switch_bytes(switches, *celsius):
+    """ADM_CO_CUI1_Inputs: six bits and twenty-six, and four temperatures."""
+    return (struct.pack("<I", switches) + bytes(degrees + 40 for degrees in celsius)).hex()
+
+
+def extra_bytes(state, duty):
+    return struct.pack("<BH5x", state, duty).hex()
+
+
+def mcs_bytes(state, mated):
+    return struct.pack("<BB6x", state, mated).hex()
 
 
 # 004: standard identifiers, byte 0 highest.
@@ -67,7 +118,6 @@ OLDER_PMS, LIMITS, SEQUENCE, OLDER_NEW_SESSION, TEST_LOOP, PRECHARGE_LOOP, OLDER
     OLDER_FINISHED, OLDER_STATUS, INPUTS, OLDER_EV_ID, EXTRA = (
         "60010", "60011", "60012", "68001", "68002", "68003", "68004", "68005", "68006", "68007", "68009", "6800b",
         "6800c", "6800e")
-DUTY_5, CP_STATE_C = 50, 6
 
 
 def older_opening_bytes(protocol, plug, volt, amps, capacity, charged):
@@ -77,12 +127,3 @@ def older_opening_bytes(protocol, plug, volt, amps, capacity, charged):
 
 def limit_bytes(volt=0, amps=0):
     return struct.pack("<HhI", volt, amps, 0).hex()
-
-
-def input_bytes(inputs, *celsius):
-    """ADM_CS_SECC_Inputs: four bits, and the temperatures of the processor and of the pistol's two sensors."""
-    return (bytes([inputs, 0, 0, 0, 0]) + bytes(degrees + 40 for degrees in celsius)).hex()
-
-
-def extra_bytes(state, duty):
-    return struct.pack("<BH5x", state, duty).hex()

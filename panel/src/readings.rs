@@ -127,6 +127,13 @@ fn control(looks: &[Look]) -> Vec<Option<Reading>> {
     ]
 }
 
+/// What a vehicle tells of its battery; an older controller tells it beside its function.
+fn battery(looks: &[Look]) -> Option<Reading> {
+    let battery = latest(looks, "EV_Information_Battery")?;
+    let note = format!("of {}", battery.words("Battery_Capacity")?);
+    Some(Reading { note, ..battery.said("State of charge", "Present_State_of_Charge")? })
+}
+
 /// An older controller asks for a function by a message of its own.
 const FUNCTIONS: [&str; 3] = ["Insulation_Test", "Precharge", "Charging_Loop"];
 
@@ -150,6 +157,7 @@ pub fn readings(depot: &Depot, post: u32, numbers: &Numbers, looks: &[Look]) -> 
         OLDER => older_control(looks, in_session(depot, post, Part::Control).as_ref()),
         _ => control(looks),
     });
+    rows.push(battery(looks));
     rows.push(latest(looks, "Advantics_Controller_Status").and_then(|look| look.said("Controller", "State")));
     rows.push(latest(looks, "Emergency_Stop").and_then(|look| {
         let marked = in_session(depot, post, Part::Stop).is_some();
@@ -294,6 +302,17 @@ mod tests {
         ];
         assert_eq!(said(older_control(&looks, Some(&looks[0]))), wanted);
         assert_eq!(said(status(&looks, 0))[1], row("Current", "-12.5 A", "", false));
+    }
+
+    /// 000: Battery_Capacity counts 1 kWh, where 001 counts 2.
+    #[test]
+    fn a_vehicle_that_tells_of_itself() {
+        let looks = [kept(false, "EV_Information_Battery", 0, &[0x4b, 0x01, 37, 10, 80, 100])];
+        assert_eq!(said(vec![battery(&looks)]), [row("State of charge", "37 %", "of 331 kWh", false)]);
+        let energy = kept(false, "EV_Information_Energy", 0, &[0xff, 0xff, 30, 0, 46, 0]);
+        assert_eq!(energy.signals(0)[0], ("EV_Minimum_Energy_Request", "-1 kWh".to_string()));
+        let outputs = kept(false, "ADM_CS_SECC_Outputs", 0, &[0xf7, 255, 255, 255, 255, 255, 255, 255]);
+        assert_eq!(outputs.signals(0)[4], ("Reserved", "1152921504606846975".to_string()));
     }
 
     /// 004: a duty above 100.0 % is taken as that, and only raw 8,191 is a probe that is not used.

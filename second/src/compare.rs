@@ -192,7 +192,7 @@ mod tests {
 
     #[test]
     fn agrees_with_itself_and_reaches_everything() {
-        match against(Desk::new, &plan(1..3)) {
+        match against(Desk::new, &plan(1..4)) {
             Verdict::Agreed(coverage) => assert_eq!(coverage.missing(), Vec::<String>::new()),
             Verdict::Differs(found) => panic!("{:?}", found.first),
         }
@@ -213,6 +213,8 @@ mod tests {
                         Some(("sensor" | "safety" | "older", _)) => lines <= 5,
                         // A set-up, an opening, a stop, an end and an opening before or behind it, and what shows it.
                         Some(("stop", _)) => lines <= 6,
+                        // A set-up, an opening, and what is taken for a limit, a stop or a sign of life.
+                        Some(("rest", _)) => lines <= 4,
                         // A set-up, what moves or drops it, and what shows that.
                         Some(("index", _)) => lines <= 3,
                         // Two steps of less than 2^31 ms are less than a round.

@@ -10,6 +10,7 @@ use crate::older_coverage;
 use crate::posts::Table;
 use crate::recordings_coverage;
 use crate::replay_coverage;
+use crate::rest_coverage;
 use crate::rules::RULES;
 use crate::safety_coverage;
 use crate::sensor_coverage;
@@ -48,6 +49,7 @@ pub struct Coverage {
     indexes: BTreeMap<String, u64>,
     since_index: index_coverage::Since,
     stops: BTreeMap<String, u64>,
+    rest: BTreeMap<String, u64>,
     replays: BTreeMap<String, u64>,
     batches: BTreeMap<String, u64>,
     clocks: BTreeMap<String, u64>,
@@ -89,6 +91,9 @@ impl Coverage {
         }
         for shown in stop_coverage::shown(table, step, answer) {
             *self.stops.entry(shown).or_default() += 1;
+        }
+        for shown in rest_coverage::shown(table, step, answer) {
+            *self.rest.entry(shown).or_default() += 1;
         }
         for shown in replay_coverage::shown(step, answer) {
             *self.replays.entry(shown).or_default() += 1;
@@ -146,6 +151,7 @@ impl Coverage {
         missing.extend(tally_coverage::wanted().filter(|shown| !self.counts.contains_key(shown)));
         missing.extend(index_coverage::wanted().filter(|shown| !self.indexes.contains_key(shown)));
         missing.extend(stop_coverage::wanted().filter(|shown| !self.stops.contains_key(shown)));
+        missing.extend(rest_coverage::wanted().filter(|shown| !self.rest.contains_key(shown)));
         missing.extend(replay_coverage::wanted().filter(|shown| !self.replays.contains_key(shown)));
         missing.extend(batch_coverage::wanted().filter(|shown| !self.batches.contains_key(shown)));
         missing.extend(clock_coverage::wanted().filter(|shown| !self.clocks.contains_key(shown)));
@@ -202,6 +208,10 @@ impl fmt::Display for Coverage {
         write!(out, "\nstops:   ")?;
         for shown in stop_coverage::wanted() {
             write!(out, " {shown} {},", self.stops.get(&shown).unwrap_or(&0))?;
+        }
+        write!(out, "\nrest:    ")?;
+        for shown in rest_coverage::wanted() {
+            write!(out, " {shown} {},", self.rest.get(&shown).unwrap_or(&0))?;
         }
         write!(out, "\nreplays: ")?;
         for shown in replay_coverage::wanted() {

@@ -61,7 +61,7 @@ fn taken_out(document: &str, typed: &[Row]) -> Vec<Row> {
 fn each_signal_as_its_document_has_it() {
     let newer = typed_rows(pages::of(NEWER).filter(|page| page.extended));
     let (older, safety) = (typed_rows(OLDER_PAGES.iter()), typed_rows(SAFETY_PAGES.iter()));
-    for (document, typed, count) in [("000", newer, 30), ("001", older, 78), ("004", safety, 31)] {
+    for (document, typed, count) in [("000", newer, 97), ("001", older, 78), ("004", safety, 31)] {
         assert_eq!(typed.len(), count, "{document}");
         assert_eq!(typed, taken_out(document, &typed), "{document}");
     }

@@ -7,6 +7,7 @@ mod batch_coverage;
 #[cfg(test)]
 mod batch_readings;
 mod batch_slips;
+mod both_pages;
 mod check;
 mod clock;
 mod clock_coverage;
@@ -35,6 +36,7 @@ mod log_line;
 #[cfg(test)]
 mod log_readings;
 mod log_slips;
+mod newer_pages;
 mod older_coverage;
 mod older_pages;
 #[cfg(test)]
@@ -60,6 +62,10 @@ mod replay_readings;
 mod replay_setups;
 mod replay_shrink;
 mod replay_slips;
+mod rest_coverage;
+#[cfg(test)]
+mod rest_readings;
+mod rest_slips;
 mod rng;
 mod rules;
 mod safety_coverage;

@@ -13,7 +13,7 @@ use crate::replay_setups;
 use crate::rules::{limit, poor_insulation, Limits};
 use crate::safety_coverage::those;
 
-const OTHERS: [&str; 34] = [
+const OTHERS: [&str; 35] = [
     "R29 on a newer post for A",
     "R29 on a newer post for R4",
     "R29 on a newer post for R5",
@@ -22,6 +22,7 @@ const OTHERS: [&str; 34] = [
     "R29 on an older post for A",
     "R29 on an older post for R4",
     "R29 on an older post for R5",
+    "R29 on an older post for R6",
     "R29 on an older post for R15",
     "R3 for the other form of R29",
     "R2 before R29",
@@ -251,6 +252,7 @@ mod tests {
             (shows("frame 4 0 6b000 x 07"), &["R29 on an older post for A"]),
             (shows("frame 4 0 6b000 x -"), &["R29 on an older post for R4"]),
             (shows("frame 4 0 6b000 x 0e"), &["R29 on an older post for R5"]),
+            (shows("frame 4 0 63002 x 040000"), &["R29 on an older post for R6"]),
             (shows("frame 4 0 6b000 x 0700"), &["R29 on an older post for R15"]),
             (shows("frame 4 0 6b000 s 07"), &["R3 for the other form of R29"]),
             (shows("frame 4 0 6b001 s 07"), &["R3 for the other form of R29"]),

@@ -1,10 +1,10 @@
 //! The older controllers' messages, typed from the maker's pages of document 001, in the order of its sections.
 
-use crate::pages::{flag, label, signed, unsigned, Kind, Order, Page, Signal, Unit};
-
-const fn page(name: &'static str, kind: Kind, id: u32, len: usize, signals: &'static [Signal]) -> Page {
-    Page { name, kind, id, len, extended: true, order: Order::Little, signals }
-}
+use crate::both_pages::{
+    ADM_CO_CUI1_INPUTS, ADM_CS_SECC_INPUTS, ADM_CS_SECC_OUTPUTS, ADM_CS_SPCC_INPUTS, CCS_EXTRA_INFORMATION,
+    MCS_EXTRA_INFORMATION, SEQUENCE_CONTROL,
+};
+use crate::pages::{label, page, signed, unsigned, Kind, Page, Unit};
 
 pub const OLDER_PAGES: [Page; 18] = [
     page(
@@ -32,33 +32,8 @@ pub const OLDER_PAGES: [Page; 18] = [
             unsigned("Reserved", 32, 32, Unit::None),
         ],
     ),
-    page(
-        "Sequence_Control",
-        Kind::SequenceControl,
-        0x60012,
-        3,
-        &[
-            label("Start_Charge_Authorisation", 0, 1, &[(0, "Not_Allowed"), (1, "Allowed")]),
-            label("CHAdeMO_Start_Button", 1, 1, &[(0, "Not_Pressed"), (1, "Pressed")]),
-            label("CCS_Authorisation_Done", 8, 1, &[(0, "Not_Done"), (1, "Done")]),
-            label("CCS_Authorisation_Valid", 9, 1, &[(0, "Invalid"), (1, "Valid")]),
-            label("Charge_Parameters_Done", 10, 1, &[(0, "Not_Done"), (1, "Done")]),
-            label("User_Stop_Button", 16, 1, &[(0, "Not_Pressed"), (1, "Pressed")]),
-        ],
-    ),
-    page(
-        "ADM_CS_SECC_Outputs",
-        Kind::AdmCsSeccOutputs,
-        0x60013,
-        8,
-        &[
-            flag("Digital_Output1", 0),
-            flag("Digital_Output2", 1),
-            flag("Digital_Output3", 2),
-            flag("Digital_Output4", 3),
-            unsigned("Reserved", 4, 60, Unit::None),
-        ],
-    ),
+    page("Sequence_Control", Kind::OlderSequenceControl, 0x60012, 3, SEQUENCE_CONTROL),
+    page("ADM_CS_SECC_Outputs", Kind::OlderAdmCsSeccOutputs, 0x60013, 8, ADM_CS_SECC_OUTPUTS),
     page(
         "New_Charge_Session",
         Kind::OlderNewChargeSession,
@@ -153,41 +128,8 @@ pub const OLDER_PAGES: [Page; 18] = [
             ],
         )],
     ),
-    page(
-        "ADM_CO_CUI1_Inputs",
-        Kind::AdmCoCui1Inputs,
-        0x6800a,
-        8,
-        &[
-            flag("SWITCH0", 0),
-            flag("SWITCH1", 1),
-            flag("SWITCH2", 2),
-            flag("SWITCH3", 3),
-            flag("SWITCH4", 4),
-            flag("SWITCH5", 5),
-            unsigned("Reserved", 6, 26, Unit::None),
-            unsigned("Colibri_Temperature", 32, 8, Unit::Celsius),
-            unsigned("CPU_Temperature", 40, 8, Unit::Celsius),
-            unsigned("Pistol_PTC1", 48, 8, Unit::Celsius),
-            unsigned("Pistol_PTC2", 56, 8, Unit::Celsius),
-        ],
-    ),
-    page(
-        "ADM_CS_SECC_Inputs",
-        Kind::AdmCsSeccInputs,
-        0x6800b,
-        8,
-        &[
-            flag("Digital_Input1", 0),
-            flag("Digital_Input2", 1),
-            flag("Digital_Input3", 2),
-            flag("Digital_Input4", 3),
-            unsigned("Reserved", 4, 36, Unit::None),
-            unsigned("CPU_Temperature", 40, 8, Unit::Celsius),
-            unsigned("Pistol_PTC1", 48, 8, Unit::Celsius),
-            unsigned("Pistol_PTC2", 56, 8, Unit::Celsius),
-        ],
-    ),
+    page("ADM_CO_CUI1_Inputs", Kind::OlderAdmCoCui1Inputs, 0x6800a, 8, ADM_CO_CUI1_INPUTS),
+    page("ADM_CS_SECC_Inputs", Kind::OlderAdmCsSeccInputs, 0x6800b, 8, ADM_CS_SECC_INPUTS),
     page(
         "EV_ID_CCS_Part2_DIN",
         Kind::OlderEvIdCcsPart2Din,
@@ -202,61 +144,7 @@ pub const OLDER_PAGES: [Page; 18] = [
             unsigned("Byte5", 40, 8, Unit::None),
         ],
     ),
-    page(
-        "ADM_CS_SPCC_Inputs",
-        Kind::AdmCsSpccInputs,
-        0x6800d,
-        8,
-        &[
-            flag("Digital_Input1", 0),
-            flag("Digital_Input2", 1),
-            flag("Digital_Input3", 2),
-            flag("Digital_Input4", 3),
-            unsigned("Reserved", 4, 4, Unit::None),
-            unsigned("CPU_Temperature0", 8, 8, Unit::Celsius),
-            unsigned("CPU_Temperature1", 16, 8, Unit::Celsius),
-            unsigned("PT1K_A", 24, 8, Unit::Celsius),
-            unsigned("PT1K_B", 32, 8, Unit::Celsius),
-            unsigned("PT1KS_C", 48, 8, Unit::Celsius),
-            unsigned("PT1KS_D", 56, 8, Unit::Celsius),
-        ],
-    ),
-    page(
-        "CCS_Extra_Information",
-        Kind::CcsExtraInformation,
-        0x6800e,
-        8,
-        &[
-            label("CP_State", 0, 8, &[(0, "E_or_F"), (3, "D"), (6, "C"), (9, "B"), (12, "A")]),
-            unsigned("CP_Duty_Cycle", 8, 16, Unit::Tenths),
-            unsigned("Reserved", 24, 40, Unit::None),
-        ],
-    ),
-    page(
-        "MCS_Extra_Information",
-        Kind::McsExtraInformation,
-        0x6800f,
-        8,
-        &[
-            label(
-                "CE_State",
-                0,
-                8,
-                &[
-                    (0, "Undefined"),
-                    (1, "A"),
-                    (2, "B0"),
-                    (3, "B0_Aux"),
-                    (4, "B"),
-                    (5, "B_Aux"),
-                    (6, "C"),
-                    (7, "C_Aux"),
-                    (8, "EC"),
-                    (9, "E"),
-                ],
-            ),
-            label("ID_State", 8, 8, &[(0, "Unmated"), (1, "Mated"), (2, "Mated_EVAux"), (3, "Mated_EVSEAux")]),
-            unsigned("Reserved", 16, 48, Unit::None),
-        ],
-    ),
+    page("ADM_CS_SPCC_Inputs", Kind::OlderAdmCsSpccInputs, 0x6800d, 8, ADM_CS_SPCC_INPUTS),
+    page("CCS_Extra_Information", Kind::OlderCcsExtraInformation, 0x6800e, 8, CCS_EXTRA_INFORMATION),
+    page("MCS_Extra_Information", Kind::OlderMcsExtraInformation, 0x6800f, 8, MCS_EXTRA_INFORMATION),
 ];

@@ -1,8 +1,8 @@
 //! Req 11 from both sides of each edge, and the decided reading of it (R9).
 
 use crate::fields::hex;
+use crate::newer_pages::NEWER_PAGES;
 use crate::older_pages::OLDER_PAGES;
-use crate::pages::Kind;
 use crate::readings::holds;
 
 /// A story with an older post on channel 4 and a newer one on channel 5.
@@ -118,7 +118,7 @@ fn identifiers_and_forms() {
          frame 4 0 60010 s 0000000041000164 => R3
          frame 4 0 63000 x 0000000041000164 => R29
          frame 4 0 63000 s 0000000041000164 => R3
-         frame 4 0 63002 x 0000000041000164 => R3
+         frame 4 0 63003 x 0000000041000164 => R3
          frame 4 0 68008 x 00 => R3
          frame 4 0 6 x 0000000000000000 => R3
          frame 4 0 5 s 0000000000000000 => R3",
@@ -250,19 +250,20 @@ fn labels_and_their_gaps() {
 /// Bits that no signal covers give 6: Sequence_Control's 2-7, 11-15 and 17-23, ADM_CS_SPCC_Inputs' 40-47, and no others.
 #[test]
 fn each_bit_is_covered_or_gives_6() {
-    for page in &OLDER_PAGES {
+    let newer = NEWER_PAGES.iter().map(|page| ("change", page));
+    for (word, page) in newer.chain(OLDER_PAGES.iter().map(|page| ("change1", page))) {
         for bit in 0..page.len * 8 {
             let mut payload = vec![0; page.len];
             payload[bit / 8] = 1 << (bit % 8);
-            let open = match page.kind {
-                Kind::SequenceControl => matches!(bit, 2..=7 | 11..=15 | 17..=23),
-                Kind::AdmCsSpccInputs => (40..=47).contains(&bit),
+            let open = match page.name {
+                "Sequence_Control" => matches!(bit, 2..=7 | 11..=15 | 17..=23),
+                "ADM_CS_SPCC_Inputs" => (40..=47).contains(&bit),
                 _ => false,
             };
             let labelled = page.signals.iter().any(|signal| signal.labels.is_some() && signal.width > 1);
             if open || !labelled {
                 let (payload, answer) = (hex(&payload), if open { "R6" } else { "R13" });
-                holds(&format!("change1 {:x} x {payload} 64 0 => {answer} {payload}", page.id));
+                holds(&format!("{word} {:x} x {payload} 64 0 => {answer} {payload}", page.id));
             }
         }
     }

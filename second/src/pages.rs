@@ -1,7 +1,6 @@
-//! The messages: the nine of 01, typed from the maker's charger-side pages (000), and which pages a post has beside 004's.
-//!
-//! Start bits, widths, signs and label numbers are those of 000's sections, in the order of those sections.
+//! What a page is, and which pages a post has beside 004's.
 
+use crate::newer_pages::NEWER_PAGES;
 use crate::older_pages::OLDER_PAGES;
 use crate::safety_pages::SAFETY_PAGES;
 
@@ -14,20 +13,33 @@ pub const OLDER: u32 = 1;
 pub enum Kind {
     PowerModulesStatus,
     DcPowerParameters,
+    SequenceControl,
+    AdmCsSeccOutputs,
     AdvanticsControllerStatus,
     NewChargeSession,
     ChargeStatusChange,
     DcPowerControl,
     ChargeSessionFinished,
     EmergencyStop,
+    EvInformationBattery,
+    EvInformationVoltages,
+    EvInformationChargeLimits,
+    EvInformationDischargeLimits,
+    EvInformationEnergy,
     EvIdCcsPart2Din,
+    AdmCoCui1Inputs,
+    AdmCsSeccInputs,
+    AdmCsSpccInputs,
+    CcsExtraInformation,
+    McsExtraInformation,
+    OcppControl,
     ChargeControl1,
     ChargeState1,
     Pt1000State,
     OlderPowerModulesStatus,
     PowerModulesLimits,
-    SequenceControl,
-    AdmCsSeccOutputs,
+    OlderSequenceControl,
+    OlderAdmCsSeccOutputs,
     OlderNewChargeSession,
     InsulationTest,
     Precharge,
@@ -36,12 +48,12 @@ pub enum Kind {
     OlderEmergencyStop,
     OlderChargeSessionFinished,
     OlderAdvanticsControllerStatus,
-    AdmCoCui1Inputs,
-    AdmCsSeccInputs,
+    OlderAdmCoCui1Inputs,
+    OlderAdmCsSeccInputs,
     OlderEvIdCcsPart2Din,
-    AdmCsSpccInputs,
-    CcsExtraInformation,
-    McsExtraInformation,
+    OlderAdmCsSpccInputs,
+    OlderCcsExtraInformation,
+    OlderMcsExtraInformation,
 }
 
 impl Kind {
@@ -111,164 +123,10 @@ pub const fn flag(name: &'static str, start: u32) -> Signal {
     unsigned(name, start, 1, Unit::None)
 }
 
-const NEWER_PAGES: [Page; 9] = [
-    Page {
-        name: "Power_Modules_Status",
-        kind: Kind::PowerModulesStatus,
-        id: 0x63000,
-        len: 8,
-        extended: true,
-        order: Order::Little,
-        signals: &[
-            unsigned("Present_Voltage", 0, 16, Unit::Volts),
-            signed("Present_Current", 16, 16, Unit::Amps),
-            unsigned("Power_Modules_Temperature", 32, 8, Unit::Celsius),
-            unsigned("Enclosure_Temperature", 40, 8, Unit::Celsius),
-            label("System_Enable", 48, 8, &[(0, "Not_Allowed"), (1, "Allowed")]),
-            unsigned("Insulation_Resistance", 56, 8, Unit::KiloOhms),
-        ],
-    },
-    Page {
-        name: "DC_Power_Parameters",
-        kind: Kind::DcPowerParameters,
-        id: 0x63001,
-        len: 8,
-        extended: true,
-        order: Order::Little,
-        signals: &[
-            unsigned("Maximum_Voltage", 0, 16, Unit::Volts),
-            unsigned("Maximum_Charge_Current", 16, 16, Unit::Amps),
-            unsigned("Maximum_Discharge_Current", 32, 16, Unit::Amps),
-            signed("Range_Target_Current", 48, 16, Unit::Amps),
-        ],
-    },
-    Page {
-        name: "Advantics_Controller_Status",
-        kind: Kind::AdvanticsControllerStatus,
-        id: 0x6b000,
-        len: 1,
-        extended: true,
-        order: Order::Little,
-        signals: &[label(
-            "State",
-            0,
-            8,
-            &[
-                (0, "Initialising"),
-                (1, "Waiting_For_PEV"),
-                (2, "Negotiating_Connection"),
-                (3, "Connected_With_Full_Info"),
-                (4, "Insulation_Test"),
-                (5, "Precharge"),
-                (6, "Waiting_For_Charge"),
-                (7, "Charging"),
-                (8, "Ending_Charge"),
-                (9, "Welding_Detection"),
-                (10, "Closing_Communication"),
-                (11, "CCS_Authorisation_Process"),
-                (12, "Not_Available"),
-                (13, "Charge_Pause"),
-            ],
-        )],
-    },
-    Page {
-        name: "New_Charge_Session",
-        kind: Kind::NewChargeSession,
-        id: 0x6b001,
-        len: 2,
-        extended: true,
-        order: Order::Little,
-        signals: &[
-            label(
-                "Communication_Protocol",
-                0,
-                8,
-                &[
-                    (0, "CCS_DIN_70121_2012_v2"),
-                    (1, "CCS_ISO_15118_2010_v1"),
-                    (2, "CCS_ISO_15118_2013_v2"),
-                    (3, "CHAdeMO_v0.9"),
-                    (4, "CHAdeMO_v1.0-v1.1-v1.2"),
-                    (5, "CHAdeMO_v2.0"),
-                    (6, "CCS_PWM"),
-                    (7, "CCS_ISO_15118_2022"),
-                ],
-            ),
-            label(
-                "Plug_and_pins",
-                8,
-                8,
-                &[(0, "CCS_DC_Core"), (1, "CCS_DC_Extended"), (2, "CHAdeMO"), (3, "CCS_AC"), (4, "MCS")],
-            ),
-        ],
-    },
-    Page {
-        name: "Charge_Status_Change",
-        kind: Kind::ChargeStatusChange,
-        id: 0x6b002,
-        len: 1,
-        extended: true,
-        order: Order::Little,
-        signals: &[label("Vehicle_Ready_for_Charging", 0, 8, &[(0, "Charge_Stopped"), (1, "Charge_Started")])],
-    },
-    Page {
-        name: "DC_Power_Control",
-        kind: Kind::DcPowerControl,
-        id: 0x6b003,
-        len: 7,
-        extended: true,
-        order: Order::Little,
-        signals: &[
-            unsigned("Target_Voltage", 0, 16, Unit::Volts),
-            signed("Current_Range_Max", 16, 16, Unit::Amps),
-            signed("Current_Range_Min", 32, 16, Unit::Amps),
-            label(
-                "Power_Function",
-                48,
-                4,
-                &[(0, "Off"), (1, "Standby"), (2, "Insulation_Test"), (4, "Precharge"), (8, "Power_Transfer")],
-            ),
-            unsigned("Reserved", 52, 1, Unit::None),
-            label("Setpoints_Mode", 53, 1, &[(0, "Target_Mode"), (1, "Range_Mode")]),
-            label("Output_Contactors", 54, 1, &[(0, "Open"), (1, "Close")]),
-            label("Lower_Output_Voltage", 55, 1, &[(0, "No_Lowering"), (1, "Lowering")]),
-        ],
-    },
-    Page {
-        name: "Charge_Session_Finished",
-        kind: Kind::ChargeSessionFinished,
-        id: 0x6b004,
-        len: 1,
-        extended: true,
-        order: Order::Little,
-        signals: &[label("State", 0, 8, &[(0, "Clean_Stop"), (1, "Rushed_Stop")])],
-    },
-    Page {
-        name: "Emergency_Stop",
-        kind: Kind::EmergencyStop,
-        id: 0x6b005,
-        len: 1,
-        extended: true,
-        order: Order::Little,
-        signals: &[label("Origin", 0, 8, &[(1, "EVSE"), (3, "PEV")])],
-    },
-    Page {
-        name: "EV_ID_CCS_Part2_DIN",
-        kind: Kind::EvIdCcsPart2Din,
-        id: 0x6b105,
-        len: 6,
-        extended: true,
-        order: Order::Little,
-        signals: &[
-            unsigned("Byte0", 0, 8, Unit::None),
-            unsigned("Byte1", 8, 8, Unit::None),
-            unsigned("Byte2", 16, 8, Unit::None),
-            unsigned("Byte3", 24, 8, Unit::None),
-            unsigned("Byte4", 32, 8, Unit::None),
-            unsigned("Byte5", 40, 8, Unit::None),
-        ],
-    },
-];
+/// A page of 000 or 001: an extended identifier, starts at the lowest bit.
+pub const fn page(name: &'static str, kind: Kind, id: u32, len: usize, signals: &'static [Signal]) -> Page {
+    Page { name, kind, id, len, extended: true, order: Order::Little, signals }
+}
 
 /// Every page there is.
 pub fn all() -> impl Iterator<Item = &'static Page> {
@@ -306,7 +164,7 @@ mod tests {
 
     #[test]
     fn each_kind_has_a_page_of_its_own() {
-        assert_eq!(all().count(), 30);
+        assert_eq!(all().count(), 43);
         for page in all() {
             assert_eq!(page.kind.page().id, page.id, "{}", page.name);
         }
@@ -336,14 +194,6 @@ mod tests {
         (0..covered.len()).filter(|&bit| covered[bit] == 0).collect()
     }
 
-    /// Reading M1: every bit of every base message is covered, by one signal only.
-    #[test]
-    fn signals_of_000_cover_each_bit_once() {
-        for page in &NEWER_PAGES {
-            assert_eq!(left(page), [], "{}", page.name);
-        }
-    }
-
     /// 004 leaves bits uncovered: 64 less the widths of its signals.
     #[test]
     fn signals_of_004_cover_no_bit_twice() {
@@ -352,17 +202,20 @@ mod tests {
         }
     }
 
-    /// R10: "Sequence_Control 2-7, 11-15, 17-23; ADM_CS_SPCC_Inputs 40-47".
+    /// Reading M1: "all nine base messages cover every bit"; R10: "Sequence_Control 2-7, 11-15, 17-23; ADM_CS_SPCC_Inputs
+    /// 40-47".
     #[test]
-    fn signals_of_001_cover_all_but_these() {
-        assert_eq!(OLDER_PAGES.iter().map(|page| page.signals.len()).sum::<usize>(), 78);
-        for page in &OLDER_PAGES {
-            let bits: Vec<usize> = match page.kind {
-                Kind::SequenceControl => (2..8).chain(11..16).chain(17..24).collect(),
-                Kind::AdmCsSpccInputs => (40..48).collect(),
-                _ => Vec::new(),
-            };
-            assert_eq!(left(page), bits, "{}", page.name);
+    fn signals_of_000_and_001_cover_all_but_these() {
+        for (pages, signals) in [(&NEWER_PAGES[..], 97), (&OLDER_PAGES[..], 78)] {
+            assert_eq!(pages.iter().map(|page| page.signals.len()).sum::<usize>(), signals);
+            for page in pages {
+                let bits: Vec<usize> = match page.name {
+                    "Sequence_Control" => (2..8).chain(11..16).chain(17..24).collect(),
+                    "ADM_CS_SPCC_Inputs" => (40..48).collect(),
+                    _ => Vec::new(),
+                };
+                assert_eq!(left(page), bits, "{:x}", page.id);
+            }
         }
     }
 }

@@ -16,6 +16,7 @@ use crate::older_slips;
 use crate::posts::Post;
 use crate::recordings_slips;
 use crate::replay_slips;
+use crate::rest_slips;
 use crate::rules::{self, limit, live, poor_insulation, powers, under_power, Limits, Rule};
 use crate::safety_slips;
 use crate::sensor_slips;
@@ -51,7 +52,7 @@ pub fn names() -> Vec<&'static str> {
     let early = early.chain(tally_slips::names()).chain(clock_slips::names());
     let later = safety_slips::names().chain(replay_slips::names()).chain(batch_slips::names());
     let later = later.chain(recordings_slips::names()).chain(older_slips::names()).chain(index_slips::names());
-    let later = later.chain(stop_slips::names());
+    let later = later.chain(stop_slips::names()).chain(rest_slips::names());
     rules.chain([SHARED_CLOCK]).chain(early).chain(later).collect()
 }
 
@@ -76,6 +77,7 @@ pub fn desk(name: &str) -> Option<Desk> {
             older_slips::put_into,
             index_slips::put_into,
             stop_slips::put_into,
+            rest_slips::put_into,
         ];
         put.iter().find_map(|put_into| put_into(&mut desk, name))?;
     }

@@ -117,7 +117,7 @@ fn told(rules: Rules, form: &Form, limits: Limits, one: &[Marked], other: &[Mark
 /// What is told of each pair of lists of posts of that interface, over a few seeds.
 fn over_histories(rules: Rules, form: &Form, interface: u32) -> Vec<Told> {
     let mut all = Vec::new();
-    for seed in 1..4 {
+    for seed in 1..6 {
         let mut rng = Rng::new(seed);
         for (limits, history) in histories(seed, interface) {
             let one = some_ticks_out(&mut rng, &history);

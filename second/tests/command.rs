@@ -13,7 +13,7 @@ fn text(bytes: &[u8]) -> String {
 }
 
 fn compare_with(program: &[&str]) -> Output {
-    second(&[&["compare", "--steps", "2500", "--seed", "1", "--seed", "2", "--"], program].concat())
+    second(&[&["compare", "--steps", "2500", "--seed", "1", "--seed", "2", "--seed", "3", "--"], program].concat())
 }
 
 #[test]

@@ -17,7 +17,7 @@ from machine import command
 
 FOLDER, PROCESSOR = Path(sys.argv[1]), sys.argv[2]
 GATEWAY = [*sys.argv[3].split(), sys.argv[4]]
-NIGHTS = ('march', 'faults', 'safety', 'clean', 'sixteen', 'stop')
+NIGHTS = ('march', 'faults', 'safety', 'clean', 'sixteen', 'stop', 'vehicle')
 LOG = FOLDER / 'gateway.log'
 
 

@@ -1,4 +1,5 @@
-"""A post with an older controller: its own messages by their names of document 001, its function, its session, and all numbers as the desk has them."""
+"""A post with an older controller beside a newer one: each one's messages by the names of its own document, function, session, and all numbers as the desk has
+them."""
 import struct
 import tempfile
 import unittest
@@ -31,6 +32,11 @@ NIGHT = [
     'frame 4 175 8 s 7ffc00fd7ffcfff8',
     'frame 4 180 6b000 x 01',
     'frame 5 190 68009 x 01',
+    f'frame 5 191 6b100 x {struct.pack("<HBBBB", 331, 37, 10, 80, 100).hex()}',
+    'frame 5 192 63201 x f7ffffffffffffff',
+    f'frame 5 193 6b104 x {struct.pack("<hhh", -1, 30, 46).hex()}',
+    'frame 5 194 6b204 x 0602000000000000',
+    'frame 4 195 6b204 x 0602000000000000',
     'frame 4 200 68009 x 07',
 ]
 
@@ -48,7 +54,7 @@ class Older(unittest.TestCase):
                 return seen.cards(tab), seen.line(tab, 'refused')
 
     def test_each_step(self):
-        """Behind each record every number is the desk's, and the names are 001's."""
+        """Behind each record every number is the desk's, and the names are its document's."""
         for count in range(1, len(NIGHT) + 1):
             lines = NIGHT[:count]
             *answers, first, second, refused = desk([*SET_UPS, *lines, 'record 0', 'record 1', 'refused'])[len(SET_UPS):]
@@ -58,7 +64,10 @@ class Older(unittest.TestCase):
                 recorded.held(self, card, line, each)
             self.assertEqual(said, f'Refused frames and ticks: {refused.removeprefix("N ")}')
         # each controller's frames on the other's post are refused with 29
-        self.assertEqual(answers[10:12], ['R29', 'R29'])
+        self.assertEqual([place for place, answer in enumerate(answers) if answer == 'R29'], [10, 11, 16])
+        heads = [head.split(',')[0] for head, _ in cards[1]['messages']]
+        self.assertTrue({'ADM_CS_SECC_Outputs', 'EV_Information_Energy', 'MCS_Extra_Information'} <= set(heads), heads)
+        self.assertIn(['State of charge', '37 %', 'of 331 kWh'], [row[:3] for row in cards[1]['readings']])
         heads = [head.split(',')[0] for head, _ in cards[0]['messages']]
         self.assertTrue({'Insulation_Test', 'Precharge', 'Charging_Loop', 'CCS_Extra_Information'} <= set(heads), heads)
         self.assertIn(['Function', 'Charging_Loop'], [row[:2] for row in cards[0]['readings']])

@@ -91,6 +91,8 @@ class Record:
             for name in ('Target_Voltage', 'Test_Voltage', 'Target_Current', 'Maximum_Current', 'State_of_Charge'):
                 if name in asked.numbers:
                     row(asked, name.replace('_', ' ').capitalize(), asked.said(name))
+        if battery := self.messages.get('EV_Information_Battery'):
+            row(battery, 'State of charge', battery.said('Present_State_of_Charge'), f'of {battery.said("Battery_Capacity")}')
         if controller := self.messages.get('Advantics_Controller_Status'):
             row(controller, 'Controller', controller.said('State'))
         if stop := self.messages.get('Emergency_Stop'):

@@ -37,7 +37,7 @@ def night():
                 payload = struct.pack('<HhBBBB', 4000 + r.randrange(200), 1000 + r.randrange(300), 70, 60, 1, 10 if low else r.randrange(200, 256))
                 add(post, f'frame {channel} {at + 1} 63000 x {payload.hex()}', f'A{256 * low + 2 * late}')
             if phase % 20 == 0:
-                add(post, f'frame {channel} {at + 2} 6b100 x 000000000000', 'R3')
+                add(post, f'frame {channel} {at + 2} 6b106 x 000000000000', 'R3')
     return posts, heard, lines
 
 

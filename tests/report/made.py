@@ -35,7 +35,7 @@ class Nights(unittest.TestCase):
 
     def test_frames_left_out(self):
         """Without the frames that no log can hold."""
-        for name, count in (('damaged', 9), ('safety', 1), ('older', 1)):
+        for name, count in (('damaged', 9), ('safety', 1), ('older', 1), ('vehicle', 1)):
             kept = replayed(name)
             lost = [step for step in script(name) if step not in kept]
             self.assertEqual([step for step in script(name) if step in kept], kept)

@@ -50,7 +50,7 @@ class Pages(unittest.TestCase):
         """All findings, all refusals that a replay gives but 25, which no night is long enough for, and nothing of either."""
         findings, refusals = set(), set()
         with tempfile.TemporaryDirectory() as folder:
-            for name in ('faults', 'damaged', 'clean', 'safety', 'round', 'older', 'sixteen', 'stop'):
+            for name in ('faults', 'damaged', 'clean', 'safety', 'round', 'older', 'sixteen', 'stop', 'vehicle'):
                 page, told = paged(name, folder)
                 self.assertEqual(held.faults(dumped(page), told), [], name)
                 findings |= {finding.number for finding in told.findings}
@@ -81,7 +81,7 @@ class Wrong(unittest.TestCase):
 
     def test_parts_taken_out_or_changed(self):
         with tempfile.TemporaryDirectory() as folder:
-            for name, least in (('march', 40), ('faults', 150), ('damaged', 100), ('round', 20), ('older', 40), ('sixteen', 40), ('stop', 40)):
+            for name, least in (('march', 40), ('faults', 150), ('damaged', 100), ('round', 20), ('older', 40), ('sixteen', 40), ('stop', 40), ('vehicle', 20)):
                 page, told = paged(name, folder)
                 text = page.read_text()
                 self.assertEqual(held.faults(text, told), [])

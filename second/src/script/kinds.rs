@@ -29,18 +29,34 @@ const OLDER_ASKED: [Weighted; 9] = [
 
 const SAFETY: [(u64, Kind); 3] = [(4, Kind::ChargeControl1), (4, Kind::ChargeState1), (4, Kind::Pt1000State)];
 
-const NEWER_OTHERS: [(u64, Kind); 2] = [(2, Kind::ChargeStatusChange), (1, Kind::EvIdCcsPart2Din)];
-
-const OLDER_OTHERS: [(u64, Kind); 9] = [
-    (2, Kind::SequenceControl),
+const NEWER_OTHERS: [(u64, Kind); 15] = [
+    (6, Kind::SequenceControl),
     (2, Kind::AdmCsSeccOutputs),
-    (2, Kind::OlderChargeStatusChange),
+    (2, Kind::ChargeStatusChange),
+    (3, Kind::EvInformationBattery),
+    (3, Kind::EvInformationVoltages),
+    (3, Kind::EvInformationChargeLimits),
+    (2, Kind::EvInformationDischargeLimits),
+    (2, Kind::EvInformationEnergy),
+    (1, Kind::EvIdCcsPart2Din),
     (2, Kind::AdmCoCui1Inputs),
     (2, Kind::AdmCsSeccInputs),
-    (2, Kind::OlderEvIdCcsPart2Din),
     (2, Kind::AdmCsSpccInputs),
     (2, Kind::CcsExtraInformation),
     (2, Kind::McsExtraInformation),
+    (2, Kind::OcppControl),
+];
+
+const OLDER_OTHERS: [(u64, Kind); 9] = [
+    (2, Kind::OlderSequenceControl),
+    (2, Kind::OlderAdmCsSeccOutputs),
+    (2, Kind::OlderChargeStatusChange),
+    (2, Kind::OlderAdmCoCui1Inputs),
+    (2, Kind::OlderAdmCsSeccInputs),
+    (2, Kind::OlderEvIdCcsPart2Din),
+    (2, Kind::OlderAdmCsSpccInputs),
+    (2, Kind::OlderCcsExtraInformation),
+    (2, Kind::OlderMcsExtraInformation),
 ];
 
 const TICKS: u64 = 9;

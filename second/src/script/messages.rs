@@ -19,6 +19,8 @@ pub fn aimed(rng: &mut Rng, kind: Kind, post: &Sketch) -> Message {
         Kind::DcPowerControl => dc_power_control(rng, post),
         Kind::InsulationTest | Kind::Precharge | Kind::ChargingLoop => one_function(rng, kind, post),
         Kind::NewChargeSession | Kind::OlderNewChargeSession => new_charge_session(rng, kind, post),
+        Kind::SequenceControl => sequence_control(rng),
+        Kind::EvInformationVoltages | Kind::EvInformationChargeLimits => of_a_vehicle(rng, kind, post),
         _ => any(rng, kind.page()),
     }
 }
@@ -167,6 +169,23 @@ fn power_modules_limits(rng: &mut Rng, post: &Sketch) -> Message {
     let current = if rng.chance(50) { rng.pick(&[0, 0, -1, 1, -32_768, 32_767]) } else { rng.pick(&around) };
     let reserved = rng.pick(&[0, 1, u32::MAX.into()]);
     Message::new(Kind::PowerModulesLimits, &[voltage.clamp(0, 65_535), current.min(32_767), reserved])
+}
+
+/// A maximum below the post's own limit, mostly: it is none of the post's.
+fn of_a_vehicle(rng: &mut Rng, kind: Kind, post: &Sketch) -> Message {
+    let mut raws = any(rng, kind.page()).raws().to_vec();
+    let own = if kind == Kind::EvInformationVoltages { post.limits.volt } else { post.limits.charge };
+    if rng.chance(75) {
+        raws[1] = rng.pick(&[0, 1, i64::from(own / 2)]);
+    }
+    Message::new(kind, &raws)
+}
+
+/// With the stop button pressed, mostly: it is no Emergency_Stop.
+fn sequence_control(rng: &mut Rng) -> Message {
+    let mut raws = any(rng, Kind::SequenceControl.page()).raws().to_vec();
+    raws[5] = i64::from(rng.chance(75));
+    Message::new(Kind::SequenceControl, &raws)
 }
 
 /// A setpoint of volts, at 0 or close to where the voltage limit could stand.

@@ -12,7 +12,7 @@ use crate::pages::{other, Kind, Page, NEWER, OLDER};
 use crate::rng::Rng;
 use crate::rules::CONTROLLER_LIMIT;
 
-/// Identifiers of 000's other messages, and such that only look close; in neither form in the table.
+/// Identifiers that only look close; in neither form in the table.
 const STRANGERS: [u32; 20] = [
     0,
     5,
@@ -21,15 +21,15 @@ const STRANGERS: [u32; 20] = [
     2047,
     0x60000,
     0x60014,
-    0x63002,
     0x63003,
-    0x63201,
+    0x63200,
+    0x63202,
     0x68000,
     0x68008,
     0x68010,
     0x6b006,
-    0x6b100,
-    0x6b104,
+    0x6b106,
+    0x6b301,
     0x8000_0006,
     0x8006_0010,
     0x8006_3000,
@@ -81,7 +81,7 @@ impl Generator {
         let time = if rng.chance(10) { now.wrapping_sub(1) } else { now };
         let page = some_page(rng, interface);
         let bytes = any(rng, page).bytes();
-        match rng.below(11) {
+        match rng.below(13) {
             0 => self.astray(),
             1 if begun => self.early(channel, now),
             2 => frame(channel, time, (rng.pick(&STRANGERS), rng.chance(60)), &bytes),
@@ -91,7 +91,7 @@ impl Generator {
             refused => {
                 let (page, bytes) = match refused {
                     1 | 6 | 7 => wrong_length(rng, interface),
-                    8 => uncovered(rng, interface),
+                    8 | 11 => uncovered(rng, interface),
                     _ => unlabelled(rng, interface),
                 };
                 of_page(channel, time, page, &bytes)
