@@ -156,12 +156,22 @@ fn put_extended(out: &mut [u8], l: Listed, latest: [Latest; PLACES], iface: Inte
 }
 
 fn put_newer(out: &mut [u8], l: Listed, latest: [Latest; PLACES]) -> Listed {
+    let to_stop = put_to_stop(out, l, latest);
+    put_from_battery(out, to_stop, latest)
+}
+
+// From Power_Modules_Status to Emergency_Stop.
+fn put_to_stop(out: &mut [u8], l: Listed, latest: [Latest; PLACES]) -> Listed {
     let a = put_kinds(out, l, latest, STATUS, CONTROLLER);
     let b = put_kinds(out, a, latest, SEQUENCE, BATTERY);
-    let c = put_kinds(out, b, latest, CONTROLLER, ID);
-    let d = put_kinds(out, c, latest, BATTERY, CUI);
-    let e = put_kinds(out, d, latest, ID, SAFETY_CONTROL);
-    put_kinds(out, e, latest, CUI, OCPP + 1)
+    put_kinds(out, b, latest, CONTROLLER, ID)
+}
+
+// From EV_Information_Battery to OCPP_Control.
+fn put_from_battery(out: &mut [u8], l: Listed, latest: [Latest; PLACES]) -> Listed {
+    let a = put_kinds(out, l, latest, BATTERY, CUI);
+    let b = put_kinds(out, a, latest, ID, SAFETY_CONTROL);
+    put_kinds(out, b, latest, CUI, OCPP + 1)
 }
 
 // The latest messages of the kinds from `first` on, before `end`.
