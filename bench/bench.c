@@ -178,8 +178,7 @@ static uint64_t tick(const side *s, void *with) {
     return s->tick(table_of(d, s), channel_of(d, s), 2001);
 }
 
-/* As the buses of a depot hand them over: any post's next, any message, in no order that the processor could learn. A stop is none of them: a revision before
- * Req 14 finds nothing behind it. */
+/* Posts and messages drawn at random, an order that no processor learns. A stop is none of them: a revision before Req 14 finds nothing behind it. */
 enum { LOT = 1 << 16 };
 typedef struct { uint8_t post, frame; } drawn;
 static drawn lot[LOT];
