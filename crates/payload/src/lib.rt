@@ -8,17 +8,29 @@ ghost use Rattle.payload.specs.Payload.{leNumber, leBytes, beNumber, beB
 
 // Byte 0 is highest where `big` is true.
 
-// The number of the first 8 bytes, byte 0 lowest.
-fn le_number(bytes: &[u8]) -> u64
-    ensures { λ r. ⌜ r ≡ leNumber (take 8 (now (bytes .entry))) ⌝ }
+// The number of the first len bytes, byte 0 lowest.
+fn le_first(bytes: &[u8], len: usize) -> u64
+    requires { ⌜ (len ≤ 8) × (len ≤ length (now bytes)) ⌝ }
+    ensures { λ r. ⌜ r ≡ leNumber (take len (now (bytes .entry))) ⌝ }
 {
     let mut n: u64 = 0;
-    let mut i = if bytes.len() < 8 { bytes.len() } else { 8 };
+    let mut i = len;
     while 0 < i {
         i -= 1;
         n = (n << 8) | (bytes[i] as u64);
     }
     n
+}
+
+// The number of the first 8 bytes, byte 0 lowest. Of 8 bytes, which most frames have, the compiler makes one load and no loop.
+fn le_number(bytes: &[u8]) -> u64
+    ensures { λ r. ⌜ r ≡ leNumber (take 8 (now (bytes .entry))) ⌝ }
+{
+    let len = bytes.len();
+    if 8 <= len {
+        return le_first(bytes, 8);
+    }
+    le_first(bytes, len)
 }
 
 // The number of the first 8 bytes, byte 0 highest.
