@@ -25,7 +25,7 @@ run: replay
 
 replay:
 	@[ -x target/bin/replay ] || echo "proving and building the replay: about 11 minutes, once" >&2
-	@rt check replay > replay.log 2>&1 || { cat replay.log; rm -f replay.log; exit 1; }
+	@TMPDIR=$$(tools/processors/scratch) rt check replay > replay.log 2>&1 || { cat replay.log; rm -f replay.log; exit 1; }
 	@rm -f replay.log
 	@[ "$$(uname -m)" != aarch64 ] || ! command -v $(CC) >/dev/null || tools/build replay >/dev/null
 
@@ -33,7 +33,7 @@ test:
 	@tests/run
 
 check:
-	@rt check
+	@TMPDIR=$$(tools/processors/scratch) rt check
 
 lib:
 	@tools/lib
@@ -76,7 +76,7 @@ archive = target/lib/$(shell uname -m)/librokemaipu.a
 panel:
 	@[ -f $(archive) ] && [ -z "$$(find crates include \( -name '*.rt' -o -name '*.antt' -o -name '*.h' \) -newer $(archive) -print -quit)" ] || \
 		{ echo "proving and building the library: about 20 minutes, once" >&2; tools/lib; }
-	@rt check nightlog > target/nightlog.out 2>&1 || { cat target/nightlog.out; exit 1; }
+	@TMPDIR=$$(tools/processors/scratch) rt check nightlog > target/nightlog.out 2>&1 || { cat target/nightlog.out; exit 1; }
 	@panel/night $(POSTS) $(LOG) --port $(PORT)
 
 report: replay
