@@ -110,16 +110,20 @@ fn put_session(out: &mut [u8], pen: Pen, s: SessionPart) -> Pen {
     }
 }
 
+// One of the three at a time: a message of either interface is large to the checker.
+fn put_kept_at(out: &mut [u8], pen: Pen, name: &[u8], kept: [Latest; KEPT], place: usize) -> Pen {
+    if KEPT <= place {
+        return pen;
+    }
+    let l = kept[place];
+    let d = l.message;
+    put_part(out, pen, name, d)
+}
+
 fn put_kept(out: &mut [u8], pen: Pen, kept: [Latest; KEPT]) -> Pen {
-    let st = kept[STATUS_PLACE];
-    let ct = kept[CONTROL_PLACE];
-    let em = kept[STOP_PLACE];
-    let status = st.message;
-    let control = ct.message;
-    let stop = em.message;
-    let p = put_part(out, pen, b" spms=", status);
-    let q = put_part(out, p, b" sdpc=", control);
-    put_part(out, q, b" sstop=", stop)
+    let p = put_kept_at(out, pen, b" spms=", kept, STATUS_PLACE);
+    let q = put_kept_at(out, p, b" sdpc=", kept, CONTROL_PLACE);
+    put_kept_at(out, q, b" sstop=", kept, STOP_PLACE)
 }
 
 fn is_known(d: Dated) -> bool {
