@@ -26,11 +26,14 @@ pub extern "C" fn rokemaipu_frame(
     let h = t.posts[i].head;
     let n = t.refused;
     let r = frame_on(h, n, channel, time, id, extended, payload);
-    t.refused = r.refused;
-    t.posts[i].head = r.head;
-    let at = r.at;
-    if at < PLACES {
-        t.posts[i].latest[at] = r.slot;
+    if r.taken {
+        t.posts[i].head = r.head;
+        let at = r.at;
+        if at < PLACES {
+            t.posts[i].latest[at] = r.slot;
+        }
+    } else {
+        t.refused = r.refused;
     }
     r.answer
 }

@@ -17,11 +17,14 @@ pub extern "C" fn rokemaipu_tick(t: &mut Table, channel: u32, time: u32) -> u32
     let h = t.posts[i].head;
     let n = t.refused;
     let r = tick_on(h, n, channel, time);
-    t.refused = r.refused;
-    t.posts[i].head = r.head;
-    let at = r.at;
-    if at < PLACES {
-        t.posts[i].latest[at] = r.slot;
+    if r.taken {
+        t.posts[i].head = r.head;
+        let at = r.at;
+        if at < PLACES {
+            t.posts[i].latest[at] = r.slot;
+        }
+    } else {
+        t.refused = r.refused;
     }
     r.answer
 }
