@@ -1,10 +1,11 @@
 // A frame and a tick over one post's head, by value and with the answer as a word: `watch_hear::hear`, by which the table's own step goes too.
 // For `lent_frame` and `lent_tick`, which copy a head out of a lent table, and store the head, one slot and the count of what was refused back.
 ghost use mathlib.Core.Path.{_≡_};
-ghost use Rattle.lent_step.specs.One.{isTaken, wordedBy, heardOn, tickOn};
+ghost use Rattle.lent_step.specs.One.{isTaken, wordedBy, frameOn, tickOn};
 use lent_words::answer_word;
 use rules::Head;
 use rules::Slot;
+use watch_hear::arrival_for;
 use watch_hear::hear;
 use watch_hear::refused_after;
 use watch_rules::Answer;
@@ -47,9 +48,19 @@ fn in_words(n: u64, r: Heard) -> Worded
     }
 }
 
-pub fn heard_on(h: Head, refused: u64, channel: u32, time: u32, a: Arrival) -> Worded
-    ensures { λ r. ⌜ r ≡ heardOn h refused channel time a ⌝ }
+pub fn frame_on(
+    h: Head,
+    refused: u64,
+    channel: u32,
+    time: u32,
+    id: u32,
+    extended: bool,
+    payload: &[u8],
+) -> Worded
+    ensures { λ r. ⌜ r ≡ frameOn h refused channel time id extended (now (payload .entry)) ⌝ }
 {
+    let limits = h.limits;
+    let a = arrival_for(limits, id, extended, payload);
     in_words(refused, hear(h, channel, time, a))
 }
 
