@@ -49,6 +49,7 @@ use Rattle.lent_words.specs.declared.Lent.{Lent}
 use Rattle.watch_rules.specs.Table.{channelCount, placeNamed, somePlace}
 use Rattle.lent_step.specs.One.{lentAt}
 use Rattle.lent_step.specs.declared.Worded.{Worded}
+use Rattle.lent_step.proofs.Taken.{Apart}
 use Rattle.lent_step.proofs.Worded as F
 use Rattle.lent_step.proofs.Worded.Laws as F′
 use Rattle.watch_places.proofs.place_named as finder
@@ -126,6 +127,7 @@ module _ {M : Type 1} (𝓤 : URA M) (H : Heap 𝓤) (𝓜 : Model 𝓤 H) (𝓖
 
   module _ {n : ℕ} (ps : List (Param (suc n))) (wanted : Wanted (word ∷ ps)) (f : Name) (step : OfHead ps)
       (same : (κs : Lfts (suc n)) (h : Table) (a : Denots (rows (word ∷ ps) κs)) → length (h .posts) ≡ postCount → lentAt h (somePlace h (a .0)) (step κs (head-at h (somePlace h (a .0))) (h .refused) a) ≡ wanted κs h a)
+      (apart : (κs : Lfts (suc n)) (x : Head) (m : ℕ) (a : Denots (rows (word ∷ ps) κs)) → Apart x m (step κs x m a))
       (gave : (κs : Lfts (suc n)) (qs : Shares (suc n)) (x : Head) (m : ℕ) (a : Denots (rows (word ∷ ps) κs))
       → ent 𝓤 (mean 𝓤 H A (Tok (word ∷ ps) 𝓤 A κs qs ⊛ ‵ (owns (D.the-row ∷ u64 ∷ rows (word ∷ ps) κs) (x, (m, a)) (head-val x ∷ [], (vint w64 m ∷ [], values (word ∷ ps) κs a))))) (C f (head-val x ∷ vint w64 m ∷ in-a-row (word ∷ ps) κs a) (Gives 𝓤 H A (toks 𝓤 A n (κs .1) (qs .1)) (step κs x m a)))) where
     -- the entry's MIR
@@ -138,7 +140,7 @@ module _ {M : Type 1} (𝓤 : URA M) (H : Heap 𝓤) (𝓜 : Model 𝓤 H) (𝓖
         In.walk 𝓤 H A (givenOf 𝓤 H 𝓜 𝓖) (suc n) (mir-types ps) finder-def.name f (κs .0) (qs .0) b o γ h (a .0) (are .0 .1) (in-a-row ps κs (a .1))
         (subst (λ (σs : List Ty). Typed σs (in-a-row ps κs (a .1))) (mirs-are ps κs) (all-typed 𝓤 H A (rows ps κs) (lawful 𝓤 H A (givenOf 𝓤 H 𝓜 𝓖) ps κs) (a .1) _ (are .1))) C (tables 𝓤 H 𝓜 𝓡 env .Λ)
         (fmOf 𝓤 H (givenOf 𝓤 H 𝓜 𝓖 .laws) (tablesOf 𝓤 H 𝓜 (tables 𝓤 H 𝓜 𝓡 env))) (Here h (a .0)) stepped (raw (emp 𝓤) ⊛ ‵ ftrue) (tok ⊛ own) (tok ⊛ ‵ ftrue) own Post′
-        (λ was. finds h (a .0) (refl, entry-fits h was (a .0 % channelCount) (mod-lt (a .0) (lit< tt)))) (λ was i e is. via 𝓤 _ (hands i is (count-is h was)) (gave κs qs (head-at h i) (h .refused) a)) leaves
+        (λ was. finds h (a .0) (refl, entry-fits h was (a .0 % channelCount) (mod-lt (a .0) (lit< tt)))) (λ was i e is. via 𝓤 _ (hands i is (count-is h was)) (gave κs qs (head-at h i) (h .refused) a)) (λ i e. apart κs (head-at h i) (h .refused) a) leaves
       where
         tok : Item 𝓤
         tok = Tok (word ∷ ps) 𝓤 A κs qs
