@@ -1,6 +1,7 @@
--- What need not be stored: a head that refuses is as it was, fills no slot, and one that takes leaves the count of what was refused as it was.
+-- What need not be stored: a head that refuses is as it was and fills no slot; one that takes leaves the count of what was refused as it was.
 -- So an entry stores the head and its slot where what comes is taken, and else the count alone.
 --     Apart p n r      that, of the step r of the head p, where n were refused before
+-- Assumes nothing.
 use Prim.Native.Nat.{ℕ}
 use mathlib.Core.Path.{_≡_, refl}
 use mathlib.Core.Bool.{Bool, true, false, cond, not, _&&_}
