@@ -1,4 +1,4 @@
--- The walk of an entry over one head, and at most one slot, of the table that it is lent, by hand, over any number of arguments beside the channel and the time:
+-- The walk of an entry over one head, and at most one slot, of the table that it is lent, by hand, over any arguments beside the channel and the time:
 --     fn g(t: &mut Table, channel: u32, time: u32, a1, .., ak) -> u32 {
 --         let c = (channel as usize) % CHANNELS;
 --         let i = at(t.index[c]);
