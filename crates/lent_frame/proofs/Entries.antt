@@ -7,9 +7,13 @@ use Rattle.lent_step.specs.Fed.{frameWord}
 use Rattle.lent_table.proofs.Entry.{Wanted}
 use Rattle.lent_walks.proofs.Params.{Param, word, flag, bytes}
 
--- the payload is lent for the lifetime numbered j
+-- what a frame is read of: its id, whether that is extended, and the payload, which is lent for the lifetime numbered j
+abbrev pub frame-reads : (n j : ℕ) → Within n j → List (Param n)
+frame-reads n j ok = word ∷ flag ∷ bytes j ok ∷ []
+
+-- and the time before that
 abbrev pub frame-takes : (n j : ℕ) → Within n j → List (Param n)
-frame-takes n j ok = word ∷ word ∷ flag ∷ bytes j ok ∷ []
+frame-takes n j ok = word ∷ frame-reads n j ok
 
 abbrev pub frame-leaves : (n j : ℕ) (ok : Within n j) → Wanted (word ∷ frame-takes n j ok)
 frame-leaves n j ok κs h a = frameWord h (a .0) (a .1 .0) (a .1 .1 .0) (a .1 .1 .1 .0) (a .1 .1 .1 .1 .0 .now)

@@ -1,11 +1,14 @@
-// A frame in place: its post is found by the index, one head is copied out and stepped by value; it is stored back, and the frame in its kind's place.
+// A frame in place: its post is found by the index, the frame is read by its limits, and one head is copied out and stepped by value.
+// Where the frame is taken the head is stored back, and the frame in its kind's place; else the count of what was refused is stored alone.
+// The frame is read before the head is copied out, so that no head is kept on the stack meanwhile.
 // Its answer and the table are exactly what `watch::frame` gives.
 // It stands alone, since the compiler builds a step into its entry only where the step has one caller. For C, and through `gateway` for Rattle.
 ghost use mathlib.Core.Path.{_≡_};
 ghost use Rattle.lent_step.specs.Fed.{frameWord};
-use lent_step::frame_on;
+use lent_step::heard_on;
 use lent_words::Lent;
 use rules::PLACES;
+use watch_hear::arrival_for;
 use watch_places::place_named;
 use watch_rules::CHANNELS;
 use watch_rules::Table;
@@ -23,14 +26,19 @@ pub extern "C" fn rokemaipu_frame(
 {
     let c = (channel as usize) % CHANNELS;
     let i = place_named(t.index[c]);
+    let limits = t.posts[i].head.limits;
+    let a = arrival_for(limits, id, extended, payload);
     let h = t.posts[i].head;
     let n = t.refused;
-    let r = frame_on(h, n, channel, time, id, extended, payload);
-    t.refused = r.refused;
-    t.posts[i].head = r.head;
-    let at = r.at;
-    if at < PLACES {
-        t.posts[i].latest[at] = r.slot;
+    let r = heard_on(h, n, channel, time, a);
+    if r.taken {
+        t.posts[i].head = r.head;
+        let at = r.at;
+        if at < PLACES {
+            t.posts[i].latest[at] = r.slot;
+        }
+    } else {
+        t.refused = r.refused;
     }
     r.answer
 }

@@ -1,29 +1,31 @@
 -- Inner step: what comes, over one post's head, so that a frame or tick copies one head and not the table.
 -- `feed-same` (watch_rules) shows that it is the table's step.
 use Prim.Native.Nat.{ℕ}
-use mathlib.Core.List.{List}
-use mathlib.Core.Bool.{Bool}
+use mathlib.Core.Bool.{Bool, true, false}
 use lib.ListN.{set}
 use Rattle.rules.specs.declared.Head.{Head}
 use Rattle.rules.specs.declared.Post.{Post}
 use Rattle.rules.specs.After.{stored}
 use Rattle.watch_rules.specs.declared.Table.{Table}
 use Rattle.watch_rules.specs.declared.Heard.{Heard}
-use Rattle.watch_rules.specs.declared.Arrival.the-variants.{Tick}
-use Rattle.watch_rules.specs.Table.{postIn, arrivalFor, heardOf, refusedAfter}
+use Rattle.watch_rules.specs.declared.Answer.{Answer}
+use Rattle.watch_rules.specs.declared.Answer.the-variants.{Findings, Refused}
+use Rattle.watch_rules.specs.declared.Arrival.{Arrival}
+use Rattle.watch_rules.specs.Table.{postIn, heardOf, refusedAfter}
 use Rattle.lent_words.specs.declared.Lent.{Lent}
 use Rattle.lent_words.specs.Words.{answerWord}
 use Rattle.lent_step.specs.declared.Worded.{Worded}
 
+abbrev pub isTaken : Answer → Bool
+isTaken (Findings f) = true
+isTaken (Refused w) = false
+
 -- n of the table's frames and ticks were refused before
 abbrev pub wordedBy : ℕ → Heard → Worded
-wordedBy n r = record { head = r .head; slot = r .slot; at = r .at; refused = refusedAfter n (r .answer); answer = answerWord (r .answer) }
+wordedBy n r = record { head = r .head; slot = r .slot; at = r .at; refused = refusedAfter n (r .answer); answer = answerWord (r .answer); taken = isTaken (r .answer) }
 
-abbrev pub frameOn : Head → ℕ → ℕ → ℕ → ℕ → Bool → List ℕ → Worded
-frameOn p n c time m x bs = wordedBy n (heardOf p c time (arrivalFor (p .limits) m x bs))
-
-abbrev pub tickOn : Head → ℕ → ℕ → ℕ → Worded
-tickOn p n c time = wordedBy n (heardOf p c time Tick)
+abbrev pub heardOn : Head → ℕ → ℕ → ℕ → Arrival → Worded
+heardOn p n c time a = wordedBy n (heardOf p c time a)
 
 -- the post with the stepped head, and the slot, and the table with that post in its place, and with the count
 abbrev pub storedBy : Post → Worded → Post

@@ -1,7 +1,9 @@
 // A tick in place, as a frame is in `lent_frame`: its answer and the table are exactly what `watch::tick` gives. For C, and through `gateway` for Rattle.
+// The limits are asked for nothing (`tick_for`), and not read once the compiler has built that in: they stand there so that a frame and a tick have one walk.
 ghost use mathlib.Core.Path.{_≡_};
 ghost use Rattle.lent_step.specs.Fed.{tickWord};
-use lent_step::tick_on;
+use lent_step::heard_on;
+use lent_step::tick_for;
 use lent_words::Lent;
 use rules::PLACES;
 use watch_places::place_named;
@@ -14,14 +16,19 @@ pub extern "C" fn rokemaipu_tick(t: &mut Table, channel: u32, time: u32) -> u32
 {
     let c = (channel as usize) % CHANNELS;
     let i = place_named(t.index[c]);
+    let limits = t.posts[i].head.limits;
+    let a = tick_for(limits);
     let h = t.posts[i].head;
     let n = t.refused;
-    let r = tick_on(h, n, channel, time);
-    t.refused = r.refused;
-    t.posts[i].head = r.head;
-    let at = r.at;
-    if at < PLACES {
-        t.posts[i].latest[at] = r.slot;
+    let r = heard_on(h, n, channel, time, a);
+    if r.taken {
+        t.posts[i].head = r.head;
+        let at = r.at;
+        if at < PLACES {
+            t.posts[i].latest[at] = r.slot;
+        }
+    } else {
+        t.refused = r.refused;
     }
     r.answer
 }

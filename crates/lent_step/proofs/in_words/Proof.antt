@@ -9,8 +9,11 @@ refused-after-requires c κs = search needs
 answer-word-requires : tie.Need-answer-word-requires
 answer-word-requires c κs = search needs
 
+is-taken-requires : tie.Need-is-taken-requires
+is-taken-requires c κs = search needs
+
 returns : tie.Need-returns
-returns c = rw (c .answer-word .ensures, c .before .refused-after .ensures)
+returns c = rw (c .is-taken .ensures, c .before .answer-word .ensures, c .before .before .refused-after .ensures)
 
 pub in-words-spec : {M : Type 1} → statement M
-in-words-spec = tie.close (tie.spec refused-after-requires answer-word-requires returns)
+in-words-spec = tie.close (tie.spec refused-after-requires answer-word-requires is-taken-requires returns)
