@@ -1,8 +1,8 @@
 -- `page_rows::charger::line_at` meets its contract: arm k hands out row k, and no index is left for the last arm.
 use Prim.Native.Nat.{zero-le}
 use native.Mathlib.Omega.{arith}
-use Rattle.page_rows.specs.Table.{rows, rowAt}
-use Rattle.page_rows.proofs.Keys.{at-key, no-key}
+use Rattle.page_table.specs.Table.{rows, rowAt}
+use Rattle.page_table.proofs.Keys.{at-key, no-key}
 use Rattle.page_rows.proofs.charger.line_at.Statement.{statement}
 use Rattle.page_rows.proofs.charger.line_at.Tie as tie
 
