@@ -1,5 +1,5 @@
--- `page_search::by_kind::signal_at` meets its contract. The loop's invariant: the search among the kind's rows from row `i` on finds what the search of the whole
--- table does. The measure is what is left of the table.
+-- `page_search::by_kind::signal_at` meets its contract. The loop's invariant: the search among the kind's rows from row `i` on finds what the search of the
+-- whole table does. The measure is what is left of the table.
 use mathlib.Core.Path.{_≡_, sym, ap, _∙_}
 use mathlib.Core.Bool.{Bool, true, false, _&&_, and-false}
 use mathlib.Core.List.{List, [], _∷_}
