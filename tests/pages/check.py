@@ -1,6 +1,6 @@
 #!/usr/bin/env python3
-"""check.py [FOLDER]: holds the tables of the crates to the maker's documents: every message and row of page_rows (the code's and the definitions'), every label of
-messages, and which field of a message's type each signal is, in reading and in writing (the definitions', to which the code is proved equal).
+"""check.py [FOLDER]: holds the tables of the crates to the maker's documents: every message and row of page_rows (the code's) and of page_table (the
+definitions'), every label of messages, and which field of a message's type each signal is, in reading and in writing (the definitions', to which the code is proved equal).
 
 000.txt, 004.txt and 001.txt were extracted from documents 000, 004 and 001 by extract.py. A table typed wrongly in src/ and specs/ alike is proved equal and is wrong: here
 it fails.
@@ -36,6 +36,7 @@ DOCUMENTS = (
 # 000 and 001 have messages of one name: a kind is a document's message
 KINDS = [(d.text, m) for d in DOCUMENTS for m in d.messages]
 ROWS = ROOT / 'crates/page_rows'
+TABLE = ROOT / 'crates/page_table'
 # label type, and the names of its number and label functions
 LABELS = {
     ('Power_Modules_Status', 'System_Enable'): 'enable',
@@ -183,7 +184,7 @@ def constants(text, type_name):
 
 def array(text, name, type_name):
     """The names that a constant array lists."""
-    body = re.search(rf'^const {name}: \[{type_name}; \d+\] = \[(.*?)\];$', text, re.S | re.M).group(1)
+    body = re.search(rf'^(?:pub )?const {name}: \[{type_name}; \d+\] = \[(.*?)\];$', text, re.S | re.M).group(1)
     return re.findall(r'^\s*(\w+),$', body, re.M)
 
 
@@ -204,7 +205,7 @@ for k, (kind, page) in enumerate(((document.text, s[0]), s[2]) for document, sig
         fault(f'{kind}: its signals disagree on the message')
 wanted = [(*pages[m][0], pages[m][1]) for m in KINDS]
 code = (ROWS / 'src/contents.rt').read_text()
-specs = (ROWS / 'specs/Messages.antt').read_text()
+specs = (TABLE / 'specs/Messages.antt').read_text()
 listed = constants(code, 'Message')[:-1]
 held('src/contents.rt', [page for _, page in listed], wanted)
 names = [name for name, _ in listed]
@@ -223,12 +224,12 @@ labels = (ROOT / 'crates/message_types/specs/Labels.antt').read_text()
 for document, signals in zip(DOCUMENTS, papers):
     code = '\n'.join((ROWS / file).read_text() for file in document.code)
     place = ', '.join(document.code)
-    specs = (ROWS / document.specs).read_text()
+    specs = (TABLE / document.specs).read_text()
     listed = constants(code, 'Line')
     if 'LINES' in code:
         names = [name for name, _ in listed]
-        if names != array(code, 'LINES', 'Line'):
-            fault(f'{place}: the constants and LINES do not list the same names in the same order')
+        if names != array(code, 'LINES', 'Line') + array(code, 'MORE_LINES', 'Line'):
+            fault(f'{place}: the constants and the arrays do not list the same names in the same order')
     else:
         # a row in each arm, at its place in the table, or the name of its constant
         named = dict(listed)

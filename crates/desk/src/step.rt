@@ -5,7 +5,7 @@ use crate::word::Showing;
 use crate::word::Telling;
 use desk_table::Line;
 use notation_answers::answer;
-use page_rows::Interface;
+use page_table::Interface;
 use text_pen::Pen;
 use watch_rules::Table;
 

@@ -4,7 +4,7 @@ use notation_answers::answer;
 use notation_read::fields;
 use notation_read::fields::Head;
 use page_read::Judged;
-use page_rows::Interface;
+use page_table::Interface;
 use text_bytes::Bytes;
 use text_lines::Field;
 use text_numbers::sign::Signed;

@@ -5,7 +5,7 @@ use messages::Reading;
 use notation_answers::answer;
 use notation_read::fields;
 use notation_read::fields::Head;
-use page_rows::Interface;
+use page_table::Interface;
 use text_bytes::Bytes;
 use text_pen::Pen;
 

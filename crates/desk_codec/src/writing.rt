@@ -8,8 +8,8 @@ use desk_values::values::Made;
 use notation_answers::answer;
 use notation_read::fields;
 use notation_read::fields::Head;
-use page_rows::FoundMessage;
-use page_rows::Interface;
+use page_table::FoundMessage;
+use page_table::Interface;
 use page_write::Written;
 use refusals::Refusal;
 use text_bytes::Bytes;
@@ -77,12 +77,12 @@ fn carried_out(iface: Interface, o: Order, room: &mut [u8]) -> Done {
 fn by_pages(iface: Interface, id: u32, extended: bool, v: Values, buf: &mut [u8]) -> Done {
     match iface {
         Interface::Newer => ordered(
-            page_rows::message_on(Interface::Newer, id, extended),
+            page_search::message_on(Interface::Newer, id, extended),
             v,
             buf,
         ),
         Interface::Older => ordered_older(
-            page_rows::message_on(Interface::Older, id, extended),
+            page_search::message_on(Interface::Older, id, extended),
             v,
             buf,
         ),

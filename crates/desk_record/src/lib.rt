@@ -16,7 +16,7 @@ use notation_answers::answer;
 use notation_answers::answer::named;
 use notation_read::fields;
 use notation_read::fields::Last;
-use page_rows::Interface;
+use page_table::Interface;
 use rule_limits::Limits;
 use rule_limits::kept::interface_number;
 use rule_limits::kept::sensor_number;

@@ -10,7 +10,7 @@ use borrow.Author.Tests.{ltb-true, leb-true}
 use Rattle.payload.specs.Payload.{leNumber}
 use Rattle.signal.specs.Signal.{getBits}
 use Rattle.signal.specs.Twos.{toSigned}
-use Rattle.page_rows.specs.Table.{rows, ofKind, firstAt, covered}
+use Rattle.page_table.specs.Table.{rows, ofKind, firstAt, covered}
 use Rattle.page_read.specs.Judge.{unlabelled, strayBelow, judgedNumber, judgeOn}
 use Rattle.page_interfaces.specs.Foreign.{isForeign, judgeFor}
 use Rattle.page_write.specs.Raws.{wholesOf, pad, rawsOf}

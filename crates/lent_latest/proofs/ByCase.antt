@@ -5,7 +5,7 @@ use mathlib.Core.Bool.{true, _&&_}
 use mathlib.Core.List.{List}
 use lib.ListN.{length}
 use borrow.Author.Tests.{lt-ltb}
-use Rattle.page_rows.specs.Messages.{messageCount}
+use Rattle.page_table.specs.Messages.{messageCount}
 use Rattle.rules.specs.Record.{isSet}
 use Rattle.watch_rules.specs.declared.Table.{Table}
 use Rattle.watch_rules.specs.declared.LookedUp.{LookedUp}

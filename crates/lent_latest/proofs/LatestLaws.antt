@@ -16,10 +16,10 @@ use Rattle.page_read.specs.declared.Judged.the-variants.{Frame, Refused}
 use Rattle.refusals.specs.declared.Refusal.the-variants.{ShortBuffer, OtherInterface}
 use Rattle.page_read.specs.Judge.{judgeOn}
 use Rattle.page_interfaces.specs.Foreign.{isForeign, judgeFor}
-use Rattle.page_rows.specs.declared.Interface.{Interface}
-use Rattle.page_rows.specs.Messages.{messageCount}
-use Rattle.page_rows.specs.Table.{rows, ofKind, lengthOf, bigOf}
-use Rattle.page_rows.proofs.Rules.{short-length}
+use Rattle.page_table.specs.declared.Interface.{Interface}
+use Rattle.page_table.specs.Messages.{messageCount}
+use Rattle.page_table.specs.Table.{rows, ofKind, lengthOf, bigOf}
+use Rattle.page_table.proofs.Rules.{short-length}
 use Rattle.page_write.proofs.Trips.{accepted-on, back-on}
 use Rattle.rule_pages.specs.Places.{placeBy}
 use Rattle.rules.specs.declared.Dated.the-variants as dated

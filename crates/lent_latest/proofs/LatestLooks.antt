@@ -8,7 +8,7 @@ use mathlib.Core.List.{List}
 use mathlib.Core.Option.{Option, none, some}
 use lib.Dec.{eqb}
 use lib.ListN.{getD}
-use Rattle.page_rows.specs.Messages.{messageCount}
+use Rattle.page_table.specs.Messages.{messageCount}
 use Rattle.rule_limits.specs.declared.PlainLimits.{PlainLimits}
 use Rattle.rule_limits.specs.Sensor.{interfaceOf}
 use Rattle.rule_pages.specs.Places.{placeCount, placeBy}

@@ -7,8 +7,8 @@ use lib.Dec.{eqb, ltb, leb}
 use lib.ListN.{length, drop}
 use Rattle.payload.specs.Payload.{bytesOf}
 use Rattle.refusals.specs.declared.Refusal.the-variants.{UnknownIdentifier, ShortBuffer}
-use Rattle.page_rows.specs.Messages.{messageCount}
-use Rattle.page_rows.specs.Table.{lengthOf, bigOf}
+use Rattle.page_table.specs.Messages.{messageCount}
+use Rattle.page_table.specs.Table.{lengthOf, bigOf}
 use Rattle.rule_pages.specs.Places.{placeBy}
 use Rattle.rules.specs.declared.Slot.{Slot}
 use Rattle.rules.specs.Times.{receivedOf, ageOf}

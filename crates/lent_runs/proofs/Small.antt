@@ -8,7 +8,7 @@ use lib.Dec.{ltb}
 use Rattle.refusals.specs.declared.Refusal.the-variants.{ChannelFree, Earlier, CountFull}
 use Rattle.page_read.specs.declared.Judged.{Judged}
 use Rattle.page_read.specs.declared.Judged.the-variants as judged
-use Rattle.page_rows.specs.declared.Interface.{Interface}
+use Rattle.page_table.specs.declared.Interface.{Interface}
 use Rattle.page_read.specs.Judge.{judgeOn}
 use Rattle.page_interfaces.specs.Foreign.{isForeign, judgeFor}
 use Rattle.page_bounds.proofs.Bounds.{SmallBelow, kindsOn, judge-small-on}

@@ -12,9 +12,9 @@ use borrow.Author.Tests.{ltb-true}
 use Rattle.payload.specs.Payload.{Bytes, leNumber}
 use Rattle.signal.specs.Signal.{getBits}
 use Rattle.signal.specs.Twos.{toSigned}
-use Rattle.page_rows.specs.declared.Interface.the-variants.{Newer}
-use Rattle.page_rows.specs.Messages.{messageCount}
-use Rattle.page_rows.specs.Table.{rows, ofKind, firstAt, covered, lengthOf}
+use Rattle.page_table.specs.declared.Interface.the-variants.{Newer}
+use Rattle.page_table.specs.Messages.{messageCount}
+use Rattle.page_table.specs.Table.{rows, ofKind, firstAt, covered, lengthOf}
 use Rattle.page_read.specs.declared.Judged.the-variants as judged
 use Rattle.page_read.specs.Judge.{unlabelled, strayBelow, judgedNumber, judgeOn}
 use Rattle.page_interfaces.specs.Foreign.{isForeign, judgeFor}

@@ -11,8 +11,8 @@ use Rattle.payload.specs.Payload.{leNumber}
 use Rattle.signal.specs.Signal.{getBits}
 use Rattle.signal.specs.Twos.{toSigned}
 use Rattle.refusals.specs.declared.Refusal.the-variants.{OtherInterface}
-use Rattle.page_rows.specs.Messages.{messageCount}
-use Rattle.page_rows.specs.Table.{rows, ofKind, firstAt, covered, lengthOf}
+use Rattle.page_table.specs.Messages.{messageCount}
+use Rattle.page_table.specs.Table.{rows, ofKind, firstAt, covered, lengthOf}
 use Rattle.page_read.specs.Judge.{unlabelled, strayBelow, judgedNumber, judgeOn}
 use Rattle.page_interfaces.specs.Foreign.{isForeign, judgeFor}
 use Rattle.page_write.specs.Raws.{wholesOf, pad, rawsOf}

@@ -12,9 +12,9 @@ use lib.ListN.{length, getD, drop}
 use borrow.Author.Tests.{lt-ltb, eqb-true, eqb-false}
 use Rattle.payload.specs.Payload.{Bytes}
 use Rattle.page_read.specs.declared.Judged.the-variants.{Frame}
-use Rattle.page_rows.specs.declared.Interface.{Interface}
+use Rattle.page_table.specs.declared.Interface.{Interface}
 use Rattle.page_interfaces.specs.Foreign.{judgeFor}
-use Rattle.page_rows.specs.Table.{lengthOf}
+use Rattle.page_table.specs.Table.{lengthOf}
 use Rattle.rule_limits.specs.declared.PlainLimits.{PlainLimits}
 use Rattle.rules.specs.declared.Latest.{Latest}
 use Rattle.rules.specs.declared.Post.{Post}

@@ -1,7 +1,7 @@
 -- The charger's messages, there and back (`Ways` of message_laws): each field and each label at its signal. Assumes nothing.
 use mathlib.Core.Path.{refl}
 use mathlib.Core.List.{[], _∷_}
-use Rattle.page_rows.specs.Table.{rows, ofKind}
+use Rattle.page_table.specs.Table.{rows, ofKind}
 use Rattle.page_write.specs.Raws.{wholeAt, wholesOf}
 use Rattle.message_fields.specs.Fields.{hasKilohms}
 use Rattle.message_fields.proofs.FieldLaws.{bytes, words, shorts, degrees, flags, kilohms-there, kilohms-back, kilohms-even}

@@ -2,7 +2,7 @@
 -- Assumes nothing.
 use mathlib.Core.Path.{refl}
 use mathlib.Core.List.{[], _∷_}
-use Rattle.page_rows.specs.Table.{rows, ofKind}
+use Rattle.page_table.specs.Table.{rows, ofKind}
 use Rattle.page_write.specs.Raws.{wholesOf}
 use Rattle.message_fields.proofs.FieldLaws.{degrees, flags, words}
 use Rattle.message_fields.proofs.Wides.{wides}

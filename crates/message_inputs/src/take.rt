@@ -1,7 +1,7 @@
 // The raw numbers of each message's signals, in the table's order.
 ghost use mathlib.Core.Path.{_≡_};
 ghost use Rattle.page_write.specs.Raws.{pad};
-ghost use Rattle.page_rows.specs.Table.{signalCount};
+ghost use Rattle.page_table.specs.Table.{signalCount};
 ghost use Rattle.message_inputs.specs.Take.{sequenceRaws, outputsRaws, cuiRaws, seccRaws, spccRaws, ccsRaws, mcsRaws};
 use message_fields::byte_raw;
 use message_fields::celsius_raw;

@@ -7,8 +7,8 @@ use Prim.Native.Nat.{ℕ, suc}
 use lib.ListN.{length}
 use lib.IntN.{ℤ}
 use Rattle.signal.specs.Raw.{bitsIn}
-use Rattle.page_rows.specs.declared.Row.{Row}
-use Rattle.page_rows.specs.Table.{rowsOf, bitsAt, takes}
+use Rattle.page_table.specs.declared.Row.{Row}
+use Rattle.page_table.specs.Table.{rowsOf, bitsAt, takes}
 use Rattle.page_read.specs.Judge.{unlabelled}
 use Rattle.page_write.specs.Raws.{rowTakes, wholeAt, wholesOf, allTake}
 use Rattle.message_fields.specs.Fields.{at}

@@ -9,8 +9,8 @@ use lib.IntN.{ℤ}
 use lib.ListN.{length, getD, set}
 use Rattle.payload.specs.Payload.{numberOf, bytesOf, Bytes}
 use Rattle.payload.proofs.Orders.{are-of}
-use Rattle.page_rows.specs.declared.Interface.{Interface}
-use Rattle.page_rows.specs.Table.{noRow, rowsOf, identifierOf, extendedOf, lengthOf, bigOf}
+use Rattle.page_table.specs.declared.Interface.{Interface}
+use Rattle.page_table.specs.Table.{noRow, rowsOf, identifierOf, extendedOf, lengthOf, bigOf}
 use Rattle.page_read.specs.declared.Judged.the-variants.{Frame}
 use Rattle.page_read.specs.Judge.{judgeOn}
 use Rattle.page_write.specs.Raws.{wholesOf, packedOn, rawsOf}

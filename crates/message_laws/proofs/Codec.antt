@@ -16,13 +16,13 @@ use Rattle.page_read.specs.declared.Judged.the-variants.{Frame}
 use Rattle.refusals.specs.declared.Refusal.the-variants.{NoRawNumber}
 use Rattle.page_write.specs.declared.Written.{Written}
 use Rattle.page_write.specs.declared.Written.the-variants.{Refused}
-use Rattle.page_rows.specs.declared.Interface.{Interface}
-use Rattle.page_rows.specs.Interfaces.{isOn}
-use Rattle.page_rows.specs.Table.{rowsOf, identifierOf, extendedOf, lengthOf, bigOf}
+use Rattle.page_table.specs.declared.Interface.{Interface}
+use Rattle.page_table.specs.Interfaces.{isOn}
+use Rattle.page_table.specs.Table.{rowsOf, identifierOf, extendedOf, lengthOf, bigOf}
 use Rattle.page_read.specs.Judge.{unlabelled, judgeOn}
-use Rattle.page_rows.specs.Table.{signalCount}
+use Rattle.page_table.specs.Table.{signalCount}
 use Rattle.page_write.specs.Raws.{wholesOf, pad, allTake, packedOn, canWrite, rawsOf, writtenBy, writeRawsOf, bufferAfter}
-use Rattle.page_rows.proofs.Rules.{both-true, few}
+use Rattle.page_table.proofs.Rules.{both-true, few}
 use Rattle.page_write.proofs.Trips.{accepted-on, back-on, raws-there, wholes-length, all-pad, packed-pad}
 use Rattle.message_fields.specs.Fields.{at}
 use Rattle.message_laws.specs.Fits.{allFit}

@@ -7,11 +7,11 @@ use Prim.Native.Nat.{_≤_}
 use lib.ListN.{length}
 use lib.IntN.{ℤ}
 use Rattle.signal.specs.Raw.{fitsIn, bitsIn}
-use Rattle.page_rows.specs.declared.Row.{Row}
-use Rattle.page_rows.specs.Table.{takes}
-use Rattle.page_rows.specs.Table.{signalCount}
+use Rattle.page_table.specs.declared.Row.{Row}
+use Rattle.page_table.specs.Table.{takes}
+use Rattle.page_table.specs.Table.{signalCount}
 use Rattle.page_write.specs.Raws.{pad, allTake}
-use Rattle.page_rows.proofs.Rules.{both-true}
+use Rattle.page_table.proofs.Rules.{both-true}
 use Rattle.page_write.proofs.Trips.{pad-same}
 use Rattle.message_fields.specs.Fields.{at}
 use Rattle.message_laws.specs.Fits.{allFit}

@@ -9,8 +9,8 @@ use lib.Arith.{lt-of-le-ne}
 use lib.Dec.{T, eqb, ltb, eqb→eq}
 use lib.ListN.{getD}
 use borrow.Author.Tests.{ltb-true, eqb-true, eqb-false}
-use Rattle.page_rows.specs.declared.Row.{Row}
-use Rattle.page_rows.specs.Table.{noRow, rowsOf, takes}
+use Rattle.page_table.specs.declared.Row.{Row}
+use Rattle.page_table.specs.Table.{noRow, rowsOf, takes}
 
 -- ---- the signals of a kind
 

@@ -13,11 +13,11 @@ use borrow.Author.Tests.{not-false}
 use Rattle.signal.specs.Raw.{fitsIn, bitsIn}
 use Rattle.signal.proofs.Laws.{get-lt}
 use Rattle.signal.proofs.RawLaws.{value-fits}
-use Rattle.page_rows.specs.declared.Row.{Row}
-use Rattle.page_rows.specs.Table.{noRow, rowsOf, lowest, bitsAt, takes}
+use Rattle.page_table.specs.declared.Row.{Row}
+use Rattle.page_table.specs.Table.{noRow, rowsOf, lowest, bitsAt, takes}
 use Rattle.page_read.specs.Judge.{unlabelled}
 use Rattle.page_write.specs.Raws.{wholeAt, allTake}
-use Rattle.page_rows.proofs.Rules.{both-true, either-false}
+use Rattle.page_table.proofs.Rules.{both-true, either-false}
 use Rattle.page_write.proofs.Trips.{takes-at}
 use Rattle.message_fields.specs.Fields.{at}
 use Rattle.message_fields.proofs.FieldLaws.{Field}

@@ -16,14 +16,14 @@ use Rattle.payload.proofs.Orders.{length-of}
 use Rattle.payload.proofs.Stored.{stored-in, stored-not}
 use Rattle.refusals.specs.declared.Refusal.{Refusal}
 use Rattle.refusals.specs.declared.Refusal.the-variants.{NoRawNumber}
-use Rattle.page_rows.specs.declared.Interface.{Interface}
-use Rattle.page_rows.specs.Interfaces.{isOn}
-use Rattle.page_rows.specs.Table.{noRow, rowsOf, identifierOf, extendedOf, lengthOf, bigOf}
+use Rattle.page_table.specs.declared.Interface.{Interface}
+use Rattle.page_table.specs.Interfaces.{isOn}
+use Rattle.page_table.specs.Table.{noRow, rowsOf, identifierOf, extendedOf, lengthOf, bigOf}
 use Rattle.page_read.specs.declared.Judged.the-variants.{Frame}
 use Rattle.page_read.specs.Judge.{judgeOn}
 use Rattle.page_write.specs.declared.Written.{Written}
 use Rattle.page_write.specs.declared.Written.the-variants.{Wrote, Refused}
-use Rattle.page_rows.specs.Table.{signalCount}
+use Rattle.page_table.specs.Table.{signalCount}
 use Rattle.page_write.specs.Raws.{pad, packedOn, rawsOf, writtenBy, writeRawsOf, bufferAfter}
 use Rattle.page_write.proofs.Trips.{accepts}
 use Rattle.page_change.specs.Change.{changeOn, bytesAfter}

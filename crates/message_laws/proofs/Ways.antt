@@ -5,7 +5,7 @@ use mathlib.Core.List.{List}
 use Prim.Native.Nat.{ℕ}
 use lib.ListN.{length}
 use lib.IntN.{ℤ}
-use Rattle.page_rows.specs.Table.{rowsOf}
+use Rattle.page_table.specs.Table.{rowsOf}
 use Rattle.page_read.specs.Judge.{unlabelled}
 use Rattle.page_write.specs.Raws.{wholesOf, allTake}
 use Rattle.message_fields.specs.Fields.{at}

@@ -3,7 +3,7 @@ use mathlib.Core.Bool.{Bool}
 use mathlib.Core.List.{List}
 use lib.IntN.{ℤ}
 use Rattle.signal.specs.Raw.{fitsIn}
-use Rattle.page_rows.specs.declared.Row.{Row}
+use Rattle.page_table.specs.declared.Row.{Row}
 use Rattle.page_write.specs.Raws.{allBy}
 
 abbrev pub rowFits : Row → ℤ → Bool

@@ -5,7 +5,7 @@ use mathlib.Core.Bool.{Bool, true, _&&_}
 use mathlib.Core.List.{List, _++_}
 use lib.IntN.{ℤ}
 use lib.ListN.{length, drop}
-use Rattle.page_rows.specs.Table.{rowsOf}
+use Rattle.page_table.specs.Table.{rowsOf}
 use Rattle.page_write.specs.declared.Written.{Written}
 use Rattle.page_write.specs.declared.Written.the-variants.{Wrote}
 use Rattle.message_laws.specs.Fits.{allFit}

@@ -3,7 +3,7 @@ use mathlib.Core.Bool.{Bool, true}
 use mathlib.Core.List.{List}
 use lib.IntN.{ℤ}
 use Rattle.page_write.specs.Raws.{pad}
-use Rattle.page_rows.specs.Table.{signalCount}
+use Rattle.page_table.specs.Table.{signalCount}
 use Rattle.message_types.specs.declared.Message.{Message}
 use Rattle.message_types.specs.declared.Message.the-variants.{Status, Parameters, Controller, Session, Change, Control, Finished, Stop, Id, SafetyControl, SafetyState, Probes, Sequence, Outputs, Battery, Voltages, ChargeLimits, DischargeLimits, Energy, Cui, Secc, Spcc, Ccs, Mcs, Ocpp}
 use Rattle.message_fields.specs.Fields.{hasKilohms}

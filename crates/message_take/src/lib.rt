@@ -1,7 +1,7 @@
 // The raw numbers of a message of any kind, and whether each of its values has one. For the writer.
 ghost use mathlib.Core.Path.{_≡_};
 ghost use Rattle.page_write.specs.Raws.{pad};
-ghost use Rattle.page_rows.specs.Table.{signalCount};
+ghost use Rattle.page_table.specs.Table.{signalCount};
 ghost use Rattle.message_take.specs.Take.{rawsOf, hasRaws};
 use message_types::Message;
 

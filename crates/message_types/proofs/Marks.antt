@@ -1,6 +1,6 @@
 -- Each label type against its signal of the table (`Label` of message_laws). Assumes nothing.
 use mathlib.Core.Path.{refl}
-use Rattle.page_rows.specs.Table.{rows, ofKind}
+use Rattle.page_table.specs.Table.{rows, ofKind}
 use Rattle.message_laws.proofs.Labelled.{signalAt, Label, Mark, marked, same-label}
 use Rattle.message_types.specs.declared.SystemEnable.{SystemEnable}
 use Rattle.message_types.specs.declared.SystemEnable.the-variants as enable

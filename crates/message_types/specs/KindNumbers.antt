@@ -2,7 +2,7 @@
 use Prim.Native.Nat.{ℕ}
 use Rattle.message_types.specs.declared.Message.{Message}
 use Rattle.message_types.specs.declared.Message.the-variants.{Status, Parameters, Controller, Session, Change, Control, Finished, Stop, Id, SafetyControl, SafetyState, Probes, Sequence, Outputs, Battery, Voltages, ChargeLimits, DischargeLimits, Energy, Cui, Secc, Spcc, Ccs, Mcs, Ocpp}
-pub use Rattle.page_rows.specs.Messages.{kindCount, messageCount}
+pub use Rattle.page_table.specs.Messages.{kindCount, messageCount}
 
 abbrev pub statusKind : ℕ
 statusKind = 0

@@ -1,7 +1,7 @@
 -- The messages of document 000 about the vehicle and OCPP_Control, there and back (`Ways` of message_laws): each field at its signal. Assumes nothing.
 use mathlib.Core.Path.{refl}
 use mathlib.Core.List.{[], _∷_}
-use Rattle.page_rows.specs.Table.{rows, ofKind}
+use Rattle.page_table.specs.Table.{rows, ofKind}
 use Rattle.page_write.specs.Raws.{wholesOf}
 use Rattle.message_fields.proofs.FieldLaws.{bytes, words, shorts}
 use Rattle.message_laws.proofs.Signals.{fits-at, field-back}

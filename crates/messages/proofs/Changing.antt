@@ -7,7 +7,7 @@ use Prim.Native.Nat.{ℕ, _<_}
 use lib.IntN.{ℤ}
 use lib.ListN.{length, getD}
 use Rattle.payload.specs.Payload.{Bytes}
-use Rattle.page_rows.specs.Table.{noRow, rowsOf}
+use Rattle.page_table.specs.Table.{noRow, rowsOf}
 use Rattle.page_read.specs.declared.Judged.{Judged}
 use Rattle.page_read.specs.declared.Judged.the-variants.{Frame}
 use Rattle.page_change.specs.Change.{changeOf, bytesAfter}

@@ -11,7 +11,7 @@ use Rattle.signal.specs.Signal.{getBits, putBits}
 use Rattle.signal.specs.Twos.{toSigned, ofSigned}
 use Rattle.payload.specs.Payload.{leNumber, leBytes, Bytes}
 use Rattle.payload.proofs.Orders.{are-of}
-use Rattle.page_rows.specs.Table.{rows, noRow, ofKind, rowsOf, firstAt, covered, bigOf}
+use Rattle.page_table.specs.Table.{rows, noRow, ofKind, rowsOf, firstAt, covered, bigOf}
 use Rattle.page_read.specs.declared.Judged.the-variants.{Frame}
 use Rattle.page_read.specs.Judge.{unlabelled, strayBelow, judgedNumber, judgeOf}
 use Rattle.page_write.specs.Raws as pages

@@ -10,7 +10,7 @@ use Rattle.signal.specs.Signal.{getBits}
 use Rattle.signal.specs.Twos.{toSigned}
 use Rattle.payload.specs.Payload.{leNumber, leBytes, Bytes}
 use Rattle.payload.proofs.Orders.{are-of}
-use Rattle.page_rows.specs.Table.{rows, ofKind, firstAt, covered, bigOf}
+use Rattle.page_table.specs.Table.{rows, ofKind, firstAt, covered, bigOf}
 use Rattle.page_read.specs.Judge.{unlabelled, strayBelow, judgedNumber, judgeOf}
 use Rattle.page_write.specs.declared.Written.the-variants.{Wrote}
 use Rattle.page_write.specs.Raws as pages

@@ -10,9 +10,9 @@ use lib.Dec.{leb}
 use lib.ListN.{length, take, drop}
 use Rattle.payload.specs.Payload.{Bytes}
 use Rattle.refusals.specs.declared.Refusal.{Refusal}
-use Rattle.page_rows.specs.declared.Interface.the-variants.{Newer}
-use Rattle.page_rows.specs.Interfaces.{isOn}
-use Rattle.page_rows.specs.Table.{lengthOf}
+use Rattle.page_table.specs.declared.Interface.the-variants.{Newer}
+use Rattle.page_table.specs.Interfaces.{isOn}
+use Rattle.page_table.specs.Table.{lengthOf}
 use Rattle.page_read.specs.declared.Judged.{Judged}
 use Rattle.page_read.specs.declared.Judged.the-variants as judged
 use Rattle.page_read.specs.Judge.{judgeOn, judgeOf}

@@ -9,7 +9,7 @@ use Rattle.refusals.specs.declared.Refusal.the-variants.{UnknownIdentifier, Too
 use Rattle.page_read.specs.declared.Judged.the-variants as judged
 use Rattle.page_write.specs.declared.Written.{Written}
 use Rattle.page_write.specs.declared.Written.the-variants as written
-use Rattle.page_rows.specs.Table.{rows, ofKind, firstAt, covered, identifierOf, lengthOf, bigOf}
+use Rattle.page_table.specs.Table.{rows, ofKind, firstAt, covered, identifierOf, lengthOf, bigOf}
 use Rattle.page_read.specs.Judge.{unlabelled, offender, strayBelow, judgedNumber, judgeOf}
 use Rattle.page_write.specs.Raws as pages
 use Rattle.page_change.specs.Change.{changeOf, bytesAfter}

@@ -3,7 +3,7 @@ use Prim.Native.Nat.{ℕ}
 use mathlib.Core.Bool.{Bool, _&&_}
 use mathlib.Core.List.{List}
 use Rattle.payload.specs.Payload.{bytesOf}
-use Rattle.page_rows.specs.Table.{rowsOf, extendedOf, lengthOf, bigOf}
+use Rattle.page_table.specs.Table.{rowsOf, extendedOf, lengthOf, bigOf}
 use Rattle.page_write.specs.declared.Written.{Written}
 use Rattle.page_write.specs.Raws.{packedOn, writtenBy}
 use Rattle.message_laws.specs.Fits.{allFit}

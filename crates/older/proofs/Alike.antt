@@ -1,6 +1,6 @@
 -- The messages that document 001 lays out as 000 does, there and back at 001's kinds: by the ways of 000's, since their signals are alike. Assumes nothing.
 use mathlib.Core.Path.{refl}
-use Rattle.page_rows.specs.Table.{rows, ofKind}
+use Rattle.page_table.specs.Table.{rows, ofKind}
 use Rattle.message_laws.proofs.Ways.{Ways, always}
 use Rattle.message_laws.proofs.Alike.{alike}
 use Rattle.message_types.specs.KindNumbers as newer

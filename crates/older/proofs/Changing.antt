@@ -7,8 +7,8 @@ use Prim.Native.Nat.{ℕ, _<_}
 use lib.IntN.{ℤ}
 use lib.ListN.{length, getD}
 use Rattle.payload.specs.Payload.{Bytes}
-use Rattle.page_rows.specs.Table.{noRow, rowsOf}
-use Rattle.page_rows.specs.declared.Interface.the-variants.{Older}
+use Rattle.page_table.specs.Table.{noRow, rowsOf}
+use Rattle.page_table.specs.declared.Interface.the-variants.{Older}
 use Rattle.page_read.specs.declared.Judged.the-variants.{Frame}
 use Rattle.page_change.specs.Change.{changeOn, bytesAfter}
 use Rattle.message_laws.proofs.Typed as laws

@@ -11,9 +11,9 @@ use lib.IntN.{pos}
 use lib.ListN.{length, getD}
 use borrow.Author.Tests.{leb-false, lt-leb}
 use Rattle.refusals.specs.declared.Refusal.the-variants.{NoRawNumber, ShortBuffer}
-use Rattle.page_rows.specs.Table.{noRow, rowsOf, lengthOf}
-use Rattle.page_rows.proofs.Rules.{both-true, not-both}
-use Rattle.page_rows.specs.declared.Interface.the-variants.{Older}
+use Rattle.page_table.specs.Table.{noRow, rowsOf, lengthOf}
+use Rattle.page_table.proofs.Rules.{both-true, not-both}
+use Rattle.page_table.specs.declared.Interface.the-variants.{Older}
 use Rattle.page_read.specs.declared.Judged.{Judged}
 use Rattle.page_read.specs.declared.Judged.the-variants as judged
 use Rattle.page_read.specs.Judge.{judgeOn}

@@ -10,8 +10,8 @@ use lib.Dec.{leb}
 use lib.ListN.{length, take, drop}
 use Rattle.payload.specs.Payload.{Bytes}
 use Rattle.refusals.specs.declared.Refusal.{Refusal}
-use Rattle.page_rows.specs.declared.Interface.the-variants.{Older}
-use Rattle.page_rows.specs.Table.{lengthOf}
+use Rattle.page_table.specs.declared.Interface.the-variants.{Older}
+use Rattle.page_table.specs.Table.{lengthOf}
 use Rattle.page_read.specs.declared.Judged.{Judged}
 use Rattle.page_read.specs.declared.Judged.the-variants as judged
 use Rattle.page_read.specs.Judge.{judgeOn}

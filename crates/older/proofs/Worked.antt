@@ -12,10 +12,10 @@ use Rattle.signal.specs.Signal.{getBits, putBits}
 use Rattle.signal.specs.Twos.{toSigned, ofSigned}
 use Rattle.payload.specs.Payload.{leNumber, leBytes, beNumber, storedIn, Bytes}
 use Rattle.payload.proofs.Orders.{are-of}
-use Rattle.page_rows.specs.declared.Interface.the-variants.{Newer, Older}
-use Rattle.page_rows.specs.Interfaces.{isOn}
-use Rattle.page_rows.specs.Messages.{messageCount}
-use Rattle.page_rows.specs.Table.{rows, ofKind, firstAt, rowsOf, noRow, covered, identifierOf, extendedOf, lengthOf, bigOf}
+use Rattle.page_table.specs.declared.Interface.the-variants.{Newer, Older}
+use Rattle.page_table.specs.Interfaces.{isOn}
+use Rattle.page_table.specs.Messages.{messageCount}
+use Rattle.page_table.specs.Table.{rows, ofKind, firstAt, rowsOf, noRow, covered, identifierOf, extendedOf, lengthOf, bigOf}
 use Rattle.page_read.specs.declared.Judged.the-variants.{Frame, Refused}
 use Rattle.page_read.specs.Judge.{unlabelled, offender, strayBelow, judgedNumber, judgeOn}
 use Rattle.page_read.specs.Refusing.{Uncovered}

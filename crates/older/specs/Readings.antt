@@ -6,11 +6,11 @@ use mathlib.Core.List.{List, [], _∷_}
 use lib.IntN.{ℤ, pos, negsuc}
 use Rattle.refusals.specs.declared.Refusal.{Refusal}
 use Rattle.refusals.specs.declared.Refusal.the-variants.{UnknownIdentifier, TooShort, TooLong, NoLabel, UncoveredBit, NoRawNumber}
-use Rattle.page_rows.specs.declared.Interface.the-variants.{Older}
+use Rattle.page_table.specs.declared.Interface.the-variants.{Older}
 use Rattle.page_read.specs.declared.Judged.the-variants as judged
 use Rattle.page_write.specs.declared.Written.{Written}
 use Rattle.page_write.specs.declared.Written.the-variants as written
-use Rattle.page_rows.specs.Table.{rows, ofKind, firstAt, covered, identifierOf, lengthOf, bigOf}
+use Rattle.page_table.specs.Table.{rows, ofKind, firstAt, covered, identifierOf, lengthOf, bigOf}
 use Rattle.page_read.specs.Judge.{unlabelled, offender, strayBelow, judgedNumber, judgeOn, judgeOf}
 use Rattle.page_write.specs.Raws as pages
 use Rattle.page_change.specs.Change.{changeOn, bytesAfter}

@@ -1,13 +1,13 @@
 // The codec of the older controllers (02, Req 11): reading a frame of their interface into its one message, writing a message, and changing a signal in place.
 // For the desk and for programs; the laws of both ways are in proofs/Trips.antt.
 ghost use mathlib.Core.Path.{_≡_};
-ghost use Rattle.page_rows.specs.declared.Interface.the-variants.{Older};
+ghost use Rattle.page_table.specs.declared.Interface.the-variants.{Older};
 ghost use Rattle.page_change.specs.Change.{changeOn, bytesAfter};
 ghost use Rattle.older.specs.Read.{readOf};
 ghost use Rattle.older.specs.Write.{writeOf, bufferAfter};
 use older_types::Message;
 use page_read::Judged;
-use page_rows::Interface;
+use page_table::Interface;
 use page_write::Written;
 use refusals::Refusal;
 

@@ -2,7 +2,7 @@
 -- label at its signal. Assumes nothing.
 use mathlib.Core.Path.{refl}
 use mathlib.Core.List.{[], _∷_}
-use Rattle.page_rows.specs.Table.{rows, ofKind}
+use Rattle.page_table.specs.Table.{rows, ofKind}
 use Rattle.page_write.specs.Raws.{wholeAt, wholesOf}
 use Rattle.message_fields.proofs.FieldLaws.{bytes, degrees, shorts, words, kilohms-there, kilohms-back, kilohms-even}
 use Rattle.message_fields.proofs.Wides.{wides}

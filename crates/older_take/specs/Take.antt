@@ -3,7 +3,7 @@ use mathlib.Core.Bool.{Bool, true}
 use mathlib.Core.List.{List}
 use lib.IntN.{ℤ}
 use Rattle.page_write.specs.Raws.{pad}
-use Rattle.page_rows.specs.Table.{signalCount}
+use Rattle.page_table.specs.Table.{signalCount}
 use Rattle.older_types.specs.declared.Message.{Message}
 use Rattle.older_types.specs.declared.Message.the-variants.{SafetyControl, SafetyState, Probes, Status, Limits, Sequence, Outputs, Session, Insulation, Precharge, Change, Charging, Stop, Finished, Controller, Cui, Secc, Id, Spcc, Ccs, Mcs}
 use Rattle.message_fields.specs.Fields.{hasKilohms}

@@ -2,7 +2,7 @@
 use Prim.Native.Nat.{ℕ}
 use Rattle.older_types.specs.declared.Message.{Message}
 use Rattle.older_types.specs.declared.Message.the-variants.{SafetyControl, SafetyState, Probes, Status, Limits, Sequence, Outputs, Session, Insulation, Precharge, Change, Charging, Stop, Finished, Controller, Cui, Secc, Id, Spcc, Ccs, Mcs}
-pub use Rattle.page_rows.specs.Messages.{messageCount}
+pub use Rattle.page_table.specs.Messages.{messageCount}
 pub use Rattle.message_types.specs.KindNumbers.{safetyControlKind, safetyStateKind, probesKind}
 
 abbrev pub statusKind : ℕ

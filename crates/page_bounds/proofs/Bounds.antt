@@ -15,17 +15,17 @@ use Rattle.refusals.specs.Refusals.{startOf}
 use Rattle.signal.specs.Raw.{fitsIn, bitsIn}
 use Rattle.payload.specs.Payload.{numberOf}
 use borrow.Author.Tests.{ltb-true}
-use Rattle.page_rows.specs.declared.Interface.{Interface}
-use Rattle.page_rows.specs.declared.Interface.the-variants.{Newer, Older}
-use Rattle.page_rows.specs.declared.Row.{Row}
-use Rattle.page_rows.specs.declared.Found.{Found}
-use Rattle.page_rows.specs.declared.Found.the-variants.{At, Nothing}
-use Rattle.page_rows.specs.Messages.{messageCount, restKind}
-use Rattle.page_rows.specs.Table.{rows, noRow, rowsOf, isSignal, firstAt, takes, lengthOf}
-use Rattle.page_rows.specs.Interfaces.{safetyKind, withId}
-use Rattle.page_rows.proofs.Rules.{both-true, Ordered, ordered, row-fine, short-length}
-use Rattle.page_rows.proofs.Firsts.{found-in}
-use Rattle.page_rows.proofs.Interfaces.{found-has}
+use Rattle.page_table.specs.declared.Interface.{Interface}
+use Rattle.page_table.specs.declared.Interface.the-variants.{Newer, Older}
+use Rattle.page_table.specs.declared.Row.{Row}
+use Rattle.page_table.specs.declared.Found.{Found}
+use Rattle.page_table.specs.declared.Found.the-variants.{At, Nothing}
+use Rattle.page_table.specs.Messages.{messageCount, restKind}
+use Rattle.page_table.specs.Table.{rows, noRow, rowsOf, isSignal, firstAt, takes, lengthOf}
+use Rattle.page_table.specs.Interfaces.{safetyKind, withId}
+use Rattle.page_table.proofs.Rules.{both-true, Ordered, ordered, row-fine, short-length}
+use Rattle.page_table.proofs.Firsts.{found-in}
+use Rattle.page_table.proofs.Interfaces.{found-has}
 use Rattle.page_read.specs.declared.Judged.{Judged}
 use Rattle.page_read.specs.declared.Judged.the-variants.{Frame, Refused}
 use Rattle.page_read.specs.Judge.{unlabelled, offends, offender, strayBelow, judgedNumber, judgedAt, judgeOn, judgeOf}

@@ -20,26 +20,26 @@ use Rattle.signal.proofs.Laws.{get-put-apart, bit-kept, put-lt}
 use Rattle.signal.proofs.RawLaws.{bits-lt}
 use Rattle.payload.proofs.Orders.{number-bound, length-of, number-of}
 use Rattle.payload.proofs.Written.{written-bit, written-kept}
-use Rattle.page_rows.specs.declared.Interface.{Interface}
-use Rattle.page_rows.specs.declared.Interface.the-variants.{Newer}
-use Rattle.page_rows.specs.declared.Row.{Row}
-use Rattle.page_rows.specs.declared.Found.{Found}
-use Rattle.page_rows.specs.declared.Found.the-variants.{At, Nothing}
+use Rattle.page_table.specs.declared.Interface.{Interface}
+use Rattle.page_table.specs.declared.Interface.the-variants.{Newer}
+use Rattle.page_table.specs.declared.Row.{Row}
+use Rattle.page_table.specs.declared.Found.{Found}
+use Rattle.page_table.specs.declared.Found.the-variants.{At, Nothing}
 use Rattle.page_read.specs.declared.Judged.{Judged}
 use Rattle.page_read.specs.declared.Judged.the-variants.{Frame, Refused}
 use Rattle.refusals.specs.declared.Refusal.{Refusal}
-use Rattle.page_rows.specs.Table.{rows, noRow, rowAt, rowsOf, lengthOf, bigOf, isSignal, firstAt, lowest, bitsAt, Fine, HasBit, takes}
-use Rattle.page_rows.specs.Listed.{Among, SignalAt}
+use Rattle.page_table.specs.Table.{rows, noRow, rowAt, rowsOf, lengthOf, bigOf, isSignal, firstAt, lowest, bitsAt, Fine, HasBit, takes}
+use Rattle.page_table.specs.Listed.{Among, SignalAt}
 use Rattle.page_read.specs.Judge.{unlabelled, strayBelow, judgeOn}
 use Rattle.page_write.specs.Taken.{Taken}
 use Rattle.page_write.specs.Raws.{wholeAt, wholesOf, putRaw}
 use Rattle.page_change.specs.Change.{changedBy, changedAt, changedIn, changeOn, changeOf, bytesAfter}
 use Rattle.page_change.specs.Changed.{Changed}
-use Rattle.page_rows.specs.Rules.{above}
-use Rattle.page_rows.proofs.Rules.{Ordered, ordered, row-fine, RowsApart, among-kept, row-message, among-apart, among-from, among-start}
-use Rattle.page_rows.proofs.Firsts.{found-in}
-use Rattle.page_rows.proofs.Listed.{at-among, found-signal, signal-found}
-use Rattle.page_rows.proofs.PageBits.{not-covered}
+use Rattle.page_table.specs.Rules.{above}
+use Rattle.page_table.proofs.Rules.{Ordered, ordered, row-fine, RowsApart, among-kept, row-message, among-apart, among-from, among-start}
+use Rattle.page_table.proofs.Firsts.{found-in}
+use Rattle.page_table.proofs.Listed.{at-among, found-signal, signal-found}
+use Rattle.page_table.proofs.PageBits.{not-covered}
 use Rattle.page_read.proofs.Gaps.{stray-none, stray-zero}
 use Rattle.page_read.proofs.Interfaces.{newer}
 use Rattle.page_read.proofs.Answers.{labelled-each, each-labelled}

@@ -11,13 +11,13 @@ use Rattle.signal.specs.Raw.{fitsIn, bitsIn}
 use Rattle.refusals.specs.declared.Refusal.{Refusal}
 use Rattle.refusals.specs.declared.Refusal.the-variants.{NoLabel, NoRawNumber, NoSignal}
 use Rattle.refusals.specs.Refusals.{numberOf}
-use Rattle.page_rows.specs.declared.Interface.{Interface}
-use Rattle.page_rows.specs.declared.Row.{Row}
-use Rattle.page_rows.specs.declared.Found.{Found}
-use Rattle.page_rows.specs.declared.Found.the-variants.{At, Nothing}
-use Rattle.page_rows.specs.Table.{rows, rowAt, isSignal, firstAt, takes}
-use Rattle.page_rows.specs.Listed.{SignalAt}
-use Rattle.page_rows.proofs.Listed.{found-signal, signal-found, no-signal-at}
+use Rattle.page_table.specs.declared.Interface.{Interface}
+use Rattle.page_table.specs.declared.Row.{Row}
+use Rattle.page_table.specs.declared.Found.{Found}
+use Rattle.page_table.specs.declared.Found.the-variants.{At, Nothing}
+use Rattle.page_table.specs.Table.{rows, rowAt, isSignal, firstAt, takes}
+use Rattle.page_table.specs.Listed.{SignalAt}
+use Rattle.page_table.proofs.Listed.{found-signal, signal-found, no-signal-at}
 use Rattle.page_read.specs.declared.Judged.{Judged}
 use Rattle.page_read.specs.declared.Judged.the-variants.{Frame, Refused}
 use Rattle.page_read.specs.Judge.{judgeOn}

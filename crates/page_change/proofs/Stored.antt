@@ -13,18 +13,18 @@ use Rattle.payload.specs.Payload.{numberOf}
 use Rattle.payload.specs.Order as order
 use Rattle.signal.specs.Raw.{bitsIn, bitsOf}
 use Rattle.signal.proofs.RawLaws.{bits-lt}
-use Rattle.page_rows.specs.declared.Interface.{Interface}
-use Rattle.page_rows.specs.declared.Row.{Row}
-use Rattle.page_rows.specs.declared.Found.the-variants.{At}
+use Rattle.page_table.specs.declared.Interface.{Interface}
+use Rattle.page_table.specs.declared.Row.{Row}
+use Rattle.page_table.specs.declared.Found.the-variants.{At}
 use Rattle.page_read.specs.declared.Judged.the-variants.{Frame}
-use Rattle.page_rows.specs.Table.{rows, noRow, rowAt, bigOf, firstAt, isSignal}
-use Rattle.page_rows.specs.Listed.{SignalAt}
+use Rattle.page_table.specs.Table.{rows, noRow, rowAt, bigOf, firstAt, isSignal}
+use Rattle.page_table.specs.Listed.{SignalAt}
 use Rattle.page_read.specs.Judge.{judgeOn}
 use Rattle.page_write.specs.Raws.{putRaw}
 use Rattle.page_change.specs.Change.{changeOn}
 use Rattle.page_change.specs.Changed.{Changed}
-use Rattle.page_rows.proofs.Rules.{among-kept, row-message}
-use Rattle.page_rows.proofs.Listed.{found-signal}
+use Rattle.page_table.proofs.Rules.{among-kept, row-message}
+use Rattle.page_table.proofs.Listed.{found-signal}
 use Rattle.page_write.proofs.Trips.{accepts}
 use Rattle.page_write.proofs.AtRow.{bits-row}
 use Rattle.page_change.proofs.Changes.{changed, one-row, signal-fine}

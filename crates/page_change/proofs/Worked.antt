@@ -14,10 +14,10 @@ use Rattle.signal.proofs.Laws.{put-put}
 use Rattle.payload.specs.Payload.{leNumber, leBytes, numberOf, bytesOf, bitAt, Bytes}
 use Rattle.payload.proofs.Orders.{are-of}
 use Rattle.payload.proofs.WholeBytes.{whole-stored}
-use Rattle.page_rows.specs.declared.Interface.the-variants.{Newer}
-use Rattle.page_rows.specs.declared.Row.{Row}
-use Rattle.page_rows.specs.Table.{rows, ofKind, firstAt, rowAt, rowsOf, bigOf, covered, takes}
-use Rattle.page_rows.specs.Listed.{SignalAt, Among}
+use Rattle.page_table.specs.declared.Interface.the-variants.{Newer}
+use Rattle.page_table.specs.declared.Row.{Row}
+use Rattle.page_table.specs.Table.{rows, ofKind, firstAt, rowAt, rowsOf, bigOf, covered, takes}
+use Rattle.page_table.specs.Listed.{SignalAt, Among}
 use Rattle.page_read.specs.declared.Judged.the-variants.{Frame, Refused}
 use Rattle.page_read.specs.Judge.{unlabelled, offender, strayBelow, judgedNumber, judgeOn}
 use Rattle.page_read.specs.Refusing.{Gives}

@@ -6,14 +6,14 @@ use lib.ListN.{length, getD}
 use lib.IntN.{ℤ}
 use Rattle.payload.specs.Payload.{bytesOf}
 use Rattle.signal.specs.Raw.{fitsIn, bitsIn}
-use Rattle.page_rows.specs.declared.Interface.{Interface}
-use Rattle.page_rows.specs.declared.Row.{Row}
-use Rattle.page_rows.specs.declared.Found.{Found}
-use Rattle.page_rows.specs.declared.Found.the-variants.{At, Nothing}
+use Rattle.page_table.specs.declared.Interface.{Interface}
+use Rattle.page_table.specs.declared.Row.{Row}
+use Rattle.page_table.specs.declared.Found.{Found}
+use Rattle.page_table.specs.declared.Found.the-variants.{At, Nothing}
 use Rattle.page_read.specs.declared.Judged.{Judged}
 use Rattle.page_read.specs.declared.Judged.the-variants.{Frame, Refused}
 use Rattle.refusals.specs.declared.Refusal.the-variants.{NoLabel, NoRawNumber, NoSignal}
-use Rattle.page_rows.specs.Table.{rows, noRow, bigOf, firstAt, isSignal, takes}
+use Rattle.page_table.specs.Table.{rows, noRow, bigOf, firstAt, isSignal, takes}
 use Rattle.page_read.specs.Judge.{judgeOn, judgeOf}
 use Rattle.page_write.specs.Raws.{putRaw}
 

@@ -6,10 +6,10 @@ use mathlib.Core.List.{List}
 use lib.IntN.{ℤ}
 use Rattle.payload.specs.Payload.{numberOf}
 use Rattle.signal.specs.Raw.{fitsIn, bitsIn}
-use Rattle.page_rows.specs.declared.Interface.{Interface}
-use Rattle.page_rows.specs.declared.Row.{Row}
-use Rattle.page_rows.specs.Table.{bigOf, takes}
-use Rattle.page_rows.specs.Listed.{SignalAt}
+use Rattle.page_table.specs.declared.Interface.{Interface}
+use Rattle.page_table.specs.declared.Row.{Row}
+use Rattle.page_table.specs.Table.{bigOf, takes}
+use Rattle.page_table.specs.Listed.{SignalAt}
 use Rattle.page_write.specs.Taken.{Taken}
 use Rattle.page_write.specs.Raws.{putRaw}
 

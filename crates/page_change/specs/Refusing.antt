@@ -5,10 +5,10 @@ use mathlib.Core.Bool.{Bool, true, false}
 use mathlib.Core.List.{List}
 use lib.IntN.{ℤ}
 use Rattle.signal.specs.Raw.{fitsIn, bitsIn}
-use Rattle.page_rows.specs.declared.Interface.{Interface}
-use Rattle.page_rows.specs.declared.Row.{Row}
-use Rattle.page_rows.specs.Table.{takes}
-use Rattle.page_rows.specs.Listed.{SignalAt}
+use Rattle.page_table.specs.declared.Interface.{Interface}
+use Rattle.page_table.specs.declared.Row.{Row}
+use Rattle.page_table.specs.Table.{takes}
+use Rattle.page_table.specs.Listed.{SignalAt}
 use Rattle.page_read.specs.declared.Judged.the-variants.{Frame}
 use Rattle.page_read.specs.Judge.{judgeOn}
 

@@ -1,17 +1,17 @@
 // Changing one signal of a frame in place: the reader's refusals, then 13, 7 and 5, and no byte is touched but the signal's. For whoever corrects frames on
 // their way. Its functions take any input.
 ghost use mathlib.Core.Path.{_≡_};
-ghost use Rattle.page_rows.specs.Table.{Fine};
+ghost use Rattle.page_table.specs.Table.{Fine};
 ghost use Rattle.page_change.specs.Change.{changedRow, changeOn, changeOf, bytesAfter};
 use page_read::Judged;
 use page_read::judge_on;
 use page_read::start_bit;
-use page_rows::Found;
-use page_rows::Interface;
-use page_rows::Row;
 use page_rows::label_holds;
 use page_rows::row_to_change;
-use page_rows::signal_at;
+use page_search::signal_at;
+use page_table::Found;
+use page_table::Interface;
+use page_table::Row;
 use refusals::Refusal;
 use whole::store_changed;
 

@@ -10,17 +10,17 @@ use lib.Dec.{leb, ltb}
 use borrow.Author.Tests.{not-true, ltb-false, leb-false, le-leb, lt-ltb}
 use Rattle.signal.proofs.Complement.{half-of}
 use Rattle.refusals.specs.declared.Refusal.the-variants.{UnknownIdentifier, OtherInterface}
-use Rattle.page_rows.specs.declared.Interface.{Interface}
-use Rattle.page_rows.specs.declared.Interface.the-variants.{Newer, Older}
-use Rattle.page_rows.specs.declared.Found.{Found}
-use Rattle.page_rows.specs.declared.Found.the-variants.{At, Nothing}
-use Rattle.page_rows.specs.declared.FoundMessage.the-variants as message
-use Rattle.page_rows.specs.Messages.{kindCount, restKind}
-use Rattle.page_rows.specs.Table.{rows, rowAt, firstAt, hasId, withMessage}
-use Rattle.page_rows.specs.Interfaces.{safetyKind, isOn, foundOn, Has}
-use Rattle.page_rows.proofs.Rules.{not-both, either-false}
-use Rattle.page_rows.proofs.Interfaces.{has-found, own-found}
-use Rattle.page_rows.proofs.Listed.{found-listed}
+use Rattle.page_table.specs.declared.Interface.{Interface}
+use Rattle.page_table.specs.declared.Interface.the-variants.{Newer, Older}
+use Rattle.page_table.specs.declared.Found.{Found}
+use Rattle.page_table.specs.declared.Found.the-variants.{At, Nothing}
+use Rattle.page_table.specs.declared.FoundMessage.the-variants as message
+use Rattle.page_table.specs.Messages.{kindCount, restKind}
+use Rattle.page_table.specs.Table.{rows, rowAt, firstAt, hasId, withMessage}
+use Rattle.page_table.specs.Interfaces.{safetyKind, isOn, foundOn, Has}
+use Rattle.page_table.proofs.Rules.{not-both, either-false}
+use Rattle.page_table.proofs.Interfaces.{has-found, own-found}
+use Rattle.page_table.proofs.Listed.{found-listed}
 use Rattle.page_read.specs.declared.Judged.the-variants.{Frame, Refused}
 use Rattle.page_read.specs.Judge.{judgedRow, judgedAt, judgedFor, judgeOn, judgeFrom}
 use Rattle.page_interfaces.specs.Foreign.{foreignAt, isForeign, other, judgeFor}

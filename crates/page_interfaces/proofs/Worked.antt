@@ -5,9 +5,9 @@ use mathlib.Core.Bool.{true, false}
 use mathlib.Core.List.{[], _∷_}
 use Prim.Native.Nat.{ℕ}
 use Rattle.refusals.specs.declared.Refusal.the-variants.{UnknownIdentifier}
-use Rattle.page_rows.specs.declared.Interface.the-variants.{Newer, Older}
-use Rattle.page_rows.specs.Table.{rows, firstAt}
-use Rattle.page_rows.specs.Interfaces.{Has}
+use Rattle.page_table.specs.declared.Interface.the-variants.{Newer, Older}
+use Rattle.page_table.specs.Table.{rows, firstAt}
+use Rattle.page_table.specs.Interfaces.{Has}
 use Rattle.page_read.specs.declared.Judged.the-variants.{Refused}
 use Rattle.page_read.specs.Judge.{judgeOn}
 use Rattle.page_interfaces.specs.Foreign.{isForeign}

@@ -4,10 +4,10 @@ ghost use mathlib.Core.Path.{_≡_};
 ghost use Rattle.page_interfaces.specs.Foreign.{isForeign, judgeFor};
 use page_read::Judged;
 use page_read::judge_from;
-use page_rows::FoundMessage;
-use page_rows::Interface;
 use page_rows::is_on;
-use page_rows::with_id;
+use page_search::with_id;
+use page_table::FoundMessage;
+use page_table::Interface;
 use refusals::Refusal;
 
 pub fn is_foreign(iface: Interface, id: u32, extended: bool) -> bool

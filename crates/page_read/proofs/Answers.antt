@@ -11,21 +11,21 @@ use lib.Dec.{eqb, ltb}
 use lib.ListN.{length}
 use borrow.Author.Tests.{eq-eqb, ne-eqb, eqb-true, eqb-false, lt-ltb, le-ltb, ltb-true, ltb-false, not-false}
 use Rattle.payload.specs.Payload.{numberOf}
-use Rattle.page_rows.specs.declared.Interface.{Interface}
-use Rattle.page_rows.specs.declared.Row.{Row}
-use Rattle.page_rows.specs.declared.Found.{Found}
-use Rattle.page_rows.specs.declared.Found.the-variants.{At, Nothing}
+use Rattle.page_table.specs.declared.Interface.{Interface}
+use Rattle.page_table.specs.declared.Row.{Row}
+use Rattle.page_table.specs.declared.Found.{Found}
+use Rattle.page_table.specs.declared.Found.the-variants.{At, Nothing}
 use Rattle.page_read.specs.declared.Judged.{Judged}
 use Rattle.page_read.specs.declared.Judged.the-variants.{Frame, Refused}
 use Rattle.refusals.specs.declared.Refusal.the-variants.{UnknownIdentifier, TooShort, TooLong, NoLabel, UncoveredBit}
-use Rattle.page_rows.specs.Messages.{messageOf}
-use Rattle.page_rows.specs.Table.{rowAt, rowsOf, bitsAt, takes}
-use Rattle.page_rows.specs.Interfaces.{withId}
-use Rattle.page_rows.specs.Listed.{Among}
+use Rattle.page_table.specs.Messages.{messageOf}
+use Rattle.page_table.specs.Table.{rowAt, rowsOf, bitsAt, takes}
+use Rattle.page_table.specs.Interfaces.{withId}
+use Rattle.page_table.specs.Listed.{Among}
 use Rattle.page_read.specs.Judge.{unlabelled, offender, strayBelow, judgedNumber, judgedRow, judgedAt, judgeOn}
 use Rattle.page_read.specs.Refusing.{OfKind, numberIn}
-use Rattle.page_rows.proofs.Rules.{either-false}
-use Rattle.page_rows.proofs.Interfaces.{found-has, has-found}
+use Rattle.page_table.proofs.Rules.{either-false}
+use Rattle.page_table.proofs.Interfaces.{found-has, has-found}
 
 -- ---- the length
 

@@ -4,11 +4,11 @@ use mathlib.Core.Path.{_≡_, refl, ap, _∙_, subst}
 use mathlib.Core.Bool.{Bool, true, false, not, _||_}
 use Prim.Native.Nat.{ℕ, _*_, _^_, _<_}
 use borrow.Author.Tests.{eqb-true}
-use Rattle.page_rows.specs.Messages.{messageCount}
-use Rattle.page_rows.specs.Table.{rows, rowsOf, ofKind, lengthOf, covered}
+use Rattle.page_table.specs.Messages.{messageCount}
+use Rattle.page_table.specs.Table.{rows, rowsOf, ofKind, lengthOf, covered}
 use Rattle.page_read.specs.Steps.{cleared, hasGaps}
-use Rattle.page_rows.proofs.Rules.{not-both, ordered}
-use Rattle.page_rows.proofs.Below.{allBelow, below-at}
+use Rattle.page_table.proofs.Rules.{not-both, ordered}
+use Rattle.page_table.proofs.Below.{allBelow, below-at}
 use Rattle.page_read.proofs.Gaps.{stray-zero, cleared-test}
 
 -- the rule, computed over the table

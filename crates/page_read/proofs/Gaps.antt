@@ -13,11 +13,11 @@ use borrow.Author.Tests.{eq-eqb, ne-eqb, eqb-true, not-true}
 use Rattle.signal.specs.Signal.{getBits, putBits, covers}
 use Rattle.signal.proofs.Laws.{get-lt, get-zero, bit-put, put-lt, same-bits}
 use Rattle.signal.proofs.Complement.{half-of}
-use Rattle.page_rows.specs.declared.Row.{Row}
-use Rattle.page_rows.specs.Table.{lowest, covered}
+use Rattle.page_table.specs.declared.Row.{Row}
+use Rattle.page_table.specs.Table.{lowest, covered}
 use Rattle.page_read.specs.Judge.{strayBelow}
 use Rattle.page_read.specs.Steps.{cleared}
-use Rattle.page_rows.proofs.Rules.{both-true, not-both, Ordered}
+use Rattle.page_table.proofs.Rules.{both-true, not-both, Ordered}
 
 -- ---- clearing the signals
 

@@ -8,14 +8,14 @@ use Prim.Native.Nat.{ℕ, _*_, _<_}
 use lib.ListN.{length}
 use Rattle.payload.specs.Payload.{numberOf}
 use Rattle.refusals.specs.declared.Refusal.the-variants.{UnknownIdentifier}
-use Rattle.page_rows.specs.declared.Interface.{Interface}
-use Rattle.page_rows.specs.declared.Interface.the-variants.{Newer}
-use Rattle.page_rows.specs.declared.Found.{Found}
-use Rattle.page_rows.specs.declared.Found.the-variants.{At, Nothing}
-use Rattle.page_rows.specs.Messages.{messageCount}
-use Rattle.page_rows.specs.Table.{rows, rowAt, firstAt, hasId}
-use Rattle.page_rows.specs.Interfaces.{isOn, foundOn, withId}
-use Rattle.page_rows.proofs.Interfaces.{found-own, found-has}
+use Rattle.page_table.specs.declared.Interface.{Interface}
+use Rattle.page_table.specs.declared.Interface.the-variants.{Newer}
+use Rattle.page_table.specs.declared.Found.{Found}
+use Rattle.page_table.specs.declared.Found.the-variants.{At, Nothing}
+use Rattle.page_table.specs.Messages.{messageCount}
+use Rattle.page_table.specs.Table.{rows, rowAt, firstAt, hasId}
+use Rattle.page_table.specs.Interfaces.{isOn, foundOn, withId}
+use Rattle.page_table.proofs.Interfaces.{found-own, found-has}
 use Rattle.page_read.specs.declared.Judged.the-variants.{Frame, Refused}
 use Rattle.page_read.specs.Judge.{judgedRow, judgedAt, judgedFor, judgeOn, judgeOf, judgeFrom}
 use Rattle.page_read.proofs.Answers.{Reached, reached-frame, taken}

@@ -10,18 +10,18 @@ use native.Mathlib.Omega.{arith}
 use lib.Dec.{eqb}
 use lib.ListN.{length}
 use Rattle.payload.specs.Payload.{numberOf}
-use Rattle.page_rows.specs.declared.Interface.{Interface}
-use Rattle.page_rows.specs.declared.Row.{Row}
+use Rattle.page_table.specs.declared.Interface.{Interface}
+use Rattle.page_table.specs.declared.Row.{Row}
 use Rattle.page_read.specs.declared.Offence.{Offence}
 use Rattle.page_read.specs.declared.Offence.the-variants.{Start, Nothing}
 use Rattle.page_read.specs.declared.Judged.the-variants.{Frame, Refused}
 use Rattle.refusals.specs.declared.Refusal.the-variants.{NoLabel, UncoveredBit}
-use Rattle.page_rows.specs.Table.{rowAt, rowsOf, lengthOf, bitsAt, takes}
-use Rattle.page_rows.specs.Listed.{Among}
+use Rattle.page_table.specs.Table.{rowAt, rowsOf, lengthOf, bitsAt, takes}
+use Rattle.page_table.specs.Listed.{Among}
 use Rattle.page_read.specs.Judge.{unlabelled, offends, offender, strayBelow, judgedNumber, judgeOn}
 use Rattle.page_read.specs.Refusing.{numberIn, SomeOffence, FirstOffence}
 use Rattle.page_read.specs.Steps.{offenceOf, cleared, judgedBy}
-use Rattle.page_rows.proofs.Rules.{not-both, Ordered, ordered}
+use Rattle.page_table.proofs.Rules.{not-both, Ordered, ordered}
 use Rattle.page_read.proofs.Gaps.{cleared-test}
 use Rattle.page_read.proofs.Answers.{Reached, reached, fifth, reached-kind, reached-number, of-kind}
 

@@ -13,14 +13,14 @@ use Rattle.refusals.specs.declared.Refusal.{Refusal}
 use Rattle.refusals.specs.declared.Refusal.the-variants.{UnknownIdentifier, TooShort, TooLong, NoLabel, UncoveredBit}
 use Rattle.refusals.specs.Refusals as refusals
 use Rattle.payload.specs.Payload.{numberOf, Bytes}
-use Rattle.page_rows.specs.declared.Interface.{Interface}
-use Rattle.page_rows.specs.declared.Row.{Row}
-use Rattle.page_rows.specs.declared.Found.{Found}
-use Rattle.page_rows.specs.declared.Found.the-variants.{At, Nothing}
-use Rattle.page_rows.specs.Messages.{messageOf}
-use Rattle.page_rows.specs.Table.{rows, rowAt, rowsOf}
-use Rattle.page_rows.specs.Interfaces.{withId, Has}
-use Rattle.page_rows.proofs.Interfaces.{found-has, has-found, on-none}
+use Rattle.page_table.specs.declared.Interface.{Interface}
+use Rattle.page_table.specs.declared.Row.{Row}
+use Rattle.page_table.specs.declared.Found.{Found}
+use Rattle.page_table.specs.declared.Found.the-variants.{At, Nothing}
+use Rattle.page_table.specs.Messages.{messageOf}
+use Rattle.page_table.specs.Table.{rows, rowAt, rowsOf}
+use Rattle.page_table.specs.Interfaces.{withId, Has}
+use Rattle.page_table.proofs.Interfaces.{found-has, has-found, on-none}
 use Rattle.page_read.specs.declared.Judged.{Judged}
 use Rattle.page_read.specs.declared.Judged.the-variants.{Frame, Refused}
 use Rattle.page_read.specs.Judge.{unlabelled, offender, strayBelow, judgedNumber, judgedRow, judgedAt, judgeOn}

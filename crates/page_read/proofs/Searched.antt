@@ -11,19 +11,19 @@ use Rattle.payload.specs.Payload.{numberOf, Bytes}
 use Rattle.payload.proofs.Orders.{number-bound}
 use Rattle.payload.proofs.Stored.{number-in}
 use Rattle.refusals.specs.declared.Refusal.{Refusal}
-use Rattle.page_rows.specs.declared.Interface.{Interface}
-use Rattle.page_rows.specs.declared.Found.{Found}
-use Rattle.page_rows.specs.declared.Found.the-variants.{At, Nothing}
-use Rattle.page_rows.specs.declared.FoundMessage.the-variants as message
-use Rattle.page_rows.specs.declared.Row.{Row}
+use Rattle.page_table.specs.declared.Interface.{Interface}
+use Rattle.page_table.specs.declared.Found.{Found}
+use Rattle.page_table.specs.declared.Found.the-variants.{At, Nothing}
+use Rattle.page_table.specs.declared.FoundMessage.the-variants as message
+use Rattle.page_table.specs.declared.Row.{Row}
 use Rattle.page_read.specs.declared.Judged.the-variants.{Refused}
-use Rattle.page_rows.specs.Messages.{messageCount}
-use Rattle.page_rows.specs.Table.{rows, rowAt, rowsOf, hasId, firstAt, block, lengthOf, withMessage}
+use Rattle.page_table.specs.Messages.{messageCount}
+use Rattle.page_table.specs.Table.{rows, rowAt, rowsOf, hasId, firstAt, block, lengthOf, withMessage}
 use Rattle.page_read.specs.Judge.{judgedNumber, wrongLength, judgedRow, judgedFor, judgeFrom}
 use Rattle.page_read.specs.Steps.{offenceOf, cleared, judgedBy}
-use Rattle.page_rows.proofs.Rules.{short-length}
-use Rattle.page_rows.proofs.Firsts.{first-id}
-use Rattle.page_rows.proofs.Listed.{found-listed}
+use Rattle.page_table.proofs.Rules.{short-length}
+use Rattle.page_table.proofs.Firsts.{first-id}
+use Rattle.page_table.proofs.Listed.{found-listed}
 use Rattle.page_read.proofs.Offenders.{judged-by}
 
 -- what the search for the identifier decides

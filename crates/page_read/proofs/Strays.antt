@@ -12,16 +12,16 @@ use Rattle.payload.specs.Payload.{numberOf, bitAt, Bytes}
 use Rattle.payload.specs.Order.{place}
 use Rattle.signal.proofs.Complement.{half-of}
 use Rattle.payload.proofs.Words.{place-lt, place-place, bit-of, bit-past}
-use Rattle.page_rows.specs.declared.Interface.{Interface}
-use Rattle.page_rows.specs.declared.Row.{Row}
+use Rattle.page_table.specs.declared.Interface.{Interface}
+use Rattle.page_table.specs.declared.Row.{Row}
 use Rattle.page_read.specs.declared.Judged.the-variants.{Frame, Refused}
 use Rattle.refusals.specs.declared.Refusal.the-variants.{UncoveredBit}
-use Rattle.page_rows.specs.Table.{rowAt, rowsOf, lengthOf, bigOf, HasBit, covered}
-use Rattle.page_rows.specs.Listed.{Among}
+use Rattle.page_table.specs.Table.{rowAt, rowsOf, lengthOf, bigOf, HasBit, covered}
+use Rattle.page_table.specs.Listed.{Among}
 use Rattle.page_read.specs.Judge.{unlabelled, strayBelow, judgedNumber, judgeOn}
 use Rattle.page_read.specs.Refusing.{numberIn, Uncovered}
-use Rattle.page_rows.proofs.Heads.{says}
-use Rattle.page_rows.proofs.PageBits.{no-signal, no-place}
+use Rattle.page_table.proofs.Heads.{says}
+use Rattle.page_table.proofs.PageBits.{no-signal, no-place}
 use Rattle.page_read.proofs.Gaps.{stray-told, stray-none}
 use Rattle.page_read.proofs.Answers.{Reached, reached, reached-frame, taken, sixth, reached-kind, reached-number, of-kind, labelled-each, each-labelled}
 

@@ -12,10 +12,10 @@ use Rattle.signal.specs.Signal.{getBits}
 use Rattle.payload.specs.Payload.{leNumber, beNumber, leBytes, numberOf, bitAt, Bytes}
 use Rattle.payload.specs.Order.{walk, place}
 use Rattle.payload.proofs.Orders.{are-of}
-use Rattle.page_rows.specs.declared.Interface.the-variants.{Newer}
-use Rattle.page_rows.specs.Table.{rows, ofKind, firstAt, rowAt, rowsOf, lengthOf, bigOf, bitsAt, covered}
-use Rattle.page_rows.specs.Listed.{Among}
-use Rattle.page_rows.proofs.PageBits.{page-bit, no-signal}
+use Rattle.page_table.specs.declared.Interface.the-variants.{Newer}
+use Rattle.page_table.specs.Table.{rows, ofKind, firstAt, rowAt, rowsOf, lengthOf, bigOf, bitsAt, covered}
+use Rattle.page_table.specs.Listed.{Among}
+use Rattle.page_table.proofs.PageBits.{page-bit, no-signal}
 use Rattle.page_read.specs.declared.Judged.the-variants.{Frame, Refused}
 use Rattle.page_read.specs.Judge.{unlabelled, offender, strayBelow, judgedNumber, judgeOn}
 use Rattle.page_read.specs.Refusing.{FirstOffence, Uncovered}

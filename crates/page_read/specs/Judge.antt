@@ -6,17 +6,17 @@ use lib.Dec.{eqb, ltb}
 use lib.ListN.{length, getD}
 use Rattle.signal.specs.Signal.{getBits}
 use Rattle.payload.specs.Payload.{numberOf}
-use Rattle.page_rows.specs.declared.Interface.{Interface}
-use Rattle.page_rows.specs.declared.Interface.the-variants.{Newer}
-use Rattle.page_rows.specs.declared.Row.{Row}
-use Rattle.page_rows.specs.declared.Found.{Found}
-use Rattle.page_rows.specs.declared.Found.the-variants.{At, Nothing}
+use Rattle.page_table.specs.declared.Interface.{Interface}
+use Rattle.page_table.specs.declared.Interface.the-variants.{Newer}
+use Rattle.page_table.specs.declared.Row.{Row}
+use Rattle.page_table.specs.declared.Found.{Found}
+use Rattle.page_table.specs.declared.Found.the-variants.{At, Nothing}
 use Rattle.page_read.specs.declared.Judged.{Judged}
 use Rattle.page_read.specs.declared.Judged.the-variants.{Frame, Refused}
 use Rattle.refusals.specs.declared.Refusal.{Refusal}
 use Rattle.refusals.specs.declared.Refusal.the-variants.{UnknownIdentifier, TooShort, TooLong, NoLabel, UncoveredBit}
-use Rattle.page_rows.specs.Table.{rows, noRow, rowAt, rowsOf, hasId, firstAt, bitsAt, covered, takes}
-use Rattle.page_rows.specs.Interfaces.{isOn, withId}
+use Rattle.page_table.specs.Table.{rows, noRow, rowAt, rowsOf, hasId, firstAt, bitsAt, covered, takes}
+use Rattle.page_table.specs.Interfaces.{isOn, withId}
 
 -- 5: "a label signal holds a number without a label"
 unfoldable pub unlabelled : ℕ → List Row → Bool

@@ -7,12 +7,12 @@ use lib.ListN.{length}
 use Rattle.refusals.specs.declared.Refusal.{Refusal}
 use Rattle.refusals.specs.Refusals as refusals
 use Rattle.payload.specs.Payload.{numberOf, bitAt}
-use Rattle.page_rows.specs.declared.Interface.{Interface}
-use Rattle.page_rows.specs.declared.Row.{Row}
-use Rattle.page_rows.specs.Messages.{messageOf}
-use Rattle.page_rows.specs.Table.{rowsOf, bitsAt, takes, HasBit}
-use Rattle.page_rows.specs.Interfaces.{Has}
-use Rattle.page_rows.specs.Listed.{Among, SignalAt}
+use Rattle.page_table.specs.declared.Interface.{Interface}
+use Rattle.page_table.specs.declared.Row.{Row}
+use Rattle.page_table.specs.Messages.{messageOf}
+use Rattle.page_table.specs.Table.{rowsOf, bitsAt, takes, HasBit}
+use Rattle.page_table.specs.Interfaces.{Has}
+use Rattle.page_table.specs.Listed.{Among, SignalAt}
 use Rattle.page_read.specs.declared.Judged.{Judged}
 use Rattle.page_read.specs.declared.Judged.the-variants.{Refused}
 use Rattle.page_read.specs.Judge.{offends}

@@ -4,13 +4,13 @@ use mathlib.Core.Bool.{Bool, cond, _||_}
 use mathlib.Core.List.{List, [], _∷_}
 use lib.Dec.{eqb}
 use Rattle.signal.specs.Signal.{putBits}
-use Rattle.page_rows.specs.declared.Row.{Row}
+use Rattle.page_table.specs.declared.Row.{Row}
 use Rattle.page_read.specs.declared.Judged.{Judged}
 use Rattle.page_read.specs.declared.Judged.the-variants.{Frame, Refused}
 use Rattle.refusals.specs.declared.Refusal.the-variants.{NoLabel, UncoveredBit}
 use Rattle.page_read.specs.declared.Offence.{Offence}
 use Rattle.page_read.specs.declared.Offence.the-variants.{Start, Nothing}
-use Rattle.page_rows.specs.Table.{lowest, bitsAt, takes}
+use Rattle.page_table.specs.Table.{lowest, bitsAt, takes}
 
 -- the first signal that holds a number without a label
 unfoldable pub offenceOf : ℕ → List Row → Offence

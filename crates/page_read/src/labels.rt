@@ -1,7 +1,7 @@
 // 5 of a message without gaps, by its rows with labels alone: its every bit is a signal's, so that 6 is never given.
 ghost use mathlib.Core.Path.{_≡_};
 ghost use mathlib.Core.Bool.{false};
-ghost use Rattle.page_rows.specs.Table.{rowsOf};
+ghost use Rattle.page_table.specs.Table.{rowsOf};
 ghost use Rattle.page_read.specs.Steps.{offenceOf, judgedBy, hasGaps};
 use crate::Judged;
 use crate::Offence;

@@ -2,10 +2,10 @@
 // do with frames as they come. Its functions take any input.
 ghost use mathlib.Core.Path.{_≡_};
 ghost use Rattle.page_read.specs.Judge.{judgeOn, judgeOf, judgeFrom};
-use page_rows::FoundMessage;
-use page_rows::Interface;
 use page_rows::is_on;
-use page_rows::with_id;
+use page_search::with_id;
+use page_table::FoundMessage;
+use page_table::Interface;
 use refusals::Refusal;
 
 mod labels; // labels.rt: 5 of a message that has no bit without a signal

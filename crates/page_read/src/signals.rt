@@ -3,18 +3,18 @@ ghost use mathlib.Core.Path.{_≡_};
 ghost use mathlib.Core.Bool.{cond};
 ghost use Prim.Native.Nat.{_%_};
 ghost use lib.ListN.{drop};
-ghost use Rattle.page_rows.specs.Layout.{rowOf};
-ghost use Rattle.page_rows.specs.Table.{rows, Fine, block, bitsAt, takes};
+ghost use Rattle.page_table.specs.Layout.{rowOf};
+ghost use Rattle.page_table.specs.Table.{rows, Fine, block, bitsAt, takes};
 ghost use Rattle.page_read.specs.Steps.{offenceOf, cleared, judgedBy};
 use crate::Judged;
 use crate::Offence;
 use crate::Sifted;
-use page_rows::Line;
 use page_rows::ROW_COUNT;
-use page_rows::Row;
 use page_rows::label_holds;
 use page_rows::row_of;
 use page_rows::row_to_sift;
+use page_table::Line;
+use page_table::Row;
 use refusals::Refusal;
 
 // The start as refusal 5 carries it: no signal of 8 bytes starts above bit 63.

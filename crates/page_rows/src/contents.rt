@@ -1,24 +1,8 @@
-// The messages, by their kinds: what every row of a message says of it. A search by identifier goes through them, and a row names its own by its kind.
+// The messages, by their kinds: what every row of a message says of it. A search by identifier goes through the arrays, and a row names its own by its kind.
 ghost use mathlib.Core.Path.{_≡_};
 ghost use lib.ListN.{getD};
-ghost use Rattle.page_rows.specs.Messages.{kindCount, messageCount, restKind, messages, noMessage, keyOf};
-ghost use Rattle.page_rows.specs.Table.{rows, hasId, firstAt, among, kindFound, withMessage};
-ghost use Rattle.page_rows.specs.Interfaces.{withId};
-use crate::Found;
-use crate::FoundMessage;
-use crate::Interface;
-use crate::KIND_COUNT;
-use crate::Message;
-use crate::REST_KIND;
-use crate::is_on;
-
-// Of all documents.
-pub const MESSAGE_COUNT: usize = 43;
-
-// How many messages document 001 has, and the rest of 000.
-const OLDER_COUNT: usize = 18;
-
-const REST_COUNT: usize = 13;
+ghost use Rattle.page_table.specs.Messages.{messages, noMessage};
+use page_table::Message;
 
 // Document 000, the base messages: extended identifiers, byte 0 lowest.
 const POWER_MODULES_STATUS: Message = Message(0x63000, true, 8, false, 0);
@@ -110,7 +94,7 @@ const MCS_EXTRA_INFORMATION: Message = Message(0x6b204, true, 8, false, 202);
 
 const OCPP_CONTROL: Message = Message(0x6b300, true, 2, false, 205);
 
-const MESSAGES: [Message; 12] = [
+pub const MESSAGES: [Message; 12] = [
     POWER_MODULES_STATUS,
     DC_POWER_PARAMETERS,
     ADVANTICS_CONTROLLER_STATUS,
@@ -125,7 +109,7 @@ const MESSAGES: [Message; 12] = [
     PT1000_STATE,
 ];
 
-const OLDER: [Message; 18] = [
+pub const OLDER: [Message; 18] = [
     OLD_POWER_MODULES_STATUS,
     OLD_POWER_MODULES_LIMITS,
     OLD_SEQUENCE_CONTROL,
@@ -146,7 +130,7 @@ const OLDER: [Message; 18] = [
     OLD_MCS_EXTRA_INFORMATION,
 ];
 
-const REST: [Message; 13] = [
+pub const REST: [Message; 13] = [
     SEQUENCE_CONTROL,
     ADM_CS_SECC_OUTPUTS,
     EV_INFORMATION_BATTERY,
@@ -215,111 +199,4 @@ pub fn message_at(kind: usize) -> Message
         42 => OCPP_CONTROL,
         _ => NO_MESSAGE,
     }
-}
-
-// An identifier and its form as one number, so that the compiler makes one jump by it.
-fn key(id: u32, extended: bool) -> u64
-    ensures { λ r. ⌜ r ≡ keyOf id extended ⌝ }
-{
-    if extended {
-        return 2 * (id as u64) + 1;
-    }
-    2 * (id as u64)
-}
-
-// The kind of the message with an identifier of this form, among the base messages and 004's. The array is copied once and searched in a loop, which the
-// compiler unrolls to a jump: of thirty messages it does not, so that each part has its own.
-fn kind_with_id(id: u32, extended: bool) -> Found
-    ensures { λ r. ⌜ r ≡ kindFound (among 0 kindCount (firstAt (hasId id extended) 0 rows)) ⌝ }
-{
-    let wanted = key(id, extended);
-    let messages = MESSAGES;
-    let mut k: usize = 0;
-    'messages: loop {
-        if KIND_COUNT <= k {
-            break 'messages Found::Nothing;
-        }
-        let m = messages[k];
-        if key(m.0, m.1) == wanted {
-            break 'messages Found::At(k);
-        }
-        k += 1;
-    }
-}
-
-// And among those of document 001.
-fn older_kind_with_id(id: u32, extended: bool) -> Found
-    ensures { λ r. ⌜ r ≡ kindFound (among kindCount restKind (firstAt (hasId id extended) 0 rows)) ⌝ }
-{
-    let wanted = key(id, extended);
-    let messages = OLDER;
-    let mut k: usize = 0;
-    'messages: loop {
-        if OLDER_COUNT <= k {
-            break 'messages Found::Nothing;
-        }
-        let m = messages[k];
-        if key(m.0, m.1) == wanted {
-            let kind = KIND_COUNT + k;
-            break 'messages Found::At(kind);
-        }
-        k += 1;
-    }
-}
-
-// And among the rest of 000's.
-fn rest_kind_with_id(id: u32, extended: bool) -> Found
-    ensures { λ r. ⌜ r ≡ kindFound (among restKind messageCount (firstAt (hasId id extended) 0 rows)) ⌝ }
-{
-    let wanted = key(id, extended);
-    let messages = REST;
-    let mut k: usize = 0;
-    'messages: loop {
-        if REST_COUNT <= k {
-            break 'messages Found::Nothing;
-        }
-        let m = messages[k];
-        if key(m.0, m.1) == wanted {
-            let kind = REST_KIND + k;
-            break 'messages Found::At(kind);
-        }
-        k += 1;
-    }
-}
-
-// And among all.
-fn any_kind_with_id(id: u32, extended: bool) -> Found
-    ensures { λ r. ⌜ r ≡ kindFound (firstAt (hasId id extended) 0 rows) ⌝ }
-{
-    if let Found::At(k) = kind_with_id(id, extended) {
-        return Found::At(k);
-    }
-    if let Found::At(k) = older_kind_with_id(id, extended) {
-        return Found::At(k);
-    }
-    rest_kind_with_id(id, extended)
-}
-
-// The message with an identifier of this form, on whichever interface has it.
-pub fn with_id(id: u32, extended: bool) -> FoundMessage
-    ensures { λ r. ⌜ r ≡ withMessage (firstAt (hasId id extended) 0 rows) ⌝ }
-{
-    let Found::At(k) = any_kind_with_id(id, extended) else {
-        return FoundMessage::Nothing;
-    };
-    let m = message_at(k);
-    FoundMessage::At(k, m.4, m.2, m.3)
-}
-
-// And on one of the two.
-pub fn message_on(iface: Interface, id: u32, extended: bool) -> FoundMessage
-    ensures { λ r. ⌜ r ≡ withMessage (withId iface id extended) ⌝ }
-{
-    let FoundMessage::At(kind, at, len, big) = with_id(id, extended) else {
-        return FoundMessage::Nothing;
-    };
-    if is_on(iface, kind) {
-        return FoundMessage::At(kind, at, len, big);
-    }
-    FoundMessage::Nothing
 }

@@ -1,17 +1,23 @@
-// The maker's pages as one constant table: its messages and rows, the searches by identifier, kind and start, and the rules that it keeps to. What is read,
-// written or changed goes by this table, and every crate above may ask it. Every public function takes any input.
+// The table of the maker's pages in code, its messages and rows as constants: a row by its place, and what a kind's message says. For `page_search` and every
+// crate that goes by the table. Every public function takes any input.
 ghost use mathlib.Core.Path.{_≡_};
-ghost use Rattle.page_rows.specs.Interfaces.{isOn};
-ghost use Rattle.page_rows.specs.Layout.{rowOf};
-ghost use Rattle.page_rows.specs.Table.{identifierOf, lengthOf, extendedOf, bigOf, takes};
+ghost use Rattle.page_table.specs.Interfaces.{isOn};
+ghost use Rattle.page_table.specs.Layout.{rowOf};
+ghost use Rattle.page_table.specs.Table.{identifierOf, lengthOf, extendedOf, bigOf, takes};
+use page_table::Interface;
+use page_table::KIND_COUNT;
+use page_table::Line;
+use page_table::REST_KIND;
+use page_table::Row;
+use page_table::SAFETY_KIND;
 
-mod contents; // contents.rt: the messages, where the rows of each begin, and the search by identifier
+mod contents; // contents.rt: the messages, and where the rows of each begin
 mod charger; // charger.rt: the rows of document 000, the base messages
 mod safety; // safety.rt: the rows of document 004
 mod older; // older.rt: the rows of document 001
 mod vehicle; // vehicle.rt: the rows of document 000 that Req 14 adds, to EV_Information_Energy
 mod inputs; // inputs.rt: and from ADM_CO_CUI1_Inputs on
-mod table; // table.rt: all of them, and the searches by kind and start
+mod table; // table.rt: all of them
 
 pub use charger::COMMUNICATION_PROTOCOL;
 pub use charger::CONTROLLER_STATE;
@@ -24,8 +30,10 @@ pub use charger::SETPOINTS_MODE;
 pub use charger::STOP_ORIGIN;
 pub use charger::SYSTEM_ENABLE;
 pub use charger::VEHICLE_READY_FOR_CHARGING;
-pub use contents::message_on;
-pub use contents::with_id;
+pub use contents::MESSAGES;
+pub use contents::OLDER;
+pub use contents::REST;
+pub use contents::message_at;
 pub use inputs::CE_STATE;
 pub use inputs::CP_STATE;
 pub use inputs::ID_STATE;
@@ -40,35 +48,11 @@ pub use older::OLD_STOP_ORIGIN;
 pub use older::OLD_SYSTEM_ENABLE;
 pub use older::OLD_VEHICLE_READY_FOR_CHARGING;
 pub use table::ROW_COUNT;
-pub use table::first_of_kind;
 pub use table::row_at;
 pub use table::row_to_change;
+pub use table::row_to_seek;
 pub use table::row_to_sift;
 pub use table::row_to_unpack;
-pub use table::signal_at;
-
-// 01: "a row holds message, start, width, signedness and labels or none". The message is its kind, its identifier and that identifier's form, its length
-// in bytes and its byte order (`big`: byte 0 is highest, and a start names the highest bit). `low` is the signal's lowest bit in the payload
-// number, which follows from the rest: worked out beforehand, and held to it by the proofs of `line_at`. Bit n of labels says that the raw
-// number n has a label, and 0 that the signal has none.
-pub struct Row {
-    pub kind: usize,
-    pub id: u32,
-    pub extended: bool,
-    pub bytes: usize,
-    pub big: bool,
-    pub start: u32,
-    pub width: u32,
-    pub low: u32,
-    pub signed: bool,
-    pub labels: u64,
-}
-
-// A row as the table has it: kind, start, width, lowest bit, signed, labels. The kind names the message.
-pub struct Line(pub usize, pub u32, pub u32, pub u32, pub bool, pub u64);
-
-// A message: identifier, extended, bytes, big, and the place of its first row in the table.
-pub struct Message(pub u32, pub bool, pub usize, pub bool, pub usize);
 
 // No signal: what stands past the end of the table.
 const NO_ROW: Row = Row {
@@ -85,31 +69,6 @@ const NO_ROW: Row = Row {
 };
 
 const NO_LINE: Line = Line(0, 0, 0, 0, false, 0);
-
-// 02, Req 11: "Set-up names a post's interface": the pages of document 000, or those of document 001, of the older controllers. The frames of the safety
-// controller, of document 004, belong to either.
-pub enum Interface {
-    Newer,
-    Older,
-}
-
-// Where the kinds of 004, of 001 and of the rest of 000 begin.
-const SAFETY_KIND: usize = 9;
-
-const KIND_COUNT: usize = 12;
-
-const REST_KIND: usize = 30;
-
-pub enum Found {
-    At(usize),
-    Nothing,
-}
-
-// A message that was searched for: its kind, the place of its first row, its bytes, and its byte order.
-pub enum FoundMessage {
-    At(usize, usize, usize, bool),
-    Nothing,
-}
 
 // The row of a line, with what its message says.
 pub fn row_of(l: Line) -> Row

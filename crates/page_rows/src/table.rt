@@ -1,17 +1,15 @@
-// The table: the rows of all documents, one behind the other, and the searches over them.
+// The table: the rows of all documents, one behind the other.
 ghost use mathlib.Core.Path.{_≡_};
 ghost use lib.ListN.{getD};
-ghost use Rattle.page_rows.specs.Table.{rows, noRow, firstAt, hasKind, isSignal};
-use crate::Found;
+ghost use Rattle.page_table.specs.Table.{rows, noRow};
 use crate::NO_ROW;
-use crate::Row;
 use crate::charger;
-use crate::contents;
 use crate::inputs;
 use crate::older;
 use crate::row_of;
 use crate::safety;
 use crate::vehicle;
+use page_table::Row;
 
 pub const ROW_COUNT: usize = 206;
 
@@ -121,36 +119,4 @@ pub fn row_to_change(i: usize) -> Row
         return row_of(vehicle::line_at(i));
     }
     row_of(inputs::line_at(i))
-}
-
-pub fn first_of_kind(kind: usize) -> Found
-    ensures { λ r. ⌜ r ≡ firstAt (hasKind kind) 0 rows ⌝ }
-{
-    if contents::MESSAGE_COUNT <= kind {
-        return Found::Nothing;
-    }
-    Found::At(contents::message_at(kind).4)
-}
-
-// The row of the signal of a kind that starts at a bit: only an exact start counts. The kind's rows stand together.
-pub fn signal_at(kind: usize, start: u32) -> Found
-    ensures { λ r. ⌜ r ≡ firstAt (isSignal kind start) 0 rows ⌝ }
-{
-    let Found::At(at) = first_of_kind(kind) else {
-        return Found::Nothing;
-    };
-    let mut i = at;
-    'rows: loop {
-        if ROW_COUNT <= i {
-            break 'rows Found::Nothing;
-        }
-        let r = row_to_seek(i);
-        if r.kind != kind {
-            break 'rows Found::Nothing;
-        }
-        if r.start == start {
-            break 'rows Found::At(i);
-        }
-        i += 1;
-    }
 }

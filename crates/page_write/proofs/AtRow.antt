@@ -16,11 +16,11 @@ use Rattle.signal.specs.Twos.{ofSigned}
 use Rattle.signal.specs.Raw.{fitsIn, bitsIn, fitsOf, bitsOf}
 use Rattle.signal.proofs.Totals.{put-in}
 use Rattle.signal.proofs.RawLaws.{fits-in, bits-in, bits-lt}
-use Rattle.page_rows.specs.declared.Row.{Row}
-use Rattle.page_rows.specs.Rules.{every}
-use Rattle.page_rows.specs.Table.{rows, rowCount, noRow, Fine, lowest, takes}
+use Rattle.page_table.specs.declared.Row.{Row}
+use Rattle.page_table.specs.Rules.{every}
+use Rattle.page_table.specs.Table.{rows, rowCount, noRow, Fine, lowest, takes}
 use Rattle.page_write.specs.Raws.{rowTakes, putRaw}
-use Rattle.page_rows.proofs.Rules.{both-true, every-at, rows-length}
+use Rattle.page_table.proofs.Rules.{both-true, every-at, rows-length}
 use Rattle.page_write.proofs.Words.{low-word}
 
 -- no row has a label from 63 on, so that packing may take 63 for every number from there on

@@ -8,11 +8,11 @@ use native.Mathlib.Omega.{arith}
 use lib.IntN.{ℤ, pos}
 use lib.ListN.{getD, drop}
 use Rattle.signal.proofs.Complement.{half-of}
-use Rattle.page_rows.specs.declared.Row.{Row}
-use Rattle.page_rows.specs.Table.{rows, rowAt, rowCount, block}
+use Rattle.page_table.specs.declared.Row.{Row}
+use Rattle.page_table.specs.Table.{rows, rowAt, rowCount, block}
 use Rattle.page_write.specs.Raws.{wholeAt, wholesOf, pad}
-use Rattle.page_rows.proofs.Rules.{kind-is, kind-between}
-use Rattle.page_rows.proofs.Walk.{block-in, block-out, block-end}
+use Rattle.page_table.proofs.Rules.{kind-is, kind-between}
+use Rattle.page_table.proofs.Walk.{block-in, block-out, block-end}
 
 -- the number at a place among those of the rows of kind k that stand together from row i on
 abbrev numberAt : ℕ → ℕ → ℕ → ℕ → ℤ

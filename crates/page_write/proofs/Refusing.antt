@@ -13,9 +13,9 @@ use borrow.Author.Tests.{le-leb, leb-false, lt-leb}
 use Rattle.refusals.specs.declared.Refusal.{Refusal}
 use Rattle.refusals.specs.declared.Refusal.the-variants.{NoRawNumber, ShortBuffer}
 use Rattle.refusals.specs.Refusals.{numberOf}
-use Rattle.page_rows.specs.declared.Row.{Row}
-use Rattle.page_rows.specs.Table.{noRow, rowsOf, lengthOf}
-use Rattle.page_rows.proofs.Rules.{not-both}
+use Rattle.page_table.specs.declared.Row.{Row}
+use Rattle.page_table.specs.Table.{noRow, rowsOf, lengthOf}
+use Rattle.page_table.proofs.Rules.{not-both}
 use Rattle.page_write.specs.declared.Written.{Written}
 use Rattle.page_write.specs.declared.Written.the-variants.{Refused}
 use Rattle.page_write.specs.Raws.{rowTakes, allTake, canWrite, writtenBy, writeRawsOf}

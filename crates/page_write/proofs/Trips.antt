@@ -19,22 +19,22 @@ use Rattle.signal.specs.Raw.{fitsIn, bitsIn, valueIn}
 use Rattle.signal.proofs.Laws.{get-lt, get-get, get-zero, get-put, get-put-apart, bit-put, bit-kept, put-lt, same-bits, covers-in, Apart}
 use Rattle.signal.proofs.RawLaws.{value-bits, bits-value, value-fits, bits-lt}
 use Rattle.payload.proofs.Orders.{number-bound, length-of, number-of, bytes-of}
-use Rattle.page_rows.specs.declared.Interface.{Interface}
-use Rattle.page_rows.specs.declared.Interface.the-variants.{Newer}
-use Rattle.page_rows.specs.declared.Row.{Row}
+use Rattle.page_table.specs.declared.Interface.{Interface}
+use Rattle.page_table.specs.declared.Interface.the-variants.{Newer}
+use Rattle.page_table.specs.declared.Row.{Row}
 use Rattle.page_read.specs.declared.Judged.the-variants.{Frame}
-use Rattle.page_rows.specs.declared.Found.the-variants.{At}
-use Rattle.page_rows.specs.Interfaces.{isOn, withId}
-use Rattle.page_rows.specs.Table.{rows, firstAt, hasId, noRow, rowsOf, headRow, identifierOf, extendedOf, lengthOf, bigOf, lowest, bitsAt, Fine, covered, takes}
+use Rattle.page_table.specs.declared.Found.the-variants.{At}
+use Rattle.page_table.specs.Interfaces.{isOn, withId}
+use Rattle.page_table.specs.Table.{rows, firstAt, hasId, noRow, rowsOf, headRow, identifierOf, extendedOf, lengthOf, bigOf, lowest, bitsAt, Fine, covered, takes}
 use Rattle.page_read.specs.Judge.{unlabelled, strayBelow, judgedNumber, judgeOn, judgeOf}
-use Rattle.page_rows.specs.Table.{signalCount}
+use Rattle.page_table.specs.Table.{signalCount}
 use Rattle.page_write.specs.Raws.{wholeAt, wholesOf, pad, rawsOf, allBy, rowTakes, allTake, putRaw, packedOn, canWrite}
-use Rattle.page_rows.specs.Listed.{Among}
+use Rattle.page_table.specs.Listed.{Among}
 use Rattle.page_write.specs.Taken.{Taken}
 use Rattle.page_write.specs.Trips.{Back, There}
-use Rattle.page_rows.proofs.Rules.{both-true, either-false, not-both, Ordered, ordered, apart-sym, few}
-use Rattle.page_rows.proofs.Firsts.{id-kind, first-kind, first-id, known}
-use Rattle.page_rows.proofs.Interfaces.{found-own, found-has}
+use Rattle.page_table.proofs.Rules.{both-true, either-false, not-both, Ordered, ordered, apart-sym, few}
+use Rattle.page_table.proofs.Firsts.{id-kind, first-kind, first-id, known}
+use Rattle.page_table.proofs.Interfaces.{found-own, found-has}
 use Rattle.page_read.proofs.Gaps.{stray-none, stray-zero}
 use Rattle.page_read.proofs.Answers.{reached-frame, taken}
 use Rattle.page_read.proofs.Interfaces.{newer, on-own}

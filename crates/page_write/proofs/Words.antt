@@ -15,7 +15,7 @@ use Rattle.signal.specs.Twos.{ofSigned}
 use Rattle.signal.specs.Raw.{fitsIn, bitsIn}
 use Rattle.signal.proofs.Complement.{halves, half-of}
 use Rattle.signal.proofs.Masks.{ones-shr}
-use Rattle.page_rows.specs.Table.{takes}
+use Rattle.page_table.specs.Table.{takes}
 
 -- ---- the lowest bits
 

@@ -15,8 +15,8 @@ use Rattle.signal.specs.Signal.{getBits}
 use Rattle.signal.specs.Twos.{ofSigned}
 use Rattle.payload.specs.Payload.{bitAt}
 use Rattle.payload.specs.Order.{walk, place}
-use Rattle.page_rows.specs.Table.{rows, noRow, ofKind, rowsOf, identifierOf, lengthOf, bigOf, covered}
-use Rattle.page_rows.proofs.PageBits.{no-signal}
+use Rattle.page_table.specs.Table.{rows, noRow, ofKind, rowsOf, identifierOf, lengthOf, bigOf, covered}
+use Rattle.page_table.proofs.PageBits.{no-signal}
 use Rattle.page_write.specs.declared.Written.the-variants.{Wrote, Refused}
 use Rattle.page_write.specs.Raws.{rowTakes, allTake, writeRawsOf, bufferAfter}
 use Rattle.page_write.specs.Refusing.{Gives}

@@ -19,14 +19,14 @@ use Rattle.payload.proofs.Stored.{stored-not}
 use Rattle.payload.proofs.Words.{bit-place}
 use Rattle.payload.proofs.Written.{stored-bit, stored-behind}
 use Rattle.refusals.specs.declared.Refusal.{Refusal}
-use Rattle.page_rows.specs.declared.Row.{Row}
-use Rattle.page_rows.specs.Table.{noRow, rowsOf, identifierOf, lengthOf, bigOf, lowest, HasBit}
-use Rattle.page_rows.specs.Listed.{Among}
+use Rattle.page_table.specs.declared.Row.{Row}
+use Rattle.page_table.specs.Table.{noRow, rowsOf, identifierOf, lengthOf, bigOf, lowest, HasBit}
+use Rattle.page_table.specs.Listed.{Among}
 use Rattle.page_write.specs.declared.Written.the-variants.{Wrote, Refused}
 use Rattle.page_write.specs.Raws.{packedOn, canWrite, writtenBy, writeRawsOf, bufferAfter}
-use Rattle.page_rows.proofs.Rules.{ordered, among-kept, row-message}
-use Rattle.page_rows.proofs.PageBits.{no-place}
-use Rattle.page_rows.proofs.Listed.{at-among}
+use Rattle.page_table.proofs.Rules.{ordered, among-kept, row-message}
+use Rattle.page_table.proofs.PageBits.{no-place}
+use Rattle.page_table.proofs.Listed.{at-among}
 use Rattle.page_write.proofs.Trips.{can-write, packed-at, packed-kept}
 
 -- what an accepted writing passed

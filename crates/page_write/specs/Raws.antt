@@ -8,12 +8,12 @@ use lib.IntN.{ℤ, pos}
 use Rattle.signal.specs.Signal.{putBits}
 use Rattle.payload.specs.Payload.{storedIn}
 use Rattle.signal.specs.Raw.{fitsIn, bitsIn, valueIn}
-use Rattle.page_rows.specs.declared.Row.{Row}
+use Rattle.page_table.specs.declared.Row.{Row}
 use Rattle.page_write.specs.declared.Written.{Written}
 use Rattle.page_write.specs.declared.Written.the-variants.{Wrote, Refused}
 use Rattle.refusals.specs.declared.Refusal.the-variants.{NoRawNumber, ShortBuffer}
-use Rattle.page_rows.specs.Table.{rowsOf, identifierOf, lengthOf, bigOf, lowest, bitsAt, takes}
-pub use Rattle.page_rows.specs.Table.{signalCount}
+use Rattle.page_table.specs.Table.{rowsOf, identifierOf, lengthOf, bigOf, lowest, bitsAt, takes}
+pub use Rattle.page_table.specs.Table.{signalCount}
 
 -- ---- reading
 

@@ -8,7 +8,7 @@ use lib.IntN.{ℤ, pos}
 use lib.ListN.{length, getD}
 use Rattle.refusals.specs.declared.Refusal.{Refusal}
 use Rattle.refusals.specs.Refusals.{numberOf}
-use Rattle.page_rows.specs.Table.{noRow, rowsOf, lengthOf}
+use Rattle.page_table.specs.Table.{noRow, rowsOf, lengthOf}
 use Rattle.page_write.specs.declared.Written.{Written}
 use Rattle.page_write.specs.declared.Written.the-variants.{Refused}
 use Rattle.page_write.specs.Raws.{rowTakes, canWrite}

@@ -2,7 +2,7 @@
 use mathlib.Core.Bool.{cond}
 use mathlib.Core.List.{List}
 use lib.IntN.{ℤ}
-use Rattle.page_rows.specs.declared.Row.{Row}
+use Rattle.page_table.specs.declared.Row.{Row}
 use Rattle.page_write.specs.declared.Packed.{Packed}
 use Rattle.page_write.specs.declared.Packed.the-variants as packed
 use Rattle.page_write.specs.Raws.{allTake, packedOn}

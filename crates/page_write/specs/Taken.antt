@@ -5,9 +5,9 @@ use mathlib.Core.Bool.{Bool, true, false}
 use mathlib.Core.List.{List}
 use lib.ListN.{length}
 use Rattle.payload.specs.Payload.{numberOf}
-use Rattle.page_rows.specs.declared.Interface.{Interface}
-use Rattle.page_rows.specs.Interfaces.{isOn}
-use Rattle.page_rows.specs.Table.{rowsOf, identifierOf, extendedOf, lengthOf, bigOf}
+use Rattle.page_table.specs.declared.Interface.{Interface}
+use Rattle.page_table.specs.Interfaces.{isOn}
+use Rattle.page_table.specs.Table.{rowsOf, identifierOf, extendedOf, lengthOf, bigOf}
 use Rattle.page_read.specs.Judge.{unlabelled, strayBelow}
 
 -- the interface has its kind; it has the identifier, its form and the length of its kind, a label where there are labels, and no stray bit

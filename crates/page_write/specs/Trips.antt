@@ -6,9 +6,9 @@ use mathlib.Core.List.{List}
 use lib.IntN.{ℤ}
 use lib.ListN.{length, take}
 use Rattle.payload.specs.Payload.{bytesOf}
-use Rattle.page_rows.specs.declared.Interface.{Interface}
-use Rattle.page_rows.specs.Interfaces.{isOn}
-use Rattle.page_rows.specs.Table.{rowsOf, identifierOf, extendedOf, lengthOf, bigOf}
+use Rattle.page_table.specs.declared.Interface.{Interface}
+use Rattle.page_table.specs.Interfaces.{isOn}
+use Rattle.page_table.specs.Table.{rowsOf, identifierOf, extendedOf, lengthOf, bigOf}
 use Rattle.page_read.specs.declared.Judged.the-variants.{Frame}
 use Rattle.page_read.specs.Judge.{judgeOn}
 use Rattle.page_write.specs.Raws.{wholesOf, rawsOf, packedOn, canWrite}

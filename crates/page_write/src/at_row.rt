@@ -5,9 +5,9 @@ ghost use mathlib.Core.Bool.{true, cond};
 ghost use Prim.Native.Nat.{_-_, _^_, _≤_, _<_, min};
 ghost use lib.Dec.{eqb};
 ghost use Rattle.signal.specs.Twos.{ofSigned};
-ghost use Rattle.page_rows.specs.Table.{Fine, takes};
+ghost use Rattle.page_table.specs.Table.{Fine, takes};
 ghost use Rattle.page_write.specs.Raws.{rowTakes, putRaw};
-use page_rows::Row;
+use page_table::Row;
 use std::num::wrapping_add_u64;
 
 // z in 64 bits: those that carry it in a signal are the lowest of them.

@@ -4,11 +4,11 @@ ghost use mathlib.Core.Path.{_≡_};
 ghost use lib.IntN.{pos};
 ghost use lib.ListN.{getD};
 ghost use Rattle.page_write.specs.Raws.{rawsOf, writeRawsOf, bufferAfter};
-use page_rows::Found;
-use page_rows::first_of_kind;
 use page_rows::identifier_of;
 use page_rows::is_big;
 use page_rows::length_of;
+use page_search::first_of_kind;
+use page_table::Found;
 use refusals::Refusal;
 use signals::pack;
 

@@ -3,16 +3,16 @@ ghost use mathlib.Core.Path.{_≡_};
 ghost use Prim.Native.Nat.{_<_};
 ghost use lib.IntN.{pos};
 ghost use lib.ListN.{drop, getD};
-ghost use Rattle.page_rows.specs.Table.{rows, noRow, rowCount, signalCount, Fine, block};
+ghost use Rattle.page_table.specs.Table.{rows, noRow, rowCount, signalCount, Fine, block};
 ghost use Rattle.page_write.specs.Raws.{wholeAt, wholesOf, pad};
 ghost use Rattle.page_write.specs.Steps.{packOf};
 use crate::Packed;
 use crate::at_row::put_raw;
 use crate::at_row::row_takes;
 use page_rows::ROW_COUNT;
-use page_rows::Row;
 use page_rows::row_at;
 use page_rows::row_to_unpack;
+use page_table::Row;
 
 fn signal_whole(r: Row, n: u64) -> i64
     requires { ⌜ Fine r ⌝ }

@@ -10,7 +10,7 @@ use lib.ListN.{length}
 use Rattle.refusals.specs.declared.Refusal.the-variants.{NoLabel}
 use Rattle.signal.specs.Signal.{getBits}
 use Rattle.payload.specs.Payload.{leNumber}
-use Rattle.page_rows.specs.Table.{rows, ofKind, firstAt, bigOf, covered}
+use Rattle.page_table.specs.Table.{rows, ofKind, firstAt, bigOf, covered}
 use Rattle.page_read.specs.declared.Judged.{Judged}
 use Rattle.page_read.specs.declared.Judged.the-variants as judged
 use Rattle.page_read.specs.Judge.{unlabelled, offender, strayBelow, judgedNumber, judgeOf}

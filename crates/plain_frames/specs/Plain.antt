@@ -11,9 +11,9 @@ use Rattle.page_read.specs.declared.Judged.the-variants as judged
 use Rattle.page_write.specs.declared.Written.{Written}
 use Rattle.page_write.specs.declared.Written.the-variants as written
 use Rattle.page_read.specs.Judge.{judgeOf}
-use Rattle.page_rows.specs.declared.Interface.the-variants.{Newer}
-use Rattle.page_rows.specs.Interfaces.{isOn}
-use Rattle.page_rows.specs.Table.{signalCount}
+use Rattle.page_table.specs.declared.Interface.the-variants.{Newer}
+use Rattle.page_table.specs.Interfaces.{isOn}
+use Rattle.page_table.specs.Table.{signalCount}
 use Rattle.page_write.specs.Raws.{rawsOf, writeRawsOf, bufferAfter}
 use Rattle.page_change.specs.Change.{changeOf}
 use Rattle.plain_words.specs.Words.{Outcome, answers, refuses, outcomeWord}

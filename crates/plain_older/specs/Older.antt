@@ -6,9 +6,9 @@ use lib.Dec.{leb}
 use lib.IntN.{ℤ}
 use lib.ListN.{length, take}
 use Rattle.refusals.specs.declared.Refusal.the-variants.{NoRawNumber}
-use Rattle.page_rows.specs.declared.Interface.the-variants.{Older}
-use Rattle.page_rows.specs.Interfaces.{isOn}
-use Rattle.page_rows.specs.Table.{signalCount}
+use Rattle.page_table.specs.declared.Interface.the-variants.{Older}
+use Rattle.page_table.specs.Interfaces.{isOn}
+use Rattle.page_table.specs.Table.{signalCount}
 use Rattle.page_read.specs.Judge.{judgeOn}
 use Rattle.page_write.specs.Raws.{writeRawsOf, bufferAfter}
 use Rattle.page_change.specs.Change.{changeOn}

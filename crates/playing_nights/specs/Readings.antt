@@ -7,7 +7,7 @@ use Rattle.refusals.specs.declared.Refusal.the-variants.{ChannelFree, Earlier, 
 use Rattle.rule_limits.specs.declared.PlainLimits.{PlainLimits}
 use Rattle.rules.specs.After.{stampIn, agedTo, silentIn, lateAfter, anyFindings, withCounts, afterTick}
 use Rattle.log_numbers.specs.Number.{readGroups}
-use Rattle.page_rows.specs.Table.{rows, firstAt}
+use Rattle.page_table.specs.Table.{rows, firstAt}
 use Rattle.page_interfaces.specs.Foreign.{isForeign, judgeFor}
 use Rattle.log_records.specs.Reading.{lengthPart, identifierPart, channelPart, timePart, recordAt}
 use Rattle.text_numbers.specs.Numbers.{glyphOf, digitsIn, numeral}

@@ -33,7 +33,7 @@ use rules::Slot;
 fn dated_at(time: u32, ms: u32, kind: usize, raw: u64) -> Dated
     ensures { λ r. ⌜ r ≡ datedAt time ms kind raw ⌝ }
 {
-    if page_rows::is_on(page_rows::Interface::Newer, kind) {
+    if page_rows::is_on(page_table::Interface::Newer, kind) {
         Dated::At(time, ms, message_build::message_of(kind, raw))
     } else {
         Dated::OlderAt(time, ms, older_build::message_of(kind, raw))

@@ -1,7 +1,7 @@
 -- A look-up after a set-up by value hands out the very limits that were handed in.
 use mathlib.Core.Path.{_≡_, refl}
-use Rattle.page_rows.specs.declared.Interface.{Interface}
-use Rattle.page_rows.specs.declared.Interface.the-variants.{Newer, Older}
+use Rattle.page_table.specs.declared.Interface.{Interface}
+use Rattle.page_table.specs.declared.Interface.the-variants.{Newer, Older}
 use Rattle.rule_limits.specs.declared.Sensor.{Sensor}
 use Rattle.rule_limits.specs.declared.Sensor.the-variants.{Measuring, YesNo}
 use Rattle.rule_limits.specs.declared.Limits.{Limits}

@@ -3,8 +3,8 @@
 use Prim.Native.Nat.{ℕ}
 use mathlib.Core.Bool.{cond}
 use lib.Dec.{eqb}
-use Rattle.page_rows.specs.declared.Interface.{Interface}
-use Rattle.page_rows.specs.declared.Interface.the-variants.{Newer, Older}
+use Rattle.page_table.specs.declared.Interface.{Interface}
+use Rattle.page_table.specs.declared.Interface.the-variants.{Newer, Older}
 use Rattle.rule_limits.specs.declared.Sensor.{Sensor}
 use Rattle.rule_limits.specs.declared.Sensor.the-variants.{Measuring, YesNo}
 use Rattle.rule_limits.specs.declared.Limits.{Limits}

@@ -2,7 +2,7 @@
 // For the rules and for every crate that hands limits on.
 ghost use mathlib.Core.Path.{_≡_};
 ghost use Rattle.rule_limits.specs.Limits.{limitsFit, capped};
-pub use page_rows::Interface;
+pub use page_table::Interface;
 
 pub mod kept; // kept.rt: limits as they are handed in and out, and as they are kept
 

@@ -3,7 +3,7 @@ use Prim.Native.Nat.{ℕ}
 use mathlib.Core.Path.{_≡_, refl}
 use mathlib.Core.Bool.{Bool, true, false, cond}
 use lib.Dec.{eqb}
-use Rattle.page_rows.specs.Table.{rows, rowsOf, ofKind}
+use Rattle.page_table.specs.Table.{rows, rowsOf, ofKind}
 use Rattle.page_write.specs.Raws.{wholesOf, pad, rawsOf}
 use Rattle.message_fields.specs.Fields.{at}
 use Rattle.message_parts.specs.Parts.{statusIn, sessionIn}

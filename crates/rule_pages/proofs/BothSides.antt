@@ -3,7 +3,7 @@ use Prim.Native.Nat.{ℕ}
 use mathlib.Core.Path.{_≡_, refl}
 use Rattle.signal.specs.Signal.{getBits}
 use Rattle.signal.specs.Twos.{toSigned}
-use Rattle.page_rows.specs.Table.{rows, ofKind}
+use Rattle.page_table.specs.Table.{rows, ofKind}
 use Rattle.page_write.specs.Raws.{wholesOf, pad, rawsOf}
 use Rattle.message_types.specs.declared.PowerFunction.the-variants.{InsulationTest, Precharge, PowerTransfer}
 use Rattle.message_types.specs.KindNumbers as newer

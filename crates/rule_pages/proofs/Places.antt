@@ -5,7 +5,7 @@ use mathlib.Core.Path.{_≡_}
 use mathlib.Core.Logic.{_⊎_, inl, inr}
 use borrow.Author.Tests.{lt-ltb, le-ltb}
 use Rattle.signal.proofs.Complement.{half-of}
-use Rattle.page_rows.specs.Messages.{messageCount}
+use Rattle.page_table.specs.Messages.{messageCount}
 use Rattle.message_types.specs.KindNumbers.{safetyControlKind, sequenceKind}
 use Rattle.older_types.specs.KindNumbers as older
 use Rattle.rule_pages.specs.Places.{placeCount, placeBy}

@@ -5,7 +5,7 @@ use mathlib.Core.Path.{_≡_, refl}
 use mathlib.Core.List.{List, [], _∷_}
 use Rattle.signal.specs.Signal.{getBits}
 use Rattle.signal.specs.Twos.{toSigned}
-use Rattle.page_rows.specs.Table.{rows, ofKind, firstAt}
+use Rattle.page_table.specs.Table.{rows, ofKind, firstAt}
 use Rattle.page_write.specs.Raws.{wholesOf, pad, rawsOf}
 use Rattle.message_types.specs.KindNumbers.{stopKind, safetyControlKind, safetyStateKind, probesKind, sequenceKind, energyKind, cuiKind, ocppKind}
 use Rattle.message_parts.specs.Parts.{statusKind, parametersKind, controllerKind, sessionKind, controlKind, finishedKind, statusIn, parametersIn, sessionIn, controlIn}

@@ -7,7 +7,7 @@ use mathlib.Core.Bool.{Bool, true, false, _&&_, true≢false}
 use mathlib.Core.Option.{Option, none, some}
 use Rattle.message_parts.specs.Parts.{sessionKind, controlKind, finishedKind, controlIn}
 use Rattle.message_types.specs.KindNumbers.{stopKind}
-use Rattle.page_rows.specs.Table.{rows, ofKind}
+use Rattle.page_table.specs.Table.{rows, ofKind}
 use Rattle.page_write.specs.Raws.{wholesOf, pad, rawsOf}
 use Rattle.signal.specs.Signal.{getBits}
 use Rattle.signal.specs.Twos.{toSigned}

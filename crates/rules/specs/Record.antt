@@ -11,8 +11,8 @@ use mathlib.Core.Bool.{Bool, true, false, cond}
 use mathlib.Core.Option.{Option, none, some}
 use lib.Dec.{eqb}
 use lib.ListN.{length}
-use Rattle.page_rows.specs.declared.Interface.the-variants.{Newer}
-use Rattle.page_rows.specs.Interfaces.{isOn}
+use Rattle.page_table.specs.declared.Interface.the-variants.{Newer}
+use Rattle.page_table.specs.Interfaces.{isOn}
 use Rattle.message_build.specs.Built.{messageOf}
 use Rattle.older_build.specs.Built as older
 pub use Rattle.rule_pages.specs.Places.{placeCount}

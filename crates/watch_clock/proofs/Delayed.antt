@@ -8,8 +8,8 @@ use mathlib.Core.Option.{Option, none, some}
 use lib.Dec.{ltb}
 use lib.ListN.{length-map}
 use Rattle.message_types.specs.declared.DcPowerParameters.{DcPowerParameters}
-use Rattle.page_rows.specs.declared.Interface.the-variants.{Newer}
-use Rattle.page_rows.specs.Interfaces.{isOn}
+use Rattle.page_table.specs.declared.Interface.the-variants.{Newer}
+use Rattle.page_table.specs.Interfaces.{isOn}
 use Rattle.message_build.specs.Built.{messageOf}
 use Rattle.older_build.specs.Built as older
 use Rattle.rule_pages.specs.declared.Role.{Role}

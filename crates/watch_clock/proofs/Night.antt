@@ -8,7 +8,7 @@ use lib.Dec.{eqb}
 use mathlib.Core.Path.{_≡_, refl, subst, _∙_}
 use mathlib.Core.Bool.{true, false, cond}
 use mathlib.Core.List.{List, [], _∷_}
-use Rattle.page_rows.specs.Table.{rows, ofKind, firstAt, covered}
+use Rattle.page_table.specs.Table.{rows, ofKind, firstAt, covered}
 use Rattle.page_read.specs.Judge.{unlabelled, strayBelow, judgedNumber, judgeOn}
 use Rattle.page_interfaces.specs.Foreign.{isForeign, judgeFor}
 use Rattle.rule_pages.specs.Roles.{roleOf}

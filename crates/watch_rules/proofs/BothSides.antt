@@ -7,7 +7,7 @@ use lib.ListN.{getD}
 use Rattle.signal.specs.Signal.{getBits}
 use Rattle.signal.specs.Twos.{toSigned}
 use Rattle.payload.specs.Payload.{leNumber, beNumber}
-use Rattle.page_rows.specs.Table.{rows, ofKind, firstAt, covered}
+use Rattle.page_table.specs.Table.{rows, ofKind, firstAt, covered}
 use Rattle.page_read.specs.Judge.{unlabelled, offender, strayBelow, judgedNumber, judgeOn}
 use Rattle.page_interfaces.specs.Foreign.{isForeign, judgeFor}
 use Rattle.older_build.specs.Built as olderBuilt

@@ -9,9 +9,9 @@ use mathlib.Core.Bool.{Bool, true, false}
 use mathlib.Core.List.{List, [], _∷_}
 use Rattle.refusals.specs.declared.Refusal.the-variants.{ChannelFree, ChannelTaken, TooShort}
 use Rattle.page_read.specs.declared.Judged.the-variants as judged
-use Rattle.page_rows.specs.Table.{rows, ofKind, firstAt, covered}
+use Rattle.page_table.specs.Table.{rows, ofKind, firstAt, covered}
 use Rattle.page_read.specs.Judge.{unlabelled, strayBelow, judgedNumber, judgeOn}
-use Rattle.page_rows.specs.declared.Interface.the-variants.{Newer}
+use Rattle.page_table.specs.declared.Interface.the-variants.{Newer}
 use Rattle.page_interfaces.specs.Foreign.{isForeign, judgeFor}
 use Rattle.rule_pages.specs.Roles.{roleOf}
 use Rattle.rule_pages.specs.Said.{statusBy, openingBy, limitsBy, commandBy}

@@ -11,11 +11,11 @@ use lib.Dec.{eqb, leb, ltb}
 use lib.ListN.{getD}
 use borrow.Author.Tests.{eqb-true, eqb-false, eq-eqb, ne-eqb, ltb-true, ltb-false, leb-true, lt-ltb, le-ltb}
 use Rattle.refusals.specs.declared.Refusal.the-variants.{Earlier, OtherInterface}
-use Rattle.page_rows.specs.declared.Interface.{Interface}
-use Rattle.page_rows.specs.declared.Interface.the-variants.{Newer, Older}
-use Rattle.page_rows.specs.Messages.{messageCount}
-use Rattle.page_rows.specs.Interfaces.{isOn}
-use Rattle.page_rows.proofs.Rules.{not-both}
+use Rattle.page_table.specs.declared.Interface.{Interface}
+use Rattle.page_table.specs.declared.Interface.the-variants.{Newer, Older}
+use Rattle.page_table.specs.Messages.{messageCount}
+use Rattle.page_table.specs.Interfaces.{isOn}
+use Rattle.page_table.proofs.Rules.{not-both}
 use Rattle.page_read.specs.declared.Judged.{Judged}
 use Rattle.page_read.specs.declared.Judged.the-variants as judged
 use Rattle.page_read.specs.Judge.{judgeOn}

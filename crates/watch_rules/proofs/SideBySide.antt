@@ -7,9 +7,9 @@ use mathlib.Core.Option.{none, some}
 use lib.ListN.{getD}
 use borrow.Author.Tests.{ltb-true}
 use Rattle.refusals.specs.declared.Refusal.the-variants.{OtherInterface}
-use Rattle.page_rows.specs.Messages.{messageCount}
-use Rattle.page_rows.specs.Table.{rows, ofKind, firstAt, covered}
-use Rattle.page_rows.specs.declared.Interface.the-variants.{Newer, Older}
+use Rattle.page_table.specs.Messages.{messageCount}
+use Rattle.page_table.specs.Table.{rows, ofKind, firstAt, covered}
+use Rattle.page_table.specs.declared.Interface.the-variants.{Newer, Older}
 use Rattle.page_read.specs.Judge.{unlabelled, strayBelow, judgedNumber, judgeOn}
 use Rattle.page_interfaces.specs.Foreign.{isForeign, judgeFor}
 use Rattle.page_write.specs.Raws.{wholesOf, pad, rawsOf}

@@ -5,10 +5,10 @@ use mathlib.Core.List.{[], _∷_}
 use mathlib.Core.Bool.{true, cond}
 use mathlib.Core.Option.{Option, none, some}
 use lib.Dec.{eqb, ltb}
-use Rattle.page_rows.specs.declared.Interface.{Interface}
-use Rattle.page_rows.specs.declared.Interface.the-variants.{Newer, Older}
-use Rattle.page_rows.specs.Messages.{messageCount}
-use Rattle.page_rows.specs.Interfaces.{isOn}
+use Rattle.page_table.specs.declared.Interface.{Interface}
+use Rattle.page_table.specs.declared.Interface.the-variants.{Newer, Older}
+use Rattle.page_table.specs.Messages.{messageCount}
+use Rattle.page_table.specs.Interfaces.{isOn}
 use Rattle.message_types.specs.KindNumbers.{safetyControlKind, sequenceKind}
 use Rattle.older_types.specs.KindNumbers as older
 use Rattle.rule_limits.specs.Sensor.{interfaceOf}

@@ -5,8 +5,8 @@ use mathlib.Core.Path.{_≡_, refl, sym, ap, _∙_}
 use mathlib.Core.List.{List, [], _∷_, map}
 use mathlib.Core.Bool.{Bool, true, false, cond}
 use mathlib.Core.Option.{Option, none, some}
-use Rattle.page_rows.specs.declared.Interface.the-variants.{Newer}
-use Rattle.page_rows.specs.Interfaces.{isOn}
+use Rattle.page_table.specs.declared.Interface.the-variants.{Newer}
+use Rattle.page_table.specs.Interfaces.{isOn}
 use Rattle.older_build.specs.Built as older
 use Rattle.rule_pages.specs.Said.{openingBy}
 use Rattle.message_build.specs.Built.{messageOf}

@@ -11,10 +11,10 @@ use lib.ListN.{length, drop, set, length-set}
 use Rattle.payload.specs.Payload.{storedIn}
 use Rattle.payload.proofs.Stored.{stored-in}
 use Rattle.refusals.specs.declared.Refusal.the-variants.{ShortBuffer}
-use Rattle.page_rows.specs.Messages.{messageCount}
+use Rattle.page_table.specs.Messages.{messageCount}
 use Rattle.message_types.specs.KindNumbers.{ocppKind}
-use Rattle.page_rows.specs.Table.{lengthOf, bigOf}
-use Rattle.page_rows.proofs.Rules.{short-length}
+use Rattle.page_table.specs.Table.{lengthOf, bigOf}
+use Rattle.page_table.proofs.Rules.{short-length}
 use Rattle.rules.specs.declared.Slot.{Slot}
 use Rattle.rules.specs.Times.{receivedOf, ageOf}
 use Rattle.rules.specs.Record.{isSet}

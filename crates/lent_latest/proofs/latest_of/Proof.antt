@@ -3,7 +3,7 @@ use borrow.Author.Needs.{needs}
 use borrow.Author.Tests.{ltb-true, not-true, not-false, le-ltb}
 use native.Mathlib.Omega.{arith}
 use mathlib.Core.Path.{sym, _∙_}
-use Rattle.page_rows.specs.Messages.{messageCount}
+use Rattle.page_table.specs.Messages.{messageCount}
 use Rattle.lent_look.proofs.Asked.{no-post, not-set-up, set-up}
 use Rattle.rule_pages.proofs.Places.{place-small}
 use Rattle.lent_latest.proofs.ByCase.{handed-by, handed-kept}

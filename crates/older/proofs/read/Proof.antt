@@ -3,7 +3,7 @@ use mathlib.Core.Path.{_≡_, sym, ap, _∙_}
 use mathlib.Core.Bool.{Bool}
 use mathlib.Core.List.{List}
 use Prim.Native.Nat.{ℕ}
-use Rattle.page_rows.specs.declared.Interface.the-variants.{Older}
+use Rattle.page_table.specs.declared.Interface.the-variants.{Older}
 use Rattle.page_read.specs.declared.Judged.{Judged}
 use Rattle.page_read.specs.Judge.{judgeOn}
 use Rattle.older.specs.declared.Reading.the-variants.{Accepted}

@@ -6,7 +6,7 @@ use Prim.Native.Nat.{ℕ}
 use lib.IntN.{ℤ}
 use mir.Facts.{toZ-ofZ}
 use borrow.Author.Needs.{needs}
-use Rattle.page_rows.specs.declared.Interface.the-variants.{Newer}
+use Rattle.page_table.specs.declared.Interface.the-variants.{Newer}
 use Rattle.page_read.specs.declared.Judged.{Judged}
 use Rattle.page_change.specs.Change.{changeOn, changeOf, bytesAfter}
 use Rattle.page_change.proofs.Changes.{newer-change}

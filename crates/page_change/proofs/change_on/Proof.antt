@@ -8,19 +8,19 @@ use lib.IntN.{ℤ}
 use lib.ListN.{length}
 use mir.Facts.{toZ-ofZ}
 use Rattle.payload.specs.Payload.{bytesOf}
-use Rattle.page_rows.specs.declared.Interface.{Interface}
-use Rattle.page_rows.specs.declared.Row.{Row}
-use Rattle.page_rows.specs.declared.Found.{Found}
-use Rattle.page_rows.specs.declared.Found.the-variants.{At, Nothing}
+use Rattle.page_table.specs.declared.Interface.{Interface}
+use Rattle.page_table.specs.declared.Row.{Row}
+use Rattle.page_table.specs.declared.Found.{Found}
+use Rattle.page_table.specs.declared.Found.the-variants.{At, Nothing}
 use Rattle.page_read.specs.declared.Judged.{Judged}
 use Rattle.page_read.specs.declared.Judged.the-variants.{Frame, Refused}
 use Rattle.refusals.specs.declared.Refusal.{Refusal}
 use Rattle.refusals.specs.declared.Refusal.the-variants.{NoSignal}
-use Rattle.page_rows.specs.Table.{rows, firstAt, isSignal}
+use Rattle.page_table.specs.Table.{rows, firstAt, isSignal}
 use Rattle.page_read.specs.Judge.{judgeOn}
 use Rattle.page_change.specs.Change.{changedRow, changedAt, changedIn, changeOn, bytesAfter}
-use Rattle.page_rows.proofs.Rules.{fine-at}
-use Rattle.page_rows.proofs.Firsts.{found-in}
+use Rattle.page_table.proofs.Rules.{fine-at}
+use Rattle.page_table.proofs.Firsts.{found-in}
 use Rattle.page_change.proofs.Stored.{Storing, storing}
 use Rattle.page_change.proofs.change_on.Statement.{statement}
 use Rattle.page_change.proofs.change_on.Tie as tie

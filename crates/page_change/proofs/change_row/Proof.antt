@@ -7,7 +7,7 @@ use borrow.Author.Needs.{needs}
 use Rattle.signal.specs.Raw.{fitsIn, bitsIn}
 use Rattle.page_read.specs.declared.Judged.the-variants.{Frame, Refused}
 use Rattle.refusals.specs.declared.Refusal.the-variants.{NoLabel}
-use Rattle.page_rows.specs.Table.{takes}
+use Rattle.page_table.specs.Table.{takes}
 use Rattle.page_write.specs.Raws.{rowTakes}
 use Rattle.page_read.proofs.Starts.{start-row}
 use Rattle.page_write.proofs.AtRow.{fits-row, bits-row, put-raw-row}

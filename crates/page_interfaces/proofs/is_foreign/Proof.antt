@@ -2,7 +2,7 @@
 use mathlib.Core.Path.{sym, ap, _∙_}
 use mathlib.Core.Bool.{not}
 use borrow.Author.Needs.{needs}
-use Rattle.page_rows.specs.Table.{rows, firstAt, hasId}
+use Rattle.page_table.specs.Table.{rows, firstAt, hasId}
 use Rattle.page_interfaces.specs.Foreign.{isForeign}
 use Rattle.page_interfaces.proofs.Foreign.{foreign-at, foreign-none}
 use Rattle.page_interfaces.proofs.is_foreign.Statement.{statement}

@@ -9,12 +9,12 @@ use native.Mathlib.Omega.{arith}
 use Prim.Native.Nat.{ℕ}
 use Rattle.payload.specs.Payload.{numberOf}
 use lib.ListN.{take}
-use Rattle.page_rows.specs.declared.Found.the-variants.{At, Nothing}
-use Rattle.page_rows.specs.declared.Row.{Row}
+use Rattle.page_table.specs.declared.Found.the-variants.{At, Nothing}
+use Rattle.page_table.specs.declared.Row.{Row}
 use Rattle.page_read.specs.declared.Judged.{Judged}
 use Rattle.page_read.specs.declared.Judged.the-variants.{Refused}
-use Rattle.page_rows.specs.Table.{rows, rowAt, rowsOf, hasId, firstAt}
-use Rattle.page_rows.specs.Interfaces.{isOn}
+use Rattle.page_table.specs.Table.{rows, rowAt, rowsOf, hasId, firstAt}
+use Rattle.page_table.specs.Interfaces.{isOn}
 use Rattle.page_read.specs.Judge.{judgedRow, judgeFrom}
 use Rattle.page_read.specs.Steps.{offenceOf, cleared, judgedBy, hasGaps}
 use Rattle.page_read.proofs.Covered.{cleared-none}

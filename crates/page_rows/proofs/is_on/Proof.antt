@@ -4,10 +4,10 @@ use Prim.Native.Nat.{ℕ}
 use mathlib.Core.Bool.{true, false}
 use lib.Dec.{leb, ltb}
 use borrow.Author.Tests.{lt-ltb, le-ltb, le-leb, lt-leb}
-use Rattle.page_rows.specs.declared.Interface.{Interface}
-use Rattle.page_rows.specs.declared.Interface.the-variants.{Newer, Older}
-use Rattle.page_rows.specs.Messages.{kindCount, restKind}
-use Rattle.page_rows.specs.Interfaces.{safetyKind, isOn}
+use Rattle.page_table.specs.declared.Interface.{Interface}
+use Rattle.page_table.specs.declared.Interface.the-variants.{Newer, Older}
+use Rattle.page_table.specs.Messages.{kindCount, restKind}
+use Rattle.page_table.specs.Interfaces.{safetyKind, isOn}
 use borrow.Author.Needs.{needs}
 use Rattle.page_rows.proofs.is_on.Statement.{statement}
 use Rattle.page_rows.proofs.is_on.Tie as tie

@@ -1,7 +1,7 @@
 -- `page_rows::row_of` meets its contract: what the kind's message says stands in the row.
 use mathlib.Core.Path.{ap}
 use borrow.Author.Needs.{needs}
-use Rattle.page_rows.specs.Layout.{rowWith}
+use Rattle.page_table.specs.Layout.{rowWith}
 use Rattle.page_rows.proofs.row_of.Statement.{statement}
 use Rattle.page_rows.proofs.row_of.Tie as tie
 

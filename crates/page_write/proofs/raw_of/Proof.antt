@@ -7,11 +7,11 @@ use mir.Syntax.{w64}
 use mir.Facts.{toZ-ofZ}
 use borrow.Author.Needs.{needs}
 use borrow.Author.Tests.{eqb-true}
-use Rattle.page_rows.specs.declared.Row.{Row}
-use Rattle.page_rows.specs.Table.{rows, noRow, rowsOf, hasKind}
-use Rattle.page_rows.specs.Table.{signalCount}
+use Rattle.page_table.specs.declared.Row.{Row}
+use Rattle.page_table.specs.Table.{rows, noRow, rowsOf, hasKind}
+use Rattle.page_table.specs.Table.{signalCount}
 use Rattle.page_write.specs.Raws.{wholesOf, pad, rawsOf}
-use Rattle.page_rows.proofs.Firsts.{first-kind, none-kind, found-in}
+use Rattle.page_table.proofs.Firsts.{first-kind, none-kind, found-in}
 use Rattle.page_write.proofs.Places.{pad-at, pad-past, pad-none}
 use Rattle.page_write.proofs.raw_of.Statement.{statement}
 use Rattle.page_write.proofs.raw_of.Tie as tie

@@ -2,10 +2,10 @@
 use borrow.Author.Needs.{needs}
 use mathlib.Core.Path.{_≡_, sym, ap, _∙_}
 use mathlib.Core.List.{List}
-use Rattle.page_rows.specs.declared.Row.{Row}
-use Rattle.page_rows.specs.Table.{signalCount}
+use Rattle.page_table.specs.declared.Row.{Row}
+use Rattle.page_table.specs.Table.{signalCount}
 use Rattle.page_write.specs.Raws.{wholesOf, pad, rawsOf}
-use Rattle.page_rows.proofs.Firsts.{first-kind, none-kind}
+use Rattle.page_table.proofs.Firsts.{first-kind, none-kind}
 use Rattle.page_write.proofs.raws_of.Statement.{statement}
 use Rattle.page_write.proofs.raws_of.Tie as tie
 

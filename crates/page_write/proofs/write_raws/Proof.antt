@@ -11,16 +11,16 @@ use lib.IntN.{ℤ}
 use lib.ListN.{length}
 use Rattle.payload.specs.Payload.{storedIn}
 use Rattle.payload.proofs.Stored.{stored-not}
-use Rattle.page_rows.specs.declared.Row.{Row}
+use Rattle.page_table.specs.declared.Row.{Row}
 use Rattle.refusals.specs.declared.Refusal.the-variants.{NoRawNumber}
 use Rattle.page_write.specs.declared.Written.{Written}
 use Rattle.page_write.specs.declared.Written.the-variants.{Wrote, Refused}
 use Rattle.page_write.specs.declared.Packed.{Packed}
 use Rattle.page_write.specs.declared.Packed.the-variants as packed
-use Rattle.page_rows.specs.Table.{rowsOf, lengthOf, bigOf}
+use Rattle.page_table.specs.Table.{rowsOf, lengthOf, bigOf}
 use Rattle.page_write.specs.Raws.{allTake, packedOn, canWrite, writtenBy, writeRawsOf, bufferAfter}
 use Rattle.page_write.specs.Steps.{packOf}
-use Rattle.page_rows.proofs.Firsts.{first-kind, none-kind}
+use Rattle.page_table.proofs.Firsts.{first-kind, none-kind}
 use Rattle.page_write.proofs.write_raws.Statement.{statement}
 use Rattle.page_write.proofs.write_raws.Tie as tie
 

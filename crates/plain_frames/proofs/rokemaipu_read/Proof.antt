@@ -12,7 +12,7 @@ use lib.ListN.{length, drop}
 use Rattle.refusals.specs.declared.Refusal.the-variants.{ShortBuffer}
 use Rattle.page_read.specs.declared.Judged.{Judged}
 use Rattle.page_read.specs.Judge.{judgeOf}
-use Rattle.page_rows.specs.Table.{signalCount}
+use Rattle.page_table.specs.Table.{signalCount}
 use Rattle.page_write.specs.Raws.{rawsOf}
 use Rattle.page_bounds.proofs.Bounds.{SmallJudged, judge-small}
 use Rattle.plain_words.specs.Words.{answers, refuses, outcomeWord}

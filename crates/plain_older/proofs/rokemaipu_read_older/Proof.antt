@@ -12,9 +12,9 @@ use lib.ListN.{length, drop}
 use Rattle.refusals.specs.declared.Refusal.the-variants.{ShortBuffer}
 use Rattle.page_read.specs.declared.Judged.{Judged}
 use Rattle.page_read.specs.Judge.{judgeOn}
-use Rattle.page_rows.specs.declared.Interface.the-variants.{Older}
-use Rattle.page_rows.specs.Messages.{restKind}
-use Rattle.page_rows.specs.Table.{signalCount}
+use Rattle.page_table.specs.declared.Interface.the-variants.{Older}
+use Rattle.page_table.specs.Messages.{restKind}
+use Rattle.page_table.specs.Table.{signalCount}
 use Rattle.page_write.specs.Raws.{rawsOf}
 use Rattle.page_bounds.proofs.Bounds.{SmallBelow, judge-small-on}
 use Rattle.plain_words.specs.Words.{answers, refuses, outcomeWord}

@@ -12,8 +12,8 @@ use Rattle.payload.specs.Payload.{bytesOf}
 use Rattle.payload.proofs.Stored.{stored-all}
 use Rattle.payload.specs.Order.{edge}
 use Rattle.payload.proofs.WholeBytes.{WholeFacts, whole-facts, whole-stored}
-use Rattle.page_rows.specs.declared.Row.{Row}
-use Rattle.page_rows.proofs.Rules.{both-true}
+use Rattle.page_table.specs.declared.Row.{Row}
+use Rattle.page_table.proofs.Rules.{both-true}
 use Rattle.page_change.proofs.whole.store_changed.Statement.{statement}
 use Rattle.page_change.proofs.whole.store_changed.Tie as tie
 

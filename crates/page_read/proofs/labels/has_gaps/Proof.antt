@@ -4,7 +4,7 @@ use mathlib.Core.Bool.{true, false}
 use Prim.Native.Nat.{ℕ}
 use borrow.Author.Tests.{ne-eqb}
 use Rattle.page_read.specs.Steps.{hasGaps}
-use Rattle.page_rows.proofs.Keys.{at-key}
+use Rattle.page_table.proofs.Keys.{at-key}
 use Rattle.page_read.proofs.labels.has_gaps.Statement.{statement}
 use Rattle.page_read.proofs.labels.has_gaps.Tie as tie
 

@@ -4,14 +4,14 @@ use mathlib.Core.Bool.{Bool, true, false, true≢false}
 use mathlib.Core.List.{List}
 use Prim.Native.Nat.{ℕ, _≤_}
 use borrow.Author.Needs.{needs}
-use Rattle.page_rows.specs.declared.Row.{Row}
-use Rattle.page_rows.specs.Messages.{messageCount}
-use Rattle.page_rows.specs.Table.{rows, rowsOf, ofKind}
+use Rattle.page_table.specs.declared.Row.{Row}
+use Rattle.page_table.specs.Messages.{messageCount}
+use Rattle.page_table.specs.Table.{rows, rowsOf, ofKind}
 use Rattle.page_read.specs.declared.Offence.the-variants.{Nothing}
 use Rattle.page_read.specs.Steps.{offenceOf, hasGaps}
-use Rattle.page_rows.proofs.Keys.{past-keys}
-use Rattle.page_rows.proofs.Firsts.{none-kind}
-use Rattle.page_rows.proofs.Heads.{no-kind}
+use Rattle.page_table.proofs.Keys.{past-keys}
+use Rattle.page_table.proofs.Firsts.{none-kind}
+use Rattle.page_table.proofs.Heads.{no-kind}
 use Rattle.page_read.proofs.labels.offence.Statement.{statement}
 use Rattle.page_read.proofs.labels.offence.Tie as tie
 

@@ -2,9 +2,9 @@
 use mathlib.Core.Path.{_≡_, sym, ap, _∙_, subst}
 use borrow.Author.Needs.{needs}
 use Rattle.page_read.specs.declared.Offence.the-variants.{Start}
-use Rattle.page_rows.specs.declared.Row.{Row}
-use Rattle.page_rows.specs.Layout.{rowOf}
-use Rattle.page_rows.specs.Table.{Fine, bitsAt, takes}
+use Rattle.page_table.specs.declared.Row.{Row}
+use Rattle.page_table.specs.Layout.{rowOf}
+use Rattle.page_table.specs.Table.{Fine, bitsAt, takes}
 use Rattle.page_read.proofs.Starts.{start-row}
 use Rattle.page_read.proofs.signals.offence_at.Statement.{statement}
 use Rattle.page_read.proofs.signals.offence_at.Tie as tie

@@ -9,13 +9,13 @@ use lib.Pow.{pow-pos}
 use borrow.Author.Tests.{not-true, not-false}
 use borrow.Author.Needs.{needs}
 use Rattle.signal.proofs.Totals.{put-in}
-use Rattle.page_rows.specs.declared.Row.{Row}
+use Rattle.page_table.specs.declared.Row.{Row}
 use Rattle.page_read.specs.declared.Offence.{Offence}
 use Rattle.page_read.specs.declared.Offence.the-variants.{Nothing, Start}
-use Rattle.page_rows.specs.Table.{rows, rowCount, block, lowest, bitsAt, takes}
+use Rattle.page_table.specs.Table.{rows, rowCount, block, lowest, bitsAt, takes}
 use Rattle.page_read.specs.Steps.{offenceOf, cleared, judgedBy}
-use Rattle.page_rows.proofs.Rules.{fine-at}
-use Rattle.page_rows.proofs.Walk.{block-in, block-out, block-end}
+use Rattle.page_table.proofs.Rules.{fine-at}
+use Rattle.page_table.proofs.Walk.{block-in, block-out, block-end}
 use Rattle.page_read.proofs.Starts.{start-row}
 use Rattle.page_read.proofs.signals.sifted.Statement.{statement}
 use Rattle.page_read.proofs.signals.sifted.Tie as tie

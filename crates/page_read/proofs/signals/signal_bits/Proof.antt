@@ -2,7 +2,7 @@
 use mathlib.Core.Path.{_∙_}
 use borrow.Author.Needs.{needs}
 use Rattle.signal.proofs.Totals.{get-in}
-use Rattle.page_rows.specs.Table.{lowest}
+use Rattle.page_table.specs.Table.{lowest}
 use Rattle.page_read.proofs.signals.signal_bits.Statement.{statement}
 use Rattle.page_read.proofs.signals.signal_bits.Tie as tie
 

@@ -1,8 +1,8 @@
 -- `page_rows::contents::message_at` meets its contract: arm k hands out message k, and the last arm what a number that is no kind says.
 use mathlib.Core.Path.{sym}
 use lib.ListN.{List·getD-eq-default}
-use Rattle.page_rows.specs.Messages.{messageCount, messages, noMessage, messageOf}
-use Rattle.page_rows.proofs.Keys.{at-key, past-keys}
+use Rattle.page_table.specs.Messages.{messageCount, messages, noMessage, messageOf}
+use Rattle.page_table.proofs.Keys.{at-key, past-keys}
 use Rattle.page_rows.proofs.contents.message_at.Statement.{statement}
 use Rattle.page_rows.proofs.contents.message_at.Tie as tie
 

@@ -2,8 +2,8 @@
 use mathlib.Core.Path.{sym, _∙_}
 use lib.ListN.{List·getD-eq-default}
 use borrow.Author.Needs.{needs}
-use Rattle.page_rows.specs.Table.{rows, noRow}
-use Rattle.page_rows.proofs.Rules.{rows-length}
+use Rattle.page_table.specs.Table.{rows, noRow}
+use Rattle.page_table.proofs.Rules.{rows-length}
 use Rattle.page_rows.proofs.table.row_to_change.Statement.{statement}
 use Rattle.page_rows.proofs.table.row_to_change.Tie as tie
 

@@ -7,7 +7,7 @@ use mir.Facts.{toZ-ofZ}
 use borrow.Author.Tests.{le-leb, lt-leb}
 use Rattle.signal.specs.Twos.{ofSigned}
 use Rattle.signal.specs.Raw.{fitsIn}
-use Rattle.page_rows.specs.Table.{takes}
+use Rattle.page_table.specs.Table.{takes}
 use Rattle.page_write.proofs.AtRow.{low-row}
 use Rattle.page_write.proofs.Words.{below, below-fits, fits-sum}
 use borrow.Author.Needs.{needs}

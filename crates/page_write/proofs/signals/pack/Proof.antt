@@ -13,15 +13,15 @@ use mir.Syntax.{w64}
 use mir.Facts.{toZ-ofZ}
 use borrow.Author.Tests.{not-true, not-false}
 use borrow.Author.Needs.{needs}
-use Rattle.page_rows.specs.declared.Row.{Row}
+use Rattle.page_table.specs.declared.Row.{Row}
 use Rattle.page_write.specs.declared.Packed.{Packed}
 use Rattle.page_write.specs.declared.Packed.the-variants.{Number, Refused}
-use Rattle.page_rows.specs.Table.{rows, rowCount, block}
-use Rattle.page_rows.specs.Table.{signalCount}
+use Rattle.page_table.specs.Table.{rows, rowCount, block}
+use Rattle.page_table.specs.Table.{signalCount}
 use Rattle.page_write.specs.Raws.{rowTakes, putRaw, allTake, packedOn}
 use Rattle.page_write.specs.Steps.{packOf}
-use Rattle.page_rows.proofs.Rules.{fine-at}
-use Rattle.page_rows.proofs.Walk.{block-in, block-out, block-end}
+use Rattle.page_table.proofs.Rules.{fine-at}
+use Rattle.page_table.proofs.Walk.{block-in, block-out, block-end}
 use Rattle.page_write.proofs.AtRow.{labels-at}
 use Rattle.page_write.proofs.signals.pack.Statement.{statement}
 use Rattle.page_write.proofs.signals.pack.Tie as tie

@@ -4,9 +4,9 @@ use mathlib.Core.Logic.{inl, inr}
 use mir.Syntax.{w64}
 use mir.Facts.{toZ-ofZ}
 use borrow.Author.Needs.{needs}
-use Rattle.page_rows.specs.declared.Row.{Row}
+use Rattle.page_table.specs.declared.Row.{Row}
 use Rattle.page_write.specs.Raws.{wholeAt}
-use Rattle.page_rows.proofs.Rules.{fine-at}
+use Rattle.page_table.proofs.Rules.{fine-at}
 use Rattle.page_write.proofs.Places.{number-in, number-out}
 use Rattle.page_write.proofs.signals.raw_after.Statement.{statement}
 use Rattle.page_write.proofs.signals.raw_after.Tie as tie

@@ -7,7 +7,7 @@ use Rattle.signal.specs.Raw.{wholeOf}
 use Rattle.signal.proofs.Laws.{get-lt}
 use Rattle.signal.proofs.RawLaws.{whole-in}
 use Rattle.signal.proofs.Totals.{get-in}
-use Rattle.page_rows.specs.Table.{lowest, bitsAt}
+use Rattle.page_table.specs.Table.{lowest, bitsAt}
 use Rattle.page_write.proofs.signals.signal_whole.Statement.{statement}
 use Rattle.page_write.proofs.signals.signal_whole.Tie as tie
 

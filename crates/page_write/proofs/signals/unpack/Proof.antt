@@ -12,12 +12,12 @@ use mir.Val.{toZ, ofZ}
 use mir.Syntax.{w64}
 use mir.Facts.{toZ-ofZ}
 use borrow.Author.Needs.{needs}
-use Rattle.page_rows.specs.declared.Row.{Row}
-use Rattle.page_rows.specs.Table.{rows, rowCount, block}
-use Rattle.page_rows.specs.Table.{signalCount}
+use Rattle.page_table.specs.declared.Row.{Row}
+use Rattle.page_table.specs.Table.{rows, rowCount, block}
+use Rattle.page_table.specs.Table.{signalCount}
 use Rattle.page_write.specs.Raws.{wholeAt, wholesOf, pad}
-use Rattle.page_rows.proofs.Rules.{fine-at}
-use Rattle.page_rows.proofs.Walk.{block-in, block-out, block-end}
+use Rattle.page_table.proofs.Rules.{fine-at}
+use Rattle.page_table.proofs.Walk.{block-in, block-out, block-end}
 use Rattle.page_write.proofs.signals.unpack.Statement.{statement}
 use Rattle.page_write.proofs.signals.unpack.Tie as tie
 

@@ -1,7 +1,7 @@
 -- `readings::show::raws` is safe and ends: j is at most the number of places, and what is left of them falls.
 use Prim.Native.Nat.{_≤_, _-_}
 use borrow.Author.Needs.{needs}
-use Rattle.page_rows.specs.Table.{signalCount}
+use Rattle.page_table.specs.Table.{signalCount}
 use Rattle.readings.proofs.show.raws.Statement.{statement}
 use Rattle.readings.proofs.show.raws.Tie as tie
 
