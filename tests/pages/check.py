@@ -228,7 +228,7 @@ for document, signals in zip(DOCUMENTS, papers):
     listed = constants(code, 'Line')
     if 'LINES' in code:
         names = [name for name, _ in listed]
-        if names != array(code, 'LINES', 'Line') + array(code, 'MORE_LINES', 'Line'):
+        if names != array(code, 'LINES', 'Line'):
             fault(f'{place}: the constants and the arrays do not list the same names in the same order')
     else:
         # a row in each arm, at its place in the table, or the name of its constant

@@ -1,15 +1,12 @@
 // The rows of document 000, the charger-side pages: extended identifiers, byte 0 lowest. In the order of their identifiers and, within a message, of
 // their starts.
 ghost use mathlib.Core.Path.{_≡_};
-ghost use Prim.Native.Nat.{_≤_, _<_};
+ghost use Prim.Native.Nat.{_<_};
 ghost use lib.ListN.{getD};
 ghost use Rattle.page_table.specs.Table.{rows, noRow};
 ghost use Rattle.page_table.specs.Layout.{rowOf};
 use crate::NO_LINE;
 use page_table::Line;
-
-// Where DC_Power_Control begins, and the end.
-pub const MIDDLE: usize = 14;
 
 pub const END: usize = 30;
 
@@ -82,8 +79,8 @@ pub const BYTE4: Line = Line(8, 32, 8, 32, false, 0);
 
 pub const BYTE5: Line = Line(8, 40, 8, 40, false, 0);
 
-// 01: "layouts are one constant table". The rows in their order, in two arrays, since to the prover each arm carries its whole array.
-const LINES: [Line; 14] = [
+// 01: "layouts are one constant table". The rows in their order.
+const LINES: [Line; 30] = [
     // Power_Modules_Status
     PRESENT_VOLTAGE,
     PRESENT_CURRENT,
@@ -103,9 +100,6 @@ const LINES: [Line; 14] = [
     PLUG_AND_PINS,
     // Charge_Status_Change
     VEHICLE_READY_FOR_CHARGING,
-];
-
-const MORE_LINES: [Line; 16] = [
     // DC_Power_Control
     TARGET_VOLTAGE,
     CURRENT_RANGE_MAX,
@@ -130,8 +124,8 @@ const MORE_LINES: [Line; 16] = [
 
 // In each arm the index is known beforehand, and the compiler makes look-up tables of the array; of one that is not known it builds the whole array
 // on the stack at each call.
-fn lower_line_at(i: usize) -> Line
-    requires { ⌜ i < 14 ⌝ }
+pub fn line_at(i: usize) -> Line
+    requires { ⌜ i < 30 ⌝ }
     ensures { λ l. ⌜ rowOf l ≡ getD rows i noRow ⌝ }
 {
     let lines = LINES;
@@ -150,43 +144,22 @@ fn lower_line_at(i: usize) -> Line
         11 => lines[11],
         12 => lines[12],
         13 => lines[13],
+        14 => lines[14],
+        15 => lines[15],
+        16 => lines[16],
+        17 => lines[17],
+        18 => lines[18],
+        19 => lines[19],
+        20 => lines[20],
+        21 => lines[21],
+        22 => lines[22],
+        23 => lines[23],
+        24 => lines[24],
+        25 => lines[25],
+        26 => lines[26],
+        27 => lines[27],
+        28 => lines[28],
+        29 => lines[29],
         _ => NO_LINE,
     }
-}
-
-// And from DC_Power_Control on.
-fn upper_line_at(i: usize) -> Line
-    requires { ⌜ (14 ≤ i) × (i < 30) ⌝ }
-    ensures { λ l. ⌜ rowOf l ≡ getD rows i noRow ⌝ }
-{
-    let lines = MORE_LINES;
-    match i {
-        14 => lines[0],
-        15 => lines[1],
-        16 => lines[2],
-        17 => lines[3],
-        18 => lines[4],
-        19 => lines[5],
-        20 => lines[6],
-        21 => lines[7],
-        22 => lines[8],
-        23 => lines[9],
-        24 => lines[10],
-        25 => lines[11],
-        26 => lines[12],
-        27 => lines[13],
-        28 => lines[14],
-        29 => lines[15],
-        _ => NO_LINE,
-    }
-}
-
-pub fn line_at(i: usize) -> Line
-    requires { ⌜ i < 30 ⌝ }
-    ensures { λ l. ⌜ rowOf l ≡ getD rows i noRow ⌝ }
-{
-    if i < MIDDLE {
-        return lower_line_at(i);
-    }
-    upper_line_at(i)
 }
