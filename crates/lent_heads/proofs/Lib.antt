@@ -1,3 +1,4 @@
 pub mod Posts
+pub mod HeadCode
 pub mod InHead
 pub mod OnePost

@@ -69,6 +69,7 @@ use Rattle.lent_walks.proofs.Called.{called}
 use Rattle.lent_walks.proofs.Params.{Param, word, rows, mir-types, mirs-are, lawful}
 use Rattle.lent_table.proofs.Entry.{table-val, Wanted, values, in-a-row, signature, ended, Tok, Own, Held, Walk, Shown}
 use Rattle.lent_table.proofs.Entry as Entry
+use Rattle.lent_heads.proofs.HeadCode.{fn}
 use Rattle.lent_heads.proofs.InHead as In
 use Rattle.lent_look.proofs.InMemory.{head-val, head-at, count-is, entry-fits}
 use Rattle.lent_heads.proofs.Posts.{Parts, Known, arrival-val, limits-val, limits-at, Told, heard}
@@ -156,7 +157,7 @@ module _ {M : Type 1} (𝓤 : URA M) (H : Heap 𝓤) (𝓜 : Model 𝓤 H) (𝓖
       → ent 𝓤 (mean 𝓤 H A (Tok ps 𝓤 A κs qs ⊛ ‵ (owns (Lim.the-row ∷ rows ps κs) (x, a) (limits-val x ∷ [], values ps κs a)))) (C f (limits-val x ∷ in-a-row ps κs a) (Reads 𝓤 H A (toks 𝓤 A n (κs .1) (qs .1)) (comes κs a x)))) where
     -- the entry's MIR
     abbrev entry : Fn
-    entry = In.fn (suc n) (mir-types ps) finder-def.name f stepper-def.name
+    entry = fn (suc n) (mir-types ps) finder-def.name f stepper-def.name
 
     walk : Walk 𝓤 H A (word ∷ word ∷ ps) wanted (WpFn 𝓤 H C (tables 𝓤 H 𝓜 𝓡 env .Λ) entry)
     unfolding tablesOf
