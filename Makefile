@@ -24,7 +24,7 @@ run: replay
 	@tools/replay $(POSTS) $(LOG)
 
 replay:
-	@[ -x target/bin/replay ] || echo "proving and building the replay: about 11 minutes, once" >&2
+	@[ -x target/bin/replay ] || echo "proving and building the replay: about 8 minutes, once" >&2
 	@TMPDIR=$$(tools/processors/scratch) rt check replay > replay.log 2>&1 || { cat replay.log; rm -f replay.log; exit 1; }
 	@rm -f replay.log
 	@[ "$$(uname -m)" != aarch64 ] || ! command -v $(CC) >/dev/null || tools/build replay >/dev/null
