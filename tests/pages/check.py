@@ -1,6 +1,7 @@
 #!/usr/bin/env python3
-"""check.py [FOLDER]: holds the tables of the crates to the maker's documents: every message and row of page_rows (the code's) and of page_table (the
-definitions'), every label of messages, and which field of a message's type each signal is, in reading and in writing (the definitions', to which the code is proved equal).
+"""check.py [FOLDER]: holds the tables of the crates to the maker's documents: every message and row of page_rows and page_charger (the code's) and of
+page_table (the definitions'), every label of messages, and which field of a message's type each signal is, in reading and in writing (the definitions', to
+which the code is proved equal).
 
 000.txt, 004.txt and 001.txt were extracted from documents 000, 004 and 001 by extract.py. A table typed wrongly in src/ and specs/ alike is proved equal and is wrong: here
 it fails.
@@ -17,25 +18,25 @@ Document = namedtuple('Document', 'text, messages, extended, code, specs, read, 
 DOCUMENTS = (
     Document('000.txt', ['Power_Modules_Status', 'DC_Power_Parameters', 'Advantics_Controller_Status', 'New_Charge_Session', 'Charge_Status_Change',
                          'DC_Power_Control', 'Charge_Session_Finished', 'Emergency_Stop', 'EV_ID_CCS_Part2_DIN'],
-             True, ['src/charger.rt'], 'specs/Charger.antt', ['message_parts/specs/Watched.antt', 'message_charger/specs/Build.antt'],
+             True, ['page_charger/src/lib.rt'], 'specs/Charger.antt', ['message_parts/specs/Watched.antt', 'message_charger/specs/Build.antt'],
              ['message_charger/specs/Take.antt']),
     Document('004.txt', ['ChargeControl1', 'ChargeState1', 'PT1000State'],
-             False, ['src/safety.rt'], 'specs/Safety.antt', ['message_safety/specs/Build.antt'], ['message_safety/specs/Take.antt']),
+             False, ['page_rows/src/safety.rt'], 'specs/Safety.antt', ['message_safety/specs/Build.antt'], ['message_safety/specs/Take.antt']),
     Document('001.txt', ['Power_Modules_Status', 'Power_Modules_Limits', 'Sequence_Control', 'ADM_CS_SECC_Outputs', 'New_Charge_Session', 'Insulation_Test', 'Precharge',
                          'Charge_Status_Change', 'Charging_Loop', 'Emergency_Stop', 'Charge_Session_Finished', 'Advantics_Controller_Status', 'ADM_CO_CUI1_Inputs',
                          'ADM_CS_SECC_Inputs', 'EV_ID_CCS_Part2_DIN', 'ADM_CS_SPCC_Inputs', 'CCS_Extra_Information', 'MCS_Extra_Information'],
-             True, ['src/older.rt'], 'specs/Older.antt',
+             True, ['page_rows/src/older.rt'], 'specs/Older.antt',
              ['message_inputs/specs/Build.antt', 'older_power/specs/Build.antt', 'older_controller/specs/Build.antt'],
              ['message_inputs/specs/Take.antt', 'older_power/specs/Take.antt', 'older_controller/specs/Take.antt']),
     Document('000.txt', ['Sequence_Control', 'ADM_CS_SECC_Outputs', 'EV_Information_Battery', 'EV_Information_Voltages', 'EV_Information_Charge_Limits',
                          'EV_Information_Discharge_Limits', 'EV_Information_Energy', 'ADM_CO_CUI1_Inputs', 'ADM_CS_SECC_Inputs', 'ADM_CS_SPCC_Inputs',
                          'CCS_Extra_Information', 'MCS_Extra_Information', 'OCPP_Control'],
-             True, ['src/vehicle.rt', 'src/inputs.rt'], 'specs/Rest.antt', ['message_inputs/specs/Build.antt', 'message_vehicle/specs/Build.antt'],
+             True, ['page_rows/src/vehicle.rt', 'page_rows/src/inputs.rt'], 'specs/Rest.antt', ['message_inputs/specs/Build.antt', 'message_vehicle/specs/Build.antt'],
              ['message_inputs/specs/Take.antt', 'message_vehicle/specs/Take.antt']),
 )
 # 000 and 001 have messages of one name: a kind is a document's message
 KINDS = [(d.text, m) for d in DOCUMENTS for m in d.messages]
-ROWS = ROOT / 'crates/page_rows'
+CRATES = ROOT / 'crates'
 TABLE = ROOT / 'crates/page_table'
 # label type, and the names of its number and label functions
 LABELS = {
@@ -204,7 +205,7 @@ for k, (kind, page) in enumerate(((document.text, s[0]), s[2]) for document, sig
     if pages.setdefault(kind, (page, k))[0] != page:
         fault(f'{kind}: its signals disagree on the message')
 wanted = [(*pages[m][0], pages[m][1]) for m in KINDS]
-code = (ROWS / 'src/contents.rt').read_text()
+code = (CRATES / 'page_rows/src/contents.rt').read_text()
 specs = (TABLE / 'specs/Messages.antt').read_text()
 listed = constants(code, 'Message')[:-1]
 held('src/contents.rt', [page for _, page in listed], wanted)
@@ -222,7 +223,7 @@ for place, have in (('src/contents.rt', names), ('specs/Messages.antt', [name fo
 rows = seen = 0
 labels = (ROOT / 'crates/message_types/specs/Labels.antt').read_text()
 for document, signals in zip(DOCUMENTS, papers):
-    code = '\n'.join((ROWS / file).read_text() for file in document.code)
+    code = '\n'.join((CRATES / file).read_text() for file in document.code)
     place = ', '.join(document.code)
     specs = (TABLE / document.specs).read_text()
     listed = constants(code, 'Line')

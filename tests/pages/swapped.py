@@ -24,7 +24,7 @@ SWAPS = (
 def checked(path, first, second):
     """What check.py says of a copy of the definitions in which the two words changed places."""
     with tempfile.TemporaryDirectory() as folder:
-        for crate in ('page_table', 'page_rows', 'message_types', 'message_parts', 'message_charger', 'message_safety', 'message_inputs', 'message_vehicle', 'older_power', 'older_controller'):
+        for crate in ('page_table', 'page_charger', 'page_rows', 'message_types', 'message_parts', 'message_charger', 'message_safety', 'message_inputs', 'message_vehicle', 'older_power', 'older_controller'):
             shutil.copytree(ROOT / 'crates' / crate, Path(folder, 'crates', crate))
         file = Path(folder, path)
         text = file.read_text()

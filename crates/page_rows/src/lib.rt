@@ -12,24 +12,12 @@ use page_table::Row;
 use page_table::SAFETY_KIND;
 
 mod contents; // contents.rt: the messages, and where the rows of each begin
-mod charger; // charger.rt: the rows of document 000, the base messages
 mod safety; // safety.rt: the rows of document 004
 mod older; // older.rt: the rows of document 001
 mod vehicle; // vehicle.rt: the rows of document 000 that Req 14 adds, to EV_Information_Energy
 mod inputs; // inputs.rt: and from ADM_CO_CUI1_Inputs on
 mod table; // table.rt: all of them
 
-pub use charger::COMMUNICATION_PROTOCOL;
-pub use charger::CONTROLLER_STATE;
-pub use charger::FINISHED_STATE;
-pub use charger::LOWER_OUTPUT_VOLTAGE;
-pub use charger::OUTPUT_CONTACTORS;
-pub use charger::PLUG_AND_PINS;
-pub use charger::POWER_FUNCTION;
-pub use charger::SETPOINTS_MODE;
-pub use charger::STOP_ORIGIN;
-pub use charger::SYSTEM_ENABLE;
-pub use charger::VEHICLE_READY_FOR_CHARGING;
 pub use contents::MESSAGES;
 pub use contents::OLDER;
 pub use contents::REST;
@@ -47,6 +35,17 @@ pub use older::OLD_PLUG_AND_PINS;
 pub use older::OLD_STOP_ORIGIN;
 pub use older::OLD_SYSTEM_ENABLE;
 pub use older::OLD_VEHICLE_READY_FOR_CHARGING;
+pub use page_charger::COMMUNICATION_PROTOCOL;
+pub use page_charger::CONTROLLER_STATE;
+pub use page_charger::FINISHED_STATE;
+pub use page_charger::LOWER_OUTPUT_VOLTAGE;
+pub use page_charger::OUTPUT_CONTACTORS;
+pub use page_charger::PLUG_AND_PINS;
+pub use page_charger::POWER_FUNCTION;
+pub use page_charger::SETPOINTS_MODE;
+pub use page_charger::STOP_ORIGIN;
+pub use page_charger::SYSTEM_ENABLE;
+pub use page_charger::VEHICLE_READY_FOR_CHARGING;
 pub use table::ROW_COUNT;
 pub use table::row_at;
 pub use table::row_to_change;

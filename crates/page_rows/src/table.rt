@@ -3,7 +3,6 @@ ghost use mathlib.Core.Path.{_≡_};
 ghost use lib.ListN.{getD};
 ghost use Rattle.page_table.specs.Table.{rows, noRow};
 use crate::NO_ROW;
-use crate::charger;
 use crate::inputs;
 use crate::older;
 use crate::row_of;
@@ -19,8 +18,8 @@ pub fn row_at(i: usize) -> Row
     if ROW_COUNT <= i {
         return NO_ROW;
     }
-    if i < charger::END {
-        return row_of(charger::line_at(i));
+    if i < page_charger::END {
+        return row_of(page_charger::line_at(i));
     }
     if i < safety::END {
         return row_of(safety::line_at(i));
@@ -43,8 +42,8 @@ pub fn row_to_sift(i: usize) -> Row
     if ROW_COUNT <= i {
         return NO_ROW;
     }
-    if i < charger::END {
-        return row_of(charger::line_at(i));
+    if i < page_charger::END {
+        return row_of(page_charger::line_at(i));
     }
     if i < safety::END {
         return row_of(safety::line_at(i));
@@ -64,8 +63,8 @@ pub fn row_to_unpack(i: usize) -> Row
     if ROW_COUNT <= i {
         return NO_ROW;
     }
-    if i < charger::END {
-        return row_of(charger::line_at(i));
+    if i < page_charger::END {
+        return row_of(page_charger::line_at(i));
     }
     if i < safety::END {
         return row_of(safety::line_at(i));
@@ -85,8 +84,8 @@ pub fn row_to_seek(i: usize) -> Row
     if ROW_COUNT <= i {
         return NO_ROW;
     }
-    if i < charger::END {
-        return row_of(charger::line_at(i));
+    if i < page_charger::END {
+        return row_of(page_charger::line_at(i));
     }
     if i < safety::END {
         return row_of(safety::line_at(i));
@@ -106,8 +105,8 @@ pub fn row_to_change(i: usize) -> Row
     if ROW_COUNT <= i {
         return NO_ROW;
     }
-    if i < charger::END {
-        return row_of(charger::line_at(i));
+    if i < page_charger::END {
+        return row_of(page_charger::line_at(i));
     }
     if i < safety::END {
         return row_of(safety::line_at(i));

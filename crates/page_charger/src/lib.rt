@@ -1,11 +1,10 @@
-// The rows of document 000, the charger-side pages: extended identifiers, byte 0 lowest. In the order of their identifiers and, within a message, of
-// their starts.
+// The rows of document 000, the charger-side pages, that 01 has: extended identifiers, byte 0 lowest. In the order of their identifiers and, within a message,
+// of their starts. For `page_rows`, which has the whole table. It takes any index.
 ghost use mathlib.Core.Path.{_≡_};
-ghost use Prim.Native.Nat.{_<_};
 ghost use lib.ListN.{getD};
-ghost use Rattle.page_table.specs.Table.{rows, noRow};
+ghost use Rattle.page_table.specs.Charger.{chargerRows};
 ghost use Rattle.page_table.specs.Layout.{rowOf};
-use crate::NO_LINE;
+ghost use Rattle.page_charger.specs.Past.{past};
 use page_table::Line;
 
 pub const END: usize = 30;
@@ -125,8 +124,7 @@ const LINES: [Line; 30] = [
 // In each arm the index is known beforehand, and the compiler makes look-up tables of the array; of one that is not known it builds the whole array
 // on the stack at each call.
 pub fn line_at(i: usize) -> Line
-    requires { ⌜ i < 30 ⌝ }
-    ensures { λ l. ⌜ rowOf l ≡ getD rows i noRow ⌝ }
+    ensures { λ l. ⌜ rowOf l ≡ getD chargerRows i past ⌝ }
 {
     let lines = LINES;
     match i {
@@ -160,6 +158,6 @@ pub fn line_at(i: usize) -> Line
         27 => lines[27],
         28 => lines[28],
         29 => lines[29],
-        _ => NO_LINE,
+        _ => Line(0, 0, 0, 0, false, 0),
     }
 }

@@ -1,13 +1,19 @@
--- `page_rows::charger::line_at` meets its contract: arm k hands out row k, and no index is left for the last arm.
-use Prim.Native.Nat.{zero-le}
+-- `page_charger::line_at` meets its contract: arm k hands out row k, and the last arm's index is past the end.
+use Prim.Native.Nat.{ℕ}
 use native.Mathlib.Omega.{arith}
-use Rattle.page_table.specs.Table.{rows, rowAt}
-use Rattle.page_table.proofs.Keys.{at-key, no-key}
-use Rattle.page_rows.proofs.charger.line_at.Statement.{statement}
-use Rattle.page_rows.proofs.charger.line_at.Tie as tie
+use lib.ListN.{getD, List·getD-eq-default}
+use mathlib.Core.Path.{sym}
+use Rattle.page_table.specs.declared.Row.{Row}
+use Rattle.page_table.specs.Charger.{chargerRows}
+use Rattle.page_table.proofs.Keys.{at-key, past-keys}
+use Rattle.page_charger.specs.Past.{past}
+use Rattle.page_charger.proofs.line_at.Statement.{statement}
+use Rattle.page_charger.proofs.line_at.Tie as tie
+
+abbrev rowAt : ℕ → Row
+rowAt i = getD chargerRows i past
 
 pub line-at-spec : {M : Type 1} → statement M
-unfolding rows
 line-at-spec =
     tie.close
     (tie.spec
@@ -71,4 +77,4 @@ line-at-spec =
     (λ c. at-key rowAt 27 (c .before .match .keys28))
     (λ c. at-key rowAt 28 (c .before .match .keys29))
     (λ c. at-key rowAt 29 (c .before .match .keys30))
-    (λ c. absurd (no-key 0 30 (c .before .args .i) zero-le (c .before .pre) (c .match .rest))))
+    (λ c. sym (List·getD-eq-default chargerRows past (past-keys 30 (c .before .args .i) (c .match .rest)))))
