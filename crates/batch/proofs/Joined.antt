@@ -86,7 +86,7 @@ heard-holds h c time d a =
 
 -- ---- the record of an entry
 
-pub heard-entry : (h : Head) (s : List ℕ) (e : Entry) → heardOf h (e .channel) (e .time) (arrivalIn (h .limits) (recOf s e)) ≡ heardBy h (recOf s e)
+heard-entry : (h : Head) (s : List ℕ) (e : Entry) → heardOf h (e .channel) (e .time) (arrivalIn (h .limits) (recOf s e)) ≡ heardBy h (recOf s e)
 heard-entry h s e = go (e .tick) (take (e .length) (drop (e .start) s))
   where
     go : (b : Bool) (bs : List ℕ)
@@ -94,6 +94,11 @@ heard-entry h s e = go (e .tick) (take (e .length) (drop (e .start) s))
         ≡ heardBy h (cond b (tick (e .time) (e .channel)) (frame (e .time) (e .channel) (e .extended) (e .id) bs))
     go true bs = refl
     go false bs = refl
+
+-- the frame is read first, and then heard
+pub heard-read : (h : Head) (s : List ℕ) (e : Entry) (a : Arrival) (w : Heard) → a ≡ arrivalIn (h .limits) (recOf s e) → w ≡ heardOf h (e .channel) (e .time) a
+    → w ≡ heardBy h (recOf s e)
+heard-read h s e a w p q = q ∙ ap (heardOf h (e .channel) (e .time)) p ∙ heard-entry h s e
 
 -- ---- the single call
 

@@ -110,19 +110,8 @@ fn arrival_of(limits: PlainLimits, log: &[u8], e: Entry) -> Arrival
     arrival_for(limits, id, extended, &log[start..end])
 }
 
-// One call of `hear` for frames and ticks: of two the compiler builds neither in.
-fn step(h: Head, log: &[u8], e: Entry) -> Heard
-    requires { ⌜ e .start + e .length ≤ length (now log) ⌝ }
-    ensures { λ r. ⌜ r ≡ heardBy h (recOf (now (log .entry)) e) ⌝ }
-{
-    let limits = h.limits;
-    let channel = e.channel;
-    let time = e.time;
-    let a = arrival_of(limits, log, e);
-    hear(h, channel, time, a)
-}
-
-// Each record in order, where there is a place for each one's answer.
+// Each record in order, where there is a place for each one's answer. A frame is read before its post's head is copied out, so that no head is kept on the
+// stack meanwhile: of `q` the compiler loads the limits alone. One call of `hear` serves frames and ticks: of two the compiler builds neither in.
 fn feed_all(t: Table, log: &[u8], answers: &mut [u32]) -> Table
     requires { ⌜ length (recordsIn (logOf (now log))) ≤ length (now answers) ⌝ }
     ensures { λ r.
@@ -142,8 +131,12 @@ fn feed_all(t: Table, log: &[u8], answers: &mut [u32]) -> Table
         let channel = e.channel;
         let c = (channel as usize) % CHANNELS;
         let i = place_named(index[c]);
+        let q = heads[i];
+        let limits = q.limits;
+        let a = arrival_of(limits, log, e);
         let h = heads[i];
-        let r = step(h, log, e);
+        let time = e.time;
+        let r = hear(h, channel, time, a);
         let g = r.head;
         let slot = r.slot;
         let k = r.at;

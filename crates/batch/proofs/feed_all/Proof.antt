@@ -21,7 +21,7 @@ use Rattle.log_records.proofs.Entries.{entry-lies}
 use Rattle.log_read.proofs.Scans.{logAt}
 use Rattle.batch_rules.specs.Batch.{tableAfter, answersBy}
 use Rattle.batch.specs.Parts.{joined}
-use Rattle.batch.proofs.Joined.{joined-posts, latest-kept, latest-left}
+use Rattle.batch.proofs.Joined.{joined-posts, latest-kept, latest-left, heard-read}
 use Rattle.batch.proofs.Turns.{FedSo, start, has-place, turn, stop}
 use Rattle.batch.proofs.feed_all.Statement.{statement}
 use Rattle.batch.proofs.feed_all.Tie as tie
@@ -97,17 +97,26 @@ array-read-place-named c = search needs
 place-named-requires : tie.Need-place-named-requires Inv-loop μ-loop
 place-named-requires c κs = search needs
 
+mul-q : tie.Need-mul-q Inv-loop μ-loop
+mul-q c = search needs
+
+array-copy-out-q : tie.Need-array-copy-out-q Inv-loop μ-loop
+array-copy-out-q c = search needs
+
+arrival-of-requires : tie.Need-arrival-of-requires Inv-loop μ-loop
+arrival-of-requires c κs =
+    let z = c .before .before .before .before .before .before .before in
+    let e = c .before .before .before .before .e .given in
+    entry-lies (z .before .before .before .before .before .before .args .log .now) (z .loop .at) (e .0 .0) (sym (c .before .before .before .before .before .before .record-at .ensures) ∙ e .1) .0
+
 mul-h : tie.Need-mul-h Inv-loop μ-loop
 mul-h c = search needs
 
 array-copy-out-h : tie.Need-array-copy-out-h Inv-loop μ-loop
 array-copy-out-h c = search needs
 
-step-requires : tie.Need-step-requires Inv-loop μ-loop
-step-requires c κs =
-    let z = c .before .before .before .before .before .before in
-    let e = c .before .before .before .e .given in
-    entry-lies (z .before .before .before .before .before .before .args .log .now) (z .loop .at) (e .0 .0) (sym (c .before .before .before .before .before .record-at .ensures) ∙ e .1) .0
+hear-requires : tie.Need-hear-requires Inv-loop μ-loop
+hear-requires c κs = search needs
 
 mul-heads : tie.Need-mul-heads Inv-loop μ-loop
 mul-heads c = search needs
@@ -123,30 +132,30 @@ answer-word-requires c κs = search needs
 
 mul-answers : tie.Need-mul-answers Inv-loop μ-loop
 mul-answers c =
-    let z = c .before .before .before .before .before .before .before .before .before .before .before in
+    let z = c .before .before .before .before .before .before .before .before .before .before .before .before .before .before in
     let l = z .loop in
     let a = z .before .before .before .before .before .before .args in
-    let e = c .before .before .before .before .before .before .before .before .e .given in
-    let here = sym (c .before .before .before .before .before .before .before .before .before .before .record-at .ensures) ∙ e .1 in
+    let e = c .before .before .before .before .before .before .before .before .before .before .before .e .given in
+    let here = sym (c .before .before .before .before .before .before .before .before .before .before .before .before .before .record-at .ensures) ∙ e .1 in
     let p : l .n < length (l .answers) = has-place _ (a .log .now) (a .answers .now) (l .answers) (l .heads) (l .latest) (l .refused) (l .at) (l .n) (l .inv) (e .0 .0) here in
     search (needs, l .inv .2)
 
 slice-write-answers : tie.Need-slice-write-answers Inv-loop μ-loop
 slice-write-answers c =
-    let z = c .before .before .before .before .before .before .before .before .before .before .before in
+    let z = c .before .before .before .before .before .before .before .before .before .before .before .before .before .before in
     let l = z .loop in
     let a = z .before .before .before .before .before .before .args in
-    let e = c .before .before .before .before .before .before .before .before .e .given in
-    let here = sym (c .before .before .before .before .before .before .before .before .before .before .record-at .ensures) ∙ e .1 in
+    let e = c .before .before .before .before .before .before .before .before .before .before .before .e .given in
+    let here = sym (c .before .before .before .before .before .before .before .before .before .before .before .before .before .record-at .ensures) ∙ e .1 in
     has-place _ (a .log .now) (a .answers .now) (l .answers) (l .heads) (l .latest) (l .refused) (l .at) (l .n) (l .inv) (e .0 .0) here
 
 add-n : tie.Need-add-n Inv-loop μ-loop
 add-n c =
-    let z = c .before .before .before .before .before .before .before .before .before .before .before in
+    let z = c .before .before .before .before .before .before .before .before .before .before .before .before .before .before in
     let l = z .loop in
     let a = z .before .before .before .before .before .before .args in
-    let e = c .before .before .before .before .before .before .before .before .e .given in
-    let here = sym (c .before .before .before .before .before .before .before .before .before .before .record-at .ensures) ∙ e .1 in
+    let e = c .before .before .before .before .before .before .before .before .before .before .before .e .given in
+    let here = sym (c .before .before .before .before .before .before .before .before .before .before .before .before .before .record-at .ensures) ∙ e .1 in
     let p : l .n < length (l .answers) = has-place _ (a .log .now) (a .answers .now) (l .answers) (l .heads) (l .latest) (l .refused) (l .at) (l .n) (l .inv) (e .0 .0) here in
     search (needs, l .inv .2)
 
@@ -164,46 +173,48 @@ index-2-slot c = search needs
 
 loop-less : tie.Need-loop-less Inv-loop μ-loop
 loop-less c =
-    let z = c .before .before .before .before .before .before .before .before .before .before .before .before in
+    let z = c .before .before .before .before .before .before .before .before .before .before .before .before .before .before .before in
     let l = z .loop in
     let a = z .before .before .before .before .before .before .args in
-    let e = c .before .before .before .before .before .before .before .before .before .e .given in
-    let here = sym (c .before .before .before .before .before .before .before .before .before .before .before .record-at .ensures) ∙ e .1 in
+    let e = c .before .before .before .before .before .before .before .before .before .before .before .before .e .given in
+    let here = sym (c .before .before .before .before .before .before .before .before .before .before .before .before .before .before .record-at .ensures) ∙ e .1 in
     let w = entry-lies (a .log .now) (l .at) (e .0 .0) here in
     omega (arith, w .1, w .2)
 
 loop-again : tie.Need-loop-again Inv-loop μ-loop
 loop-again c =
-    let z = c .before .before .before .before .before .before .before .before .before .before .before .before in
+    let z = c .before .before .before .before .before .before .before .before .before .before .before .before .before .before .before in
     let l = z .loop in
     let a = z .before .before .before .before .before .before .args in
-    let e = c .before .before .before .before .before .before .before .before .before .e .given in
-    let here = sym (c .before .before .before .before .before .before .before .before .before .before .before .record-at .ensures) ∙ e .1 in
-    let i = c .before .before .before .before .before .before .before .place-named in
-    let r = c .before .before .before .before .before .step in
-    turn _ (a .log .now) (a .answers .now) (l .answers) (l .heads) (l .latest) (l .refused) (l .at) (l .n) (l .inv) (e .0 .0) here (i .result) (i .ensures .1) (i .ensures .0) (r .result) (r .ensures) (c .before .before .refused-after .result) (c .before .before .refused-after .ensures) (c .before .answer-word .result) (c .before .answer-word .ensures) _
+    let e = c .before .before .before .before .before .before .before .before .before .before .before .before .e .given in
+    let here = sym (c .before .before .before .before .before .before .before .before .before .before .before .before .before .before .record-at .ensures) ∙ e .1 in
+    let i = c .before .before .before .before .before .before .before .before .before .before .place-named in
+    let w = c .before .before .before .before .before .before .before .arrival-of in
+    let r = c .before .before .before .before .before .hear in
+    turn _ (a .log .now) (a .answers .now) (l .answers) (l .heads) (l .latest) (l .refused) (l .at) (l .n) (l .inv) (e .0 .0) here (i .result) (i .ensures .1) (i .ensures .0) (r .result) (heard-read _ (a .log .now) (e .0 .0) _ _ (w .ensures) (r .ensures .0)) (c .before .before .refused-after .result) (c .before .before .refused-after .ensures) (c .before .answer-word .result) (c .before .answer-word .ensures) _
     (latest-kept (l .heads) (l .latest) (a .t .index) (l .refused) (i .result) (omega (arith, l .inv .0, i .ensures .1)) (omega (arith, l .inv .1, i .ensures .1)) (r .result) (c .if1 .taken))
 
 loop-less-2 : tie.Need-loop-less-2 Inv-loop μ-loop
 loop-less-2 c =
-    let z = c .before .before .before .before .before .before .before .before .before .before .before .before in
+    let z = c .before .before .before .before .before .before .before .before .before .before .before .before .before .before .before in
     let l = z .loop in
     let a = z .before .before .before .before .before .before .args in
-    let e = c .before .before .before .before .before .before .before .before .before .e .given in
-    let here = sym (c .before .before .before .before .before .before .before .before .before .before .before .record-at .ensures) ∙ e .1 in
+    let e = c .before .before .before .before .before .before .before .before .before .before .before .before .e .given in
+    let here = sym (c .before .before .before .before .before .before .before .before .before .before .before .before .before .before .record-at .ensures) ∙ e .1 in
     let w = entry-lies (a .log .now) (l .at) (e .0 .0) here in
     omega (arith, w .1, w .2)
 
 loop-again-2 : tie.Need-loop-again-2 Inv-loop μ-loop
 loop-again-2 c =
-    let z = c .before .before .before .before .before .before .before .before .before .before .before .before in
+    let z = c .before .before .before .before .before .before .before .before .before .before .before .before .before .before .before in
     let l = z .loop in
     let a = z .before .before .before .before .before .before .args in
-    let e = c .before .before .before .before .before .before .before .before .before .e .given in
-    let here = sym (c .before .before .before .before .before .before .before .before .before .before .before .record-at .ensures) ∙ e .1 in
-    let i = c .before .before .before .before .before .before .before .place-named in
-    let r = c .before .before .before .before .before .step in
-    turn _ (a .log .now) (a .answers .now) (l .answers) (l .heads) (l .latest) (l .refused) (l .at) (l .n) (l .inv) (e .0 .0) here (i .result) (i .ensures .1) (i .ensures .0) (r .result) (r .ensures) (c .before .before .refused-after .result) (c .before .before .refused-after .ensures) (c .before .answer-word .result) (c .before .answer-word .ensures) _
+    let e = c .before .before .before .before .before .before .before .before .before .before .before .before .e .given in
+    let here = sym (c .before .before .before .before .before .before .before .before .before .before .before .before .before .before .record-at .ensures) ∙ e .1 in
+    let i = c .before .before .before .before .before .before .before .before .before .before .place-named in
+    let w = c .before .before .before .before .before .before .before .arrival-of in
+    let r = c .before .before .before .before .before .hear in
+    turn _ (a .log .now) (a .answers .now) (l .answers) (l .heads) (l .latest) (l .refused) (l .at) (l .n) (l .inv) (e .0 .0) here (i .result) (i .ensures .1) (i .ensures .0) (r .result) (heard-read _ (a .log .now) (e .0 .0) _ _ (w .ensures) (r .ensures .0)) (c .before .before .refused-after .result) (c .before .before .refused-after .ensures) (c .before .answer-word .result) (c .before .answer-word .ensures) _
     (latest-left (l .heads) (l .latest) (a .t .index) (l .refused) (i .result) (omega (arith, l .inv .0, i .ensures .1)) (omega (arith, l .inv .1, i .ensures .1)) (r .result) (c .if1 .left))
 
 pub feed-all-spec : {M : Type 1} → statement M
@@ -224,9 +235,12 @@ feed-all-spec =
     mul-place-named
     array-read-place-named
     place-named-requires
+    mul-q
+    array-copy-out-q
+    arrival-of-requires
     mul-h
     array-copy-out-h
-    step-requires
+    hear-requires
     mul-heads
     array-set-from-heads
     refused-after-requires
