@@ -11,9 +11,9 @@ ROOT = HERE.parents[1]
 # a file, and the two words in it that change places
 SWAPS = (
     ('crates/message_parts/specs/Watched.antt', 'modules = celsiusOf', 'enclosure = celsiusOf'),
-    ('crates/message_safety/specs/Build.antt', 'stopped3 = flagOf', 'failed3 = flagOf'),
+    ('crates/message_probes/specs/Build.antt', 'stopped3 = flagOf', 'failed3 = flagOf'),
     ('crates/message_charger/specs/Take.antt', 'm .max', 'm .min'),
-    ('crates/message_inputs/specs/Build.antt', 'pt1ksc = celsiusOf', 'pt1ksd = celsiusOf'),
+    ('crates/message_extra/specs/Build.antt', 'pt1ksc = celsiusOf', 'pt1ksd = celsiusOf'),
     ('crates/message_inputs/specs/Take.antt', 'm .colibri', 'm .switch5'),
     ('crates/message_vehicle/specs/Build.antt', 'present = byteOf', 'minimum = byteOf'),
     ('crates/message_vehicle/specs/Take.antt', 'pos (m .capacity)', 'pos (m .target)'),
@@ -24,7 +24,8 @@ SWAPS = (
 def checked(path, first, second):
     """What check.py says of a copy of the definitions in which the two words changed places."""
     with tempfile.TemporaryDirectory() as folder:
-        for crate in ('page_table', 'page_charger', 'page_rows', 'message_types', 'message_parts', 'message_charger', 'message_safety', 'message_inputs', 'message_vehicle', 'older_power', 'older_controller'):
+        for crate in ('page_table', 'page_charger', 'page_rows', 'message_types', 'message_parts', 'message_charger', 'message_safety', 'message_probes', 'message_inputs',
+                      'message_extra', 'message_sequence', 'message_vehicle', 'older_power', 'older_controller'):
             shutil.copytree(ROOT / 'crates' / crate, Path(folder, 'crates', crate))
         file = Path(folder, path)
         text = file.read_text()

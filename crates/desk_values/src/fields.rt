@@ -44,7 +44,7 @@ pub fn secc(f: [i64; MOST]) -> SeccInputs {
 }
 
 pub fn of_spcc(m: SpccInputs) -> [i64; MOST] {
-    let mut f = take::spcc_raws(m);
+    let mut f = message_extra::take::spcc_raws(m);
     f[5] = short_raw(m.cpu0);
     f[6] = short_raw(m.cpu1);
     f[7] = short_raw(m.pt1ka);
@@ -55,7 +55,7 @@ pub fn of_spcc(m: SpccInputs) -> [i64; MOST] {
 }
 
 pub fn spcc(f: [i64; MOST]) -> SpccInputs {
-    let mut m = build::spcc(f);
+    let mut m = message_extra::build::spcc(f);
     m.cpu0 = short(f[5]);
     m.cpu1 = short(f[6]);
     m.pt1ka = short(f[7]);

@@ -10,8 +10,11 @@ use Rattle.message_types.specs.KindNumbers.{statusKind, parametersKind, control
 use Rattle.message_fields.specs.Fields.{at}
 use Rattle.message_parts.specs.Watched.{statusOf, parametersOf, sessionOf, controlOf}
 use Rattle.message_charger.specs.Build.{controllerOf, changeOf, finishedOf, stopOf, idOf}
-use Rattle.message_safety.specs.Build.{safetyControlOf, safetyStateOf, probesOf}
-use Rattle.message_inputs.specs.Build.{sequenceOf, outputsOf, cuiOf, seccOf, spccOf, ccsOf, mcsOf}
+use Rattle.message_safety.specs.Build.{safetyControlOf, safetyStateOf}
+use Rattle.message_probes.specs.Build.{probesOf}
+use Rattle.message_inputs.specs.Build.{cuiOf, seccOf}
+use Rattle.message_extra.specs.Build.{spccOf, ccsOf, mcsOf}
+use Rattle.message_sequence.specs.Build.{sequenceOf, outputsOf}
 use Rattle.message_vehicle.specs.Build.{batteryOf, voltagesOf, limitsOf, energyOf, ocppOf}
 
 -- the message of a kind; for a number that is no kind, the last one

@@ -2,51 +2,12 @@
 ghost use mathlib.Core.Path.{_≡_};
 ghost use Rattle.page_write.specs.Raws.{pad};
 ghost use Rattle.page_table.specs.Table.{signalCount};
-ghost use Rattle.message_inputs.specs.Take.{sequenceRaws, outputsRaws, cuiRaws, seccRaws, spccRaws, ccsRaws, mcsRaws};
-use message_fields::byte_raw;
+ghost use Rattle.message_inputs.specs.Take.{cuiRaws, seccRaws};
 use message_fields::celsius_raw;
 use message_fields::flag_raw;
 use message_fields::wide_raw;
-use message_fields::word_raw;
-use message_types::CcsExtraInformation;
 use message_types::CuiInputs;
-use message_types::McsExtraInformation;
 use message_types::SeccInputs;
-use message_types::SeccOutputs;
-use message_types::SequenceControl;
-use message_types::SpccInputs;
-use message_types::labels::*;
-
-pub fn sequence_raws(m: SequenceControl) -> [i64; 16]
-    ensures { λ r. ⌜ r ≡ pad signalCount (sequenceRaws m) ⌝ }
-{
-    let authorisation = m.authorisation;
-    let chademo = m.chademo;
-    let done = m.done;
-    let valid = m.valid;
-    let parameters = m.parameters;
-    let stop = m.stop;
-    let mut f = [0i64; 16];
-    f[0] = byte_raw(permission_number(authorisation));
-    f[1] = byte_raw(button_number(chademo));
-    f[2] = byte_raw(step_number(done));
-    f[3] = byte_raw(validity_number(valid));
-    f[4] = byte_raw(step_number(parameters));
-    f[5] = byte_raw(button_number(stop));
-    f
-}
-
-pub fn outputs_raws(m: SeccOutputs) -> [i64; 16]
-    ensures { λ r. ⌜ r ≡ pad signalCount (outputsRaws m) ⌝ }
-{
-    let mut f = [0i64; 16];
-    f[0] = flag_raw(m.output1);
-    f[1] = flag_raw(m.output2);
-    f[2] = flag_raw(m.output3);
-    f[3] = flag_raw(m.output4);
-    f[4] = wide_raw(m.reserved);
-    f
-}
 
 pub fn cui_raws(m: CuiInputs) -> [i64; 16]
     ensures { λ r. ⌜ r ≡ pad signalCount (cuiRaws m) ⌝ }
@@ -78,46 +39,5 @@ pub fn secc_raws(m: SeccInputs) -> [i64; 16]
     f[5] = celsius_raw(m.cpu);
     f[6] = celsius_raw(m.pistol1);
     f[7] = celsius_raw(m.pistol2);
-    f
-}
-
-pub fn spcc_raws(m: SpccInputs) -> [i64; 16]
-    ensures { λ r. ⌜ r ≡ pad signalCount (spccRaws m) ⌝ }
-{
-    let mut f = [0i64; 16];
-    f[0] = flag_raw(m.input1);
-    f[1] = flag_raw(m.input2);
-    f[2] = flag_raw(m.input3);
-    f[3] = flag_raw(m.input4);
-    f[4] = wide_raw(m.reserved);
-    f[5] = celsius_raw(m.cpu0);
-    f[6] = celsius_raw(m.cpu1);
-    f[7] = celsius_raw(m.pt1ka);
-    f[8] = celsius_raw(m.pt1kb);
-    f[9] = celsius_raw(m.pt1ksc);
-    f[10] = celsius_raw(m.pt1ksd);
-    f
-}
-
-pub fn ccs_raws(m: CcsExtraInformation) -> [i64; 16]
-    ensures { λ r. ⌜ r ≡ pad signalCount (ccsRaws m) ⌝ }
-{
-    let state = m.state;
-    let mut f = [0i64; 16];
-    f[0] = byte_raw(pilot_number(state));
-    f[1] = word_raw(m.duty);
-    f[2] = wide_raw(m.reserved);
-    f
-}
-
-pub fn mcs_raws(m: McsExtraInformation) -> [i64; 16]
-    ensures { λ r. ⌜ r ≡ pad signalCount (mcsRaws m) ⌝ }
-{
-    let ce = m.ce;
-    let id = m.id;
-    let mut f = [0i64; 16];
-    f[0] = byte_raw(ce_number(ce));
-    f[1] = byte_raw(mating_number(id));
-    f[2] = wide_raw(m.reserved);
     f
 }

@@ -1,11 +1,10 @@
--- The messages of document 004, each of its signals' raw numbers in the table's order.
+-- ChargeControl1 and ChargeState1 of document 004, each of its signals' raw numbers in the table's order.
 use Prim.Native.Nat.{ℕ}
 use lib.IntN.{ℤ}
 use Rattle.message_types.specs.declared.ChargeControl1.{ChargeControl1}
 use Rattle.message_types.specs.declared.ChargeState1.{ChargeState1}
-use Rattle.message_types.specs.declared.Pt1000State.{Pt1000State}
 use Rattle.message_types.specs.Labels as label
-use Rattle.message_fields.specs.Fields.{naturalOf, shortOf, dutyOf, flagOf}
+use Rattle.message_fields.specs.Fields.{naturalOf, dutyOf, flagOf}
 
 abbrev pub safetyControlOf : (ℕ → ℤ) → ChargeControl1
 safetyControlOf f =
@@ -34,21 +33,4 @@ safetyStateOf f =
       estop3 = flagOf (f 12);
       imdabort = flagOf (f 13);
       imdfailure = flagOf (f 14);
-    }
-
-abbrev pub probesOf : (ℕ → ℤ) → Pt1000State
-probesOf f =
-    record {
-      temperature1 = shortOf (f 0);
-      stopped1 = flagOf (f 1);
-      failed1 = flagOf (f 2);
-      temperature2 = shortOf (f 3);
-      stopped2 = flagOf (f 4);
-      failed2 = flagOf (f 5);
-      temperature3 = shortOf (f 6);
-      stopped3 = flagOf (f 7);
-      failed3 = flagOf (f 8);
-      temperature4 = shortOf (f 9);
-      stopped4 = flagOf (f 10);
-      failed4 = flagOf (f 11);
     }

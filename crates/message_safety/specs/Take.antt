@@ -1,9 +1,8 @@
--- The raw number of each signal of the messages of document 004, in the table's order.
+-- The raw number of each signal of ChargeControl1 and ChargeState1 of document 004, in the table's order.
 use mathlib.Core.List.{List, [], _∷_}
 use lib.IntN.{ℤ, pos}
 use Rattle.message_types.specs.declared.ChargeControl1.{ChargeControl1}
 use Rattle.message_types.specs.declared.ChargeState1.{ChargeState1}
-use Rattle.message_types.specs.declared.Pt1000State.{Pt1000State}
 use Rattle.message_types.specs.Labels.{cpNumber, ppNumber}
 use Rattle.message_fields.specs.Fields.{flagRaw}
 
@@ -15,10 +14,3 @@ safetyStateRaws m =
     pos (m .duty) ∷ flagRaw (m .pwm) ∷ pos (cpNumber (m .cp)) ∷ flagRaw (m .short) ∷ flagRaw (m .diode)
     ∷ pos (ppNumber (m .pp)) ∷ flagRaw (m .contactor1) ∷ flagRaw (m .contactor2) ∷ flagRaw (m .error1) ∷ flagRaw (m .error2)
     ∷ flagRaw (m .estop1) ∷ flagRaw (m .estop2) ∷ flagRaw (m .estop3) ∷ flagRaw (m .imdabort) ∷ flagRaw (m .imdfailure) ∷ []
-
-abbrev pub probesRaws : Pt1000State → List ℤ
-probesRaws m =
-    m .temperature1 ∷ flagRaw (m .stopped1) ∷ flagRaw (m .failed1)
-    ∷ m .temperature2 ∷ flagRaw (m .stopped2) ∷ flagRaw (m .failed2)
-    ∷ m .temperature3 ∷ flagRaw (m .stopped3) ∷ flagRaw (m .failed3)
-    ∷ m .temperature4 ∷ flagRaw (m .stopped4) ∷ flagRaw (m .failed4) ∷ []

@@ -2,14 +2,12 @@
 ghost use mathlib.Core.Path.{_≡_};
 ghost use Rattle.page_write.specs.Raws.{pad};
 ghost use Rattle.page_table.specs.Table.{signalCount};
-ghost use Rattle.message_safety.specs.Take.{safetyControlRaws, safetyStateRaws, probesRaws};
+ghost use Rattle.message_safety.specs.Take.{safetyControlRaws, safetyStateRaws};
 use message_fields::byte_raw;
 use message_fields::flag_raw;
-use message_fields::short_raw;
 use message_fields::word_raw;
 use message_types::ChargeControl1;
 use message_types::ChargeState1;
-use message_types::Pt1000State;
 use message_types::labels::*;
 
 pub fn safety_control_raws(m: ChargeControl1) -> [i64; 16]
@@ -44,24 +42,5 @@ pub fn safety_state_raws(m: ChargeState1) -> [i64; 16]
     f[12] = flag_raw(m.estop3);
     f[13] = flag_raw(m.imdabort);
     f[14] = flag_raw(m.imdfailure);
-    f
-}
-
-pub fn probes_raws(m: Pt1000State) -> [i64; 16]
-    ensures { λ r. ⌜ r ≡ pad signalCount (probesRaws m) ⌝ }
-{
-    let mut f = [0i64; 16];
-    f[0] = short_raw(m.temperature1);
-    f[1] = flag_raw(m.stopped1);
-    f[2] = flag_raw(m.failed1);
-    f[3] = short_raw(m.temperature2);
-    f[4] = flag_raw(m.stopped2);
-    f[5] = flag_raw(m.failed2);
-    f[6] = short_raw(m.temperature3);
-    f[7] = flag_raw(m.stopped3);
-    f[8] = flag_raw(m.failed3);
-    f[9] = short_raw(m.temperature4);
-    f[10] = flag_raw(m.stopped4);
-    f[11] = flag_raw(m.failed4);
     f
 }

@@ -8,8 +8,11 @@ use Rattle.message_types.specs.declared.Message.{Message}
 use Rattle.message_types.specs.declared.Message.the-variants.{Status, Parameters, Controller, Session, Change, Control, Finished, Stop, Id, SafetyControl, SafetyState, Probes, Sequence, Outputs, Battery, Voltages, ChargeLimits, DischargeLimits, Energy, Cui, Secc, Spcc, Ccs, Mcs, Ocpp}
 use Rattle.message_fields.specs.Fields.{hasKilohms}
 use Rattle.message_charger.specs.Take.{statusRaws, parametersRaws, stateRaws, sessionRaws, changeRaws, controlRaws, finishedRaws, stopRaws, idRaws}
-use Rattle.message_safety.specs.Take.{safetyControlRaws, safetyStateRaws, probesRaws}
-use Rattle.message_inputs.specs.Take.{sequenceRaws, outputsRaws, cuiRaws, seccRaws, spccRaws, ccsRaws, mcsRaws}
+use Rattle.message_safety.specs.Take.{safetyControlRaws, safetyStateRaws}
+use Rattle.message_probes.specs.Take.{probesRaws}
+use Rattle.message_inputs.specs.Take.{cuiRaws, seccRaws}
+use Rattle.message_extra.specs.Take.{spccRaws, ccsRaws, mcsRaws}
+use Rattle.message_sequence.specs.Take.{sequenceRaws, outputsRaws}
 use Rattle.message_vehicle.specs.Take.{batteryRaws, voltagesRaws, limitsRaws, energyRaws, ocppRaws}
 
 unfoldable pub rawsOf : Message → List ℤ

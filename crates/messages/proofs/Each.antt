@@ -26,8 +26,11 @@ use Rattle.message_types.specs.KindNumbers.{statusKind, parametersKind, control
 use Rattle.message_build.specs.Built.{builtOf, messageOf}
 use Rattle.message_take.specs.Take.{rawsOf, hasRaws}
 use Rattle.message_charger.proofs.Ways.{status-ways, parameters-ways, controller-ways, session-ways, change-ways, control-ways, finished-ways, stop-ways, id-ways}
-use Rattle.message_safety.proofs.Ways.{safety-control-ways, safety-state-ways, probes-ways}
-use Rattle.message_inputs.proofs.Ways.{sequence-ways, outputs-ways, cui-ways, secc-ways, spcc-ways, ccs-ways, mcs-ways}
+use Rattle.message_safety.proofs.Ways.{safety-control-ways, safety-state-ways}
+use Rattle.message_probes.proofs.Ways.{probes-ways}
+use Rattle.message_inputs.proofs.Ways.{cui-ways, secc-ways}
+use Rattle.message_extra.proofs.Ways.{spcc-ways, ccs-ways, mcs-ways}
+use Rattle.message_sequence.proofs.Ways.{sequence-ways, outputs-ways}
 use Rattle.message_vehicle.proofs.Ways.{battery-ways, voltages-ways, charge-limits-ways, discharge-limits-ways, energy-ways, ocpp-ways}
 
 -- ---- the table has each kind

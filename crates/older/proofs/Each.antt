@@ -24,7 +24,8 @@ use Rattle.older_types.specs.declared.Message.the-variants.{SafetyControl, Safe
 use Rattle.older_types.specs.KindNumbers.{safetyControlKind, safetyStateKind, probesKind, statusKind, limitsKind, sequenceKind, outputsKind, sessionKind, insulationKind, prechargeKind, changeKind, chargingKind, stopKind, finishedKind, controllerKind, cuiKind, seccKind, idKind, spccKind, ccsKind, mcsKind, kindOf}
 use Rattle.older_build.specs.Built.{builtOf}
 use Rattle.older_take.specs.Take.{rawsOf, hasRaws}
-use Rattle.message_safety.proofs.Ways.{safety-control-ways, safety-state-ways, probes-ways}
+use Rattle.message_safety.proofs.Ways.{safety-control-ways, safety-state-ways}
+use Rattle.message_probes.proofs.Ways.{probes-ways}
 use Rattle.older_power.proofs.Ways.{status-ways, limits-ways, session-ways, insulation-ways, precharge-ways, change-ways, charging-ways}
 use Rattle.older_controller.proofs.Ways.{stop-ways, finished-ways, controller-ways, id-ways}
 use Rattle.older.proofs.Alike.{sequence-ways, outputs-ways, cui-ways, secc-ways, spcc-ways, ccs-ways, mcs-ways}

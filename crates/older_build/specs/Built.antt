@@ -8,8 +8,11 @@ use Rattle.older_types.specs.declared.Message.{Message}
 use Rattle.older_types.specs.declared.Message.the-variants.{SafetyControl, SafetyState, Probes, Status, Limits, Sequence, Outputs, Session, Insulation, Precharge, Change, Charging, Stop, Finished, Controller, Cui, Secc, Id, Spcc, Ccs, Mcs}
 use Rattle.older_types.specs.KindNumbers.{safetyControlKind, safetyStateKind, probesKind, statusKind, limitsKind, sequenceKind, outputsKind, sessionKind, insulationKind, prechargeKind, changeKind, chargingKind, stopKind, finishedKind, controllerKind, cuiKind, seccKind, idKind, spccKind, ccsKind}
 use Rattle.message_fields.specs.Fields.{at}
-use Rattle.message_safety.specs.Build.{safetyControlOf, safetyStateOf, probesOf}
-use Rattle.message_inputs.specs.Build.{sequenceOf, outputsOf, cuiOf, seccOf, spccOf, ccsOf, mcsOf}
+use Rattle.message_safety.specs.Build.{safetyControlOf, safetyStateOf}
+use Rattle.message_probes.specs.Build.{probesOf}
+use Rattle.message_inputs.specs.Build.{cuiOf, seccOf}
+use Rattle.message_extra.specs.Build.{spccOf, ccsOf, mcsOf}
+use Rattle.message_sequence.specs.Build.{sequenceOf, outputsOf}
 use Rattle.older_power.specs.Build.{statusOf, limitsOf, sessionOf, insulationOf, prechargeOf, changeOf, chargingOf}
 use Rattle.older_controller.specs.Build.{stopOf, finishedOf, controllerOf, idOf}
 

@@ -11,11 +11,11 @@ pub fn built(kind: usize, f: [i64; 16]) -> Message
     match kind {
         SAFETY_CONTROL => Message::SafetyControl(message_safety::build::safety_control(f)),
         SAFETY_STATE => Message::SafetyState(message_safety::build::safety_state(f)),
-        PROBES => Message::Probes(message_safety::build::probes(f)),
+        PROBES => Message::Probes(message_probes::build::probes(f)),
         STATUS => Message::Status(older_power::build::status(f)),
         LIMITS => Message::Limits(older_power::build::limits(f)),
-        SEQUENCE => Message::Sequence(message_inputs::build::sequence(f)),
-        OUTPUTS => Message::Outputs(message_inputs::build::outputs(f)),
+        SEQUENCE => Message::Sequence(message_sequence::build::sequence(f)),
+        OUTPUTS => Message::Outputs(message_sequence::build::outputs(f)),
         SESSION => Message::Session(older_power::build::session(f)),
         INSULATION => Message::Insulation(older_power::build::insulation(f)),
         PRECHARGE => Message::Precharge(older_power::build::precharge(f)),
@@ -27,9 +27,9 @@ pub fn built(kind: usize, f: [i64; 16]) -> Message
         CUI => Message::Cui(message_inputs::build::cui(f)),
         SECC => Message::Secc(message_inputs::build::secc(f)),
         ID => Message::Id(older_controller::build::id(f)),
-        SPCC => Message::Spcc(message_inputs::build::spcc(f)),
-        CCS => Message::Ccs(message_inputs::build::ccs(f)),
-        _ => Message::Mcs(message_inputs::build::mcs(f)),
+        SPCC => Message::Spcc(message_extra::build::spcc(f)),
+        CCS => Message::Ccs(message_extra::build::ccs(f)),
+        _ => Message::Mcs(message_extra::build::mcs(f)),
     }
 }
 

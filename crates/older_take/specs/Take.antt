@@ -8,8 +8,11 @@ use Rattle.older_types.specs.declared.Message.{Message}
 use Rattle.older_types.specs.declared.Message.the-variants.{SafetyControl, SafetyState, Probes, Status, Limits, Sequence, Outputs, Session, Insulation, Precharge, Change, Charging, Stop, Finished, Controller, Cui, Secc, Id, Spcc, Ccs, Mcs}
 use Rattle.message_fields.specs.Fields.{hasKilohms}
 use Rattle.older_fields.specs.Forms.{hasCapacity}
-use Rattle.message_safety.specs.Take.{safetyControlRaws, safetyStateRaws, probesRaws}
-use Rattle.message_inputs.specs.Take.{sequenceRaws, outputsRaws, cuiRaws, seccRaws, spccRaws, ccsRaws, mcsRaws}
+use Rattle.message_safety.specs.Take.{safetyControlRaws, safetyStateRaws}
+use Rattle.message_probes.specs.Take.{probesRaws}
+use Rattle.message_inputs.specs.Take.{cuiRaws, seccRaws}
+use Rattle.message_extra.specs.Take.{spccRaws, ccsRaws, mcsRaws}
+use Rattle.message_sequence.specs.Take.{sequenceRaws, outputsRaws}
 use Rattle.older_power.specs.Take.{statusRaws, limitsRaws, sessionRaws, insulationRaws, prechargeRaws, changeRaws, chargingRaws}
 use Rattle.older_controller.specs.Take.{stopRaws, finishedRaws, controllerRaws, idRaws}
 

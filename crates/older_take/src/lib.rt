@@ -11,11 +11,11 @@ pub fn raws(m: Message) -> [i64; 16]
     match m {
         Message::SafetyControl(s) => message_safety::take::safety_control_raws(s),
         Message::SafetyState(s) => message_safety::take::safety_state_raws(s),
-        Message::Probes(s) => message_safety::take::probes_raws(s),
+        Message::Probes(s) => message_probes::take::probes_raws(s),
         Message::Status(s) => older_power::take::status_raws(s),
         Message::Limits(s) => older_power::take::limits_raws(s),
-        Message::Sequence(s) => message_inputs::take::sequence_raws(s),
-        Message::Outputs(s) => message_inputs::take::outputs_raws(s),
+        Message::Sequence(s) => message_sequence::take::sequence_raws(s),
+        Message::Outputs(s) => message_sequence::take::outputs_raws(s),
         Message::Session(s) => older_power::take::session_raws(s),
         Message::Insulation(s) => older_power::take::insulation_raws(s),
         Message::Precharge(s) => older_power::take::precharge_raws(s),
@@ -27,9 +27,9 @@ pub fn raws(m: Message) -> [i64; 16]
         Message::Cui(s) => message_inputs::take::cui_raws(s),
         Message::Secc(s) => message_inputs::take::secc_raws(s),
         Message::Id(s) => older_controller::take::id_raws(s),
-        Message::Spcc(s) => message_inputs::take::spcc_raws(s),
-        Message::Ccs(s) => message_inputs::take::ccs_raws(s),
-        Message::Mcs(s) => message_inputs::take::mcs_raws(s),
+        Message::Spcc(s) => message_extra::take::spcc_raws(s),
+        Message::Ccs(s) => message_extra::take::ccs_raws(s),
+        Message::Mcs(s) => message_extra::take::mcs_raws(s),
     }
 }
 
