@@ -7,7 +7,7 @@ use notation_answers::answer;
 use text_pen::Pen;
 
 // A walk over the kept records: the byte where the next begins, and how many of the channel are still to pass.
-#[derive(Drop)]
+#[derive(Clone, Copy)]
 struct Look {
     at: usize,
     left: u32,
@@ -74,7 +74,7 @@ fn put_place(channel: u32, place: u32, out: &mut [u8], pen: Pen) -> Pen {
 }
 
 // The pen, and whether a channel differs so far.
-#[derive(Drop)]
+#[derive(Clone, Copy)]
 pub struct Put {
     pub pen: Pen,
     pub any: bool,

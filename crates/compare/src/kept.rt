@@ -8,7 +8,7 @@ use text_pen::Pen;
 
 // How many records were chosen; the pen stands behind the bytes of those that are kept. One more than may be compared is kept, so that the library refuses it;
 // a record has at most 20 bytes, so that all of them have room.
-#[derive(Drop)]
+#[derive(Clone, Copy)]
 pub struct Kept {
     pub chosen: u64,
     pub pen: Pen,

@@ -5,7 +5,7 @@ use crate::window::Window;
 use log_walk::Walk;
 
 // Failed where the file could not be read, or its log is broken, and that was said.
-#[derive(Drop)]
+#[derive(Clone, Copy)]
 pub struct Course {
     pub walk: Walk,
     pub kept: Kept,

@@ -2,13 +2,13 @@
 use notation_read::fields;
 use notation_read::fields::Last;
 
-#[derive(Drop)]
+#[derive(Clone, Copy)]
 pub struct Window {
     pub from: u32,
     pub to: u32,
 }
 
-#[derive(Drop)]
+#[derive(Clone, Copy)]
 pub enum Asked {
     Bad,
     Is(Window),

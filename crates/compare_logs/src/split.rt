@@ -9,7 +9,7 @@ use log_read::record_at;
 use log_records::Found;
 
 // What a log comes to: so many records; or a record that begins at a byte is malformed or cut.
-#[derive(Drop)]
+#[derive(Clone, Copy)]
 pub enum Ended {
     Records(usize),
     Bad(usize),

@@ -10,7 +10,7 @@ use refusals::Refusal;
 
 // How many records stand in each list; or why nothing is listed: of the first log (side 1) or of the second (side 2), 26 with the byte where a record
 // begins that is malformed or cut, 27, and 28 of that log's list; 8 where there are too few places for the channels, with side 0. The byte is 0 but for 26.
-#[derive(Drop)]
+#[derive(Clone, Copy)]
 pub enum Compared {
     Listed { first: usize, second: usize },
     Refused { why: Refusal, side: u32, at: usize },

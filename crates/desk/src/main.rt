@@ -13,7 +13,7 @@ use watch_rules::Table;
 
 // What is kept from one piece of the input to the next: the table, how much of the last line is in the line buffer, whether that line is
 // over its length, and how much of the output buffer is written.
-#[derive(Drop)]
+#[derive(Clone, Copy)]
 struct Desk {
     lent: bool,
     table: Table,

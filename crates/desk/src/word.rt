@@ -1,7 +1,7 @@
 // The word that a line begins with, by the step that it names.
 
 // The steps that change the table.
-#[derive(Drop)]
+#[derive(Clone, Copy)]
 pub enum Changing {
     No,
     Frame,
@@ -31,7 +31,7 @@ pub fn changing_word(word: &[u8]) -> Changing {
 }
 
 // The steps on the table as it is, and on a frame by itself, by the pages of either interface.
-#[derive(Drop)]
+#[derive(Clone, Copy)]
 pub enum Showing {
     No,
     Record,
@@ -77,7 +77,7 @@ pub fn showing_word(word: &[u8]) -> Showing {
 }
 
 // The steps of logs, of the service screen and of words.
-#[derive(Drop)]
+#[derive(Clone, Copy)]
 pub enum Telling {
     No,
     LogWrite,

@@ -17,7 +17,7 @@ const UNTOUCHED: u32 = 3735928559;
 const MOST: usize = 2048;
 
 // The records' bytes are the first `length` of the room.
-#[derive(Drop)]
+#[derive(Clone, Copy)]
 enum Asked {
     Bad,
     Batch { length: usize, places: usize },

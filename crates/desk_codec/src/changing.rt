@@ -10,7 +10,7 @@ use text_lines::Field;
 use text_numbers::sign::Signed;
 use text_pen::Pen;
 
-#[derive(Drop)]
+#[derive(Clone, Copy)]
 enum Asked {
     Bad,
     Change {
@@ -53,7 +53,7 @@ fn change_line(s: &[u8], at: usize, room: &mut [u8]) -> Asked {
 }
 
 // The change's answer, and how many bytes at the front of the room are the frame's.
-#[derive(Drop)]
+#[derive(Clone, Copy)]
 enum Changed {
     Bad,
     Is(Judged, usize),

@@ -10,7 +10,7 @@ use text_bytes::Bytes;
 use text_pen::Pen;
 
 // A frame's bytes are the first `length` of the room.
-#[derive(Drop)]
+#[derive(Clone, Copy)]
 enum Asked {
     Bad,
     Read {

@@ -13,7 +13,7 @@ use text_bytes::Bytes;
 use text_pen::Pen;
 
 // The order to write a message into the first `length` bytes of the room; a count of 0 where the line is none.
-#[derive(Drop)]
+#[derive(Clone, Copy)]
 struct Order {
     id: u32,
     extended: bool,
@@ -54,7 +54,7 @@ fn write_line(s: &[u8], at: usize, room: &mut [u8]) -> Order {
 }
 
 // What became of an order: Bad where it is none, NoKind where no message has its identifier.
-#[derive(Drop)]
+#[derive(Clone, Copy)]
 enum Done {
     Bad,
     NoKind,

@@ -13,7 +13,7 @@ use text_pen::Pen;
 const MOST: usize = 2048;
 
 // The first log's bytes are the first of the room, the second's those behind them; each list has so many places.
-#[derive(Drop)]
+#[derive(Clone, Copy)]
 enum Asked {
     Bad,
     Logs {
@@ -25,7 +25,7 @@ enum Asked {
 }
 
 // A log's bytes are the first `length` of the room; `next` is where the next field stands.
-#[derive(Drop)]
+#[derive(Clone, Copy)]
 enum Log {
     Bad,
     Is { length: usize, next: usize },
@@ -126,7 +126,7 @@ fn put_numbers(numbers: &[u32], out: &mut [u8], pen: Pen) -> Pen {
 }
 
 // The pen, and whether a channel has a place so far.
-#[derive(Drop)]
+#[derive(Clone, Copy)]
 struct Put {
     pen: Pen,
     any: bool,

@@ -83,7 +83,7 @@ fn put_count(out: &mut [u8], pen: Pen, records: usize) -> Pen {
     text_written::put_decimal(out, p, records as u64)
 }
 
-#[derive(Drop)]
+#[derive(Clone, Copy)]
 struct Put {
     pen: Pen,
     next: usize,

@@ -14,7 +14,7 @@ use text_pen::Pen;
 const ENOUGH: usize = 9;
 
 // What the log answered, and how many bytes at the front of the room are the lent buffer's.
-#[derive(Drop)]
+#[derive(Clone, Copy)]
 enum Done {
     Bad,
     Is(Logged, usize),
@@ -61,7 +61,7 @@ fn tick(s: &[u8], at: usize, room: &mut [u8]) -> Done {
     Done::Is(w, size)
 }
 
-#[derive(Drop)]
+#[derive(Clone, Copy)]
 enum Asked {
     Bad,
     Frame {

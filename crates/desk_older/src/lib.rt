@@ -67,7 +67,7 @@ pub fn put(out: &mut [u8], pen: Pen, m: Message) -> Pen {
     put_fields(out, pen, older_types::kind_of(m), values_of(m))
 }
 
-#[derive(Drop)]
+#[derive(Clone, Copy)]
 pub enum Made {
     Message(Message),
     Nothing,

@@ -115,7 +115,7 @@ fn is_known(d: Dated) -> bool {
 }
 
 // What is listed of the latest messages, and whether there is one.
-#[derive(Drop)]
+#[derive(Clone, Copy)]
 struct Listed {
     pen: Pen,
     some: bool,

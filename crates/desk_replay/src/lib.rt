@@ -11,7 +11,7 @@ use text_bytes::Bytes;
 use text_pen::Pen;
 
 // The replay and the pen after a call; `at` is the byte where the next record begins.
-#[derive(Drop)]
+#[derive(Clone, Copy)]
 struct Course {
     replay: Replay,
     pen: Pen,
@@ -19,7 +19,7 @@ struct Course {
     more: bool,
 }
 
-#[derive(Drop)]
+#[derive(Clone, Copy)]
 struct Told {
     pen: Pen,
     next: usize,
@@ -109,7 +109,7 @@ fn put_replay(r: Ready, log: &[u8], out: &mut [u8], pen: Pen) -> Pen {
 }
 
 // A log's bytes are the first `length` of the room; `next` is where the set-ups stand.
-#[derive(Drop)]
+#[derive(Clone, Copy)]
 enum Night {
     Bad,
     Log { length: usize, next: usize },

@@ -5,7 +5,7 @@ use playing_nights::Replay;
 use rule_limits::PlainLimits;
 
 // A replay with its set-ups; not well where the words are none. A set-up that is refused is told by the replay itself.
-#[derive(Drop)]
+#[derive(Clone, Copy)]
 pub struct Ready {
     pub replay: Replay,
     pub well: bool,

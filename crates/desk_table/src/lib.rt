@@ -13,7 +13,7 @@ use text_pen::Pen;
 use watch_rules::Table;
 
 // The table after a line, and its answer.
-#[derive(Drop)]
+#[derive(Clone, Copy)]
 pub struct Line {
     pub table: Table,
     pub pen: Pen,

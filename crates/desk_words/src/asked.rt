@@ -2,7 +2,7 @@
 use notation_read::fields;
 use notation_read::fields::Last;
 
-#[derive(Drop)]
+#[derive(Clone, Copy)]
 pub enum Asked {
     Nothing,
     Findings(u32),

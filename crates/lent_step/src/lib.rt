@@ -13,7 +13,7 @@ use watch_rules::{Answer, Arrival, Heard};
 
 // What a post heard, with the table's count of refused frames and ticks afterwards, the answer as a word, and whether it was taken.
 // Where it was, the count is as it was; where it was not, the head is, and no slot is filled (`heard-apart`, proofs/Taken.antt).
-#[derive(Drop)]
+#[derive(Clone, Copy)]
 pub struct Worded {
     pub head: Head,
     pub slot: Slot,

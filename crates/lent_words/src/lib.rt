@@ -9,7 +9,7 @@ use plain_words::refusal_word;
 use rule_limits::PlainLimits;
 use watch_rules::{Answer, Setting, Table};
 
-#[derive(Drop)]
+#[derive(Clone, Copy)]
 pub struct Lent {
     pub table: Table,
     pub answer: u32,

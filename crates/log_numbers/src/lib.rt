@@ -5,7 +5,7 @@ ghost use Rattle.log_numbers.specs.declared.Num.TheVariants.{Value, Ill};
 ghost use Rattle.log_numbers.specs.Number.{InWord, read_number};
 
 // What reading a number finds: its value and how many bytes it takes; or the bytes end in it; or it is ill-formed.
-#[derive(Drop)]
+#[derive(Clone, Copy)]
 pub enum Num {
     Value { n: u32, size: usize },
     Cut,

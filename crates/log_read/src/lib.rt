@@ -11,7 +11,7 @@ use refusals::Refusal;
 use stage::record_from;
 
 // What a whole log reads as: how many records, and how it ends.
-#[derive(Drop)]
+#[derive(Clone, Copy)]
 pub enum Scan {
     End {
         records: usize,

@@ -3,7 +3,7 @@
 use refusals::Refusal;
 
 // A record that was read: a tick, or a frame whose payload is the `length` bytes of the log from `start` on. The next record begins at `next`.
-#[derive(Drop)]
+#[derive(Clone, Copy)]
 pub struct Entry {
     pub tick: bool,
     pub time: u32,
@@ -16,7 +16,7 @@ pub struct Entry {
 }
 
 // What the bytes from a place on begin with.
-#[derive(Drop)]
+#[derive(Clone, Copy)]
 pub enum Taken {
     Whole(Entry),
     Cut,
@@ -25,7 +25,7 @@ pub enum Taken {
 
 // What stands at a place of a log: a record; nothing, the log ends there; a piece of a record that begins there and is cut; or a record that
 // begins there and is refused.
-#[derive(Drop)]
+#[derive(Clone, Copy)]
 pub enum Found {
     Record(Entry),
     End,

@@ -11,7 +11,7 @@ use std::num::wrapping_add_u64;
 
 // Where a walk stands: behind a record, in its piece; where the next piece begins, which is still to be read; at the log's end; at a piece of a record,
 // with which the log ends; at a malformed record; or in a piece that neither holds a whole record nor reaches the log's end.
-#[derive(Drop)]
+#[derive(Clone, Copy)]
 pub enum Stand {
     Within,
     Seam,
@@ -22,7 +22,7 @@ pub enum Stand {
 }
 
 // Over a log of `size` bytes: the whole records so far, the byte of the log behind them, and the byte of the log where the piece begins.
-#[derive(Drop)]
+#[derive(Clone, Copy)]
 pub struct Walk {
     pub size: u64,
     pub records: u64,
@@ -32,7 +32,7 @@ pub struct Walk {
 }
 
 // What a piece shows at a place: a record, by the byte of the piece behind it; the piece's end; a piece of a record; a malformed record.
-#[derive(Drop)]
+#[derive(Clone, Copy)]
 pub enum Seen {
     Record(usize),
     End,
@@ -40,7 +40,7 @@ pub enum Seen {
     Bad(Refusal),
 }
 
-#[derive(Drop)]
+#[derive(Clone, Copy)]
 pub struct Step {
     pub walk: Walk,
     pub found: Found,

@@ -11,7 +11,7 @@ use refusals::Refusal;
 use store::{head_size, part_of, store_bytes, store_head};
 
 // An accepted record answers the number of its bytes.
-#[derive(Drop)]
+#[derive(Clone, Copy)]
 pub enum Logged {
     Bytes(usize),
     Refused(Refusal),

@@ -7,13 +7,13 @@ pub mod labels; // labels.rt: labels and their numbers
 
 // ---- labels: "a label is a named case of its own type"
 
-#[derive(Drop)]
+#[derive(Clone, Copy)]
 pub enum SystemEnable {
     NotAllowed,
     Allowed,
 }
 
-#[derive(Drop)]
+#[derive(Clone, Copy)]
 pub enum ControllerState {
     Initialising,
     WaitingForPev,
@@ -31,7 +31,7 @@ pub enum ControllerState {
     ChargePause,
 }
 
-#[derive(Drop)]
+#[derive(Clone, Copy)]
 pub enum Protocol {
     CcsDin70121v2012,
     CcsIso15118v2010,
@@ -43,7 +43,7 @@ pub enum Protocol {
     CcsIso15118v2022,
 }
 
-#[derive(Drop)]
+#[derive(Clone, Copy)]
 pub enum Plug {
     CcsDcCore,
     CcsDcExtended,
@@ -52,13 +52,13 @@ pub enum Plug {
     Mcs,
 }
 
-#[derive(Drop)]
+#[derive(Clone, Copy)]
 pub enum ChargeStatus {
     ChargeStopped,
     ChargeStarted,
 }
 
-#[derive(Drop)]
+#[derive(Clone, Copy)]
 pub enum PowerFunction {
     Off,
     Standby,
@@ -67,61 +67,61 @@ pub enum PowerFunction {
     PowerTransfer,
 }
 
-#[derive(Drop)]
+#[derive(Clone, Copy)]
 pub enum SetpointsMode {
     TargetMode,
     RangeMode,
 }
 
-#[derive(Drop)]
+#[derive(Clone, Copy)]
 pub enum OutputContactors {
     Open,
     Close,
 }
 
-#[derive(Drop)]
+#[derive(Clone, Copy)]
 pub enum LowerOutput {
     NoLowering,
     Lowering,
 }
 
-#[derive(Drop)]
+#[derive(Clone, Copy)]
 pub enum SessionEnd {
     CleanStop,
     RushedStop,
 }
 
-#[derive(Drop)]
+#[derive(Clone, Copy)]
 pub enum StopOrigin {
     Evse,
     Pev,
 }
 
-#[derive(Drop)]
+#[derive(Clone, Copy)]
 pub enum Permission {
     NotAllowed,
     Allowed,
 }
 
-#[derive(Drop)]
+#[derive(Clone, Copy)]
 pub enum Button {
     NotPressed,
     Pressed,
 }
 
-#[derive(Drop)]
+#[derive(Clone, Copy)]
 pub enum Step {
     NotDone,
     Done,
 }
 
-#[derive(Drop)]
+#[derive(Clone, Copy)]
 pub enum Validity {
     Invalid,
     Valid,
 }
 
-#[derive(Drop)]
+#[derive(Clone, Copy)]
 pub enum PilotState {
     EOrF,
     D,
@@ -130,7 +130,7 @@ pub enum PilotState {
     A,
 }
 
-#[derive(Drop)]
+#[derive(Clone, Copy)]
 pub enum CeState {
     Undefined,
     A,
@@ -144,7 +144,7 @@ pub enum CeState {
     E,
 }
 
-#[derive(Drop)]
+#[derive(Clone, Copy)]
 pub enum Mating {
     Unmated,
     Mated,
@@ -154,7 +154,7 @@ pub enum Mating {
 
 // The state of the control pilot and that of the proximity pin, as the safety controller tells them.
 
-#[derive(Drop)]
+#[derive(Clone, Copy)]
 pub enum CpState {
     Unknown,
     A,
@@ -166,7 +166,7 @@ pub enum CpState {
     Invalid,
 }
 
-#[derive(Drop)]
+#[derive(Clone, Copy)]
 pub enum PpState {
     NoCable,
     Amps13,
@@ -180,7 +180,7 @@ pub enum PpState {
 
 // ---- messages of the charger: volts and amperes in whole tenths, temperatures in °C, insulation in kOhm
 
-#[derive(Drop)]
+#[derive(Clone, Copy)]
 pub struct PowerModulesStatus {
     pub voltage: u16,
     pub current: i16,
@@ -190,7 +190,7 @@ pub struct PowerModulesStatus {
     pub insulation: u16,
 }
 
-#[derive(Drop)]
+#[derive(Clone, Copy)]
 pub struct DcPowerParameters {
     pub voltage: u16,
     pub charge: u16,
@@ -198,23 +198,23 @@ pub struct DcPowerParameters {
     pub target: i16,
 }
 
-#[derive(Drop)]
+#[derive(Clone, Copy)]
 pub struct ControllerStatus {
     pub state: ControllerState,
 }
 
-#[derive(Drop)]
+#[derive(Clone, Copy)]
 pub struct NewChargeSession {
     pub protocol: Protocol,
     pub plug: Plug,
 }
 
-#[derive(Drop)]
+#[derive(Clone, Copy)]
 pub struct ChargeStatusChange {
     pub status: ChargeStatus,
 }
 
-#[derive(Drop)]
+#[derive(Clone, Copy)]
 pub struct DcPowerControl {
     pub target: u16,
     pub max: i16,
@@ -226,17 +226,17 @@ pub struct DcPowerControl {
     pub lowering: LowerOutput,
 }
 
-#[derive(Drop)]
+#[derive(Clone, Copy)]
 pub struct ChargeSessionFinished {
     pub state: SessionEnd,
 }
 
-#[derive(Drop)]
+#[derive(Clone, Copy)]
 pub struct EmergencyStop {
     pub origin: StopOrigin,
 }
 
-#[derive(Drop)]
+#[derive(Clone, Copy)]
 pub struct EvId {
     pub byte0: u8,
     pub byte1: u8,
@@ -248,7 +248,7 @@ pub struct EvId {
 
 // ---- messages of the charger that document 001 lays out alike: the duty cycle in whole tenths, temperatures in °C
 
-#[derive(Drop)]
+#[derive(Clone, Copy)]
 pub struct SequenceControl {
     pub authorisation: Permission,
     pub chademo: Button,
@@ -258,7 +258,7 @@ pub struct SequenceControl {
     pub stop: Button,
 }
 
-#[derive(Drop)]
+#[derive(Clone, Copy)]
 pub struct SeccOutputs {
     pub output1: bool,
     pub output2: bool,
@@ -267,7 +267,7 @@ pub struct SeccOutputs {
     pub reserved: u64,
 }
 
-#[derive(Drop)]
+#[derive(Clone, Copy)]
 pub struct CuiInputs {
     pub switch0: bool,
     pub switch1: bool,
@@ -282,7 +282,7 @@ pub struct CuiInputs {
     pub pistol2: i16,
 }
 
-#[derive(Drop)]
+#[derive(Clone, Copy)]
 pub struct SeccInputs {
     pub input1: bool,
     pub input2: bool,
@@ -294,7 +294,7 @@ pub struct SeccInputs {
     pub pistol2: i16,
 }
 
-#[derive(Drop)]
+#[derive(Clone, Copy)]
 pub struct SpccInputs {
     pub input1: bool,
     pub input2: bool,
@@ -309,14 +309,14 @@ pub struct SpccInputs {
     pub pt1ksd: i16,
 }
 
-#[derive(Drop)]
+#[derive(Clone, Copy)]
 pub struct CcsExtraInformation {
     pub state: PilotState,
     pub duty: u16,
     pub reserved: u64,
 }
 
-#[derive(Drop)]
+#[derive(Clone, Copy)]
 pub struct McsExtraInformation {
     pub ce: CeState,
     pub id: Mating,
@@ -325,7 +325,7 @@ pub struct McsExtraInformation {
 
 // ---- messages about the vehicle: volts and amperes in whole tenths, power in kW, energy in kWh, charge in %
 
-#[derive(Drop)]
+#[derive(Clone, Copy)]
 pub struct EvInformationBattery {
     pub capacity: u16,
     pub present: u8,
@@ -334,7 +334,7 @@ pub struct EvInformationBattery {
     pub maximum: u8,
 }
 
-#[derive(Drop)]
+#[derive(Clone, Copy)]
 pub struct EvInformationVoltages {
     pub minimum: u16,
     pub maximum: u16,
@@ -342,7 +342,7 @@ pub struct EvInformationVoltages {
 }
 
 // What a vehicle can charge with, and what it can be discharged with: two messages of one layout.
-#[derive(Drop)]
+#[derive(Clone, Copy)]
 pub struct EvInformationLimits {
     pub mincurrent: u16,
     pub maxcurrent: u16,
@@ -350,14 +350,14 @@ pub struct EvInformationLimits {
     pub maxpower: u16,
 }
 
-#[derive(Drop)]
+#[derive(Clone, Copy)]
 pub struct EvInformationEnergy {
     pub minimum: i16,
     pub target: i16,
     pub maximum: i16,
 }
 
-#[derive(Drop)]
+#[derive(Clone, Copy)]
 pub struct OcppControl {
     pub target: i16,
 }
@@ -365,7 +365,7 @@ pub struct OcppControl {
 // ---- messages of the safety controller and its host: a duty is the raw number of tenths of a percent, above 1,000 too, and a temperature that of tenths of
 // a degree
 
-#[derive(Drop)]
+#[derive(Clone, Copy)]
 pub struct ChargeControl1 {
     pub duty: u16,
     pub pwm: bool,
@@ -373,7 +373,7 @@ pub struct ChargeControl1 {
     pub contactor2: bool,
 }
 
-#[derive(Drop)]
+#[derive(Clone, Copy)]
 pub struct ChargeState1 {
     pub duty: u16,
     pub pwm: bool,
@@ -392,7 +392,7 @@ pub struct ChargeState1 {
     pub imdfailure: bool,
 }
 
-#[derive(Drop)]
+#[derive(Clone, Copy)]
 pub struct Pt1000State {
     pub temperature1: i16,
     pub stopped1: bool,
@@ -460,7 +460,7 @@ pub const MCS: usize = 41;
 
 pub const OCPP: usize = 42;
 
-#[derive(Drop)]
+#[derive(Clone, Copy)]
 pub enum Message {
     Status(PowerModulesStatus),
     Parameters(DcPowerParameters),

@@ -9,7 +9,7 @@ use page_write::Written;
 use refusals::Refusal;
 
 // A frame's one message, or its refusal.
-#[derive(Drop)]
+#[derive(Clone, Copy)]
 pub enum Reading {
     Accepted(Message),
     Refused(Refusal),

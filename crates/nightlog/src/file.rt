@@ -47,7 +47,7 @@ fn flush_folder(name: &[u8], out: &mut [u8]) -> bool {
 }
 
 // A descriptor whose every write lands at the file's end, or a number below 0, and then that was said; whether the file's name is known to last.
-#[derive(Drop)]
+#[derive(Clone, Copy)]
 pub struct Ours {
     pub fd: i32,
     pub lasts: bool,

@@ -5,7 +5,7 @@ use notation_read::heard::Heard;
 use refusals::Refusal;
 
 // A record's bytes are the first of the buffer that was lent for them; Bad where the line is no frame or tick.
-#[derive(Drop)]
+#[derive(Clone, Copy)]
 pub enum Record {
     Bad,
     Bytes(usize),

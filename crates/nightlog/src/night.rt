@@ -6,7 +6,7 @@ use std::num::wrapping_add_u64;
 // What is kept from line to line: the file and where its last whole record ends; how many records were written, and how many of them are flushed;
 // whether the file's name lasts and no flush has failed; the number of lines, how much of the last is in the line buffer and whether it is over its
 // length; whether something was written since the last flush, and in which second that was; whether the input is at its end.
-#[derive(Drop)]
+#[derive(Clone, Copy)]
 pub struct Night {
     pub fd: i32,
     pub end: u64,

@@ -6,7 +6,7 @@ use log_walk::{Walk, file};
 use text_pen::Pen;
 
 // A walk over a file, and the pen of its lines; failed where the file could not be read to its end, which was said, or its lines could not be written.
-#[derive(Drop)]
+#[derive(Clone, Copy)]
 pub struct Course {
     pub walk: Walk,
     pub pen: Pen,

@@ -7,7 +7,7 @@ use std::num::wrapping_add_u64;
 const FEW: u64 = 4;
 
 // A look at the file's end, piece by piece towards its front: behind the byte `from` it has nothing but zeros so far.
-#[derive(Drop)]
+#[derive(Clone, Copy)]
 struct Look {
     from: u64,
     more: bool,

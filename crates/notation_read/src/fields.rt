@@ -6,14 +6,14 @@ use text_bytes::Bytes;
 use text_lines::Field;
 
 // A number that the line ends with.
-#[derive(Drop)]
+#[derive(Clone, Copy)]
 pub enum Last {
     Bad,
     Is(u32),
 }
 
 // `CHANNEL TIME`
-#[derive(Drop)]
+#[derive(Clone, Copy)]
 pub enum Stamp {
     Bad,
     Is {
@@ -24,7 +24,7 @@ pub enum Stamp {
 }
 
 // `ID x|s`
-#[derive(Drop)]
+#[derive(Clone, Copy)]
 pub enum Head {
     Bad,
     Is {

@@ -7,7 +7,7 @@ use crate::fields::{Head, Stamp};
 use text_bytes::Bytes;
 
 // A frame's bytes are the first `length` of the room that was lent for them.
-#[derive(Drop)]
+#[derive(Clone, Copy)]
 pub enum Heard {
     Bad,
     Frame {

@@ -7,14 +7,14 @@ use notation_read::fields::Last;
 use text_lines::Field;
 
 // `[SENSOR [IFACE]]`
-#[derive(Drop)]
+#[derive(Clone, Copy)]
 pub enum Choices {
     Bad,
     Is(u32, u32),
 }
 
 // `VOLT CHG DIS W [SENSOR [IFACE]]`
-#[derive(Drop)]
+#[derive(Clone, Copy)]
 pub enum Limits {
     Bad,
     Is {
@@ -27,7 +27,7 @@ pub enum Limits {
     },
 }
 
-#[derive(Drop)]
+#[derive(Clone, Copy)]
 pub enum Asked {
     Bad,
     Setup {

@@ -13,7 +13,7 @@ use page_write::Written;
 use refusals::Refusal;
 
 // A frame's one message, or its refusal.
-#[derive(Drop)]
+#[derive(Clone, Copy)]
 pub enum Reading {
     Accepted(Message),
     Refused(Refusal),

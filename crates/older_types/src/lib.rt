@@ -11,7 +11,7 @@ use message_types::{
 
 // ---- messages: volts, amperes and the duty cycle in whole tenths, temperatures in °C, insulation in kOhm, a battery's capacity in kWh, its charge in %
 
-#[derive(Drop)]
+#[derive(Clone, Copy)]
 pub struct PowerModulesStatus {
     pub voltage: u16,
     pub current: i16,
@@ -21,14 +21,14 @@ pub struct PowerModulesStatus {
     pub insulation: u16,
 }
 
-#[derive(Drop)]
+#[derive(Clone, Copy)]
 pub struct PowerModulesLimits {
     pub voltage: u16,
     pub current: i16,
     pub reserved: u64,
 }
 
-#[derive(Drop)]
+#[derive(Clone, Copy)]
 pub struct NewChargeSession {
     pub protocol: Protocol,
     pub plug: Plug,
@@ -38,45 +38,45 @@ pub struct NewChargeSession {
     pub charge: u8,
 }
 
-#[derive(Drop)]
+#[derive(Clone, Copy)]
 pub struct InsulationTest {
     pub voltage: u16,
 }
 
-#[derive(Drop)]
+#[derive(Clone, Copy)]
 pub struct PrechargeTarget {
     pub voltage: u16,
     pub current: u16,
 }
 
-#[derive(Drop)]
+#[derive(Clone, Copy)]
 pub struct ChargeStatusChange {
     pub status: ChargeStatus,
 }
 
-#[derive(Drop)]
+#[derive(Clone, Copy)]
 pub struct ChargingLoop {
     pub voltage: u16,
     pub current: i16,
     pub charge: u8,
 }
 
-#[derive(Drop)]
+#[derive(Clone, Copy)]
 pub struct EmergencyStop {
     pub origin: StopOrigin,
 }
 
-#[derive(Drop)]
+#[derive(Clone, Copy)]
 pub struct ChargeSessionFinished {
     pub state: SessionEnd,
 }
 
-#[derive(Drop)]
+#[derive(Clone, Copy)]
 pub struct ControllerStatus {
     pub state: ControllerState,
 }
 
-#[derive(Drop)]
+#[derive(Clone, Copy)]
 pub struct EvId {
     pub byte0: u8,
     pub byte1: u8,
@@ -130,7 +130,7 @@ pub const CCS: usize = 28;
 
 pub const MCS: usize = 29;
 
-#[derive(Drop)]
+#[derive(Clone, Copy)]
 pub enum Message {
     SafetyControl(ChargeControl1),
     SafetyState(ChargeState1),

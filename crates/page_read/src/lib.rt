@@ -14,20 +14,20 @@ mod signals; // signals.rt: 5 and 6 by a walk over the message's rows
 pub use signals::start_bit;
 
 // The start of the first signal that holds a number without a label.
-#[derive(Drop)]
+#[derive(Clone, Copy)]
 enum Offence {
     Start(u8),
     Nothing,
 }
 
-#[derive(Drop)]
+#[derive(Clone, Copy)]
 struct Sifted {
     offence: Offence,
     rest: u64,
 }
 
 // The reader's answer: kind and payload number of the frame, or its refusal.
-#[derive(Drop)]
+#[derive(Clone, Copy)]
 pub enum Judged {
     Frame(usize, u64),
     Refused(Refusal),

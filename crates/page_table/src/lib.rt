@@ -5,7 +5,7 @@
 // in bytes and its byte order (`big`: byte 0 is highest, and a start names the highest bit). `low` is the signal's lowest bit in the payload
 // number, which follows from the rest: worked out beforehand, and held to it by the proofs of `line_at`. Bit n of labels says that the raw
 // number n has a label, and 0 that the signal has none.
-#[derive(Drop)]
+#[derive(Clone, Copy)]
 pub struct Row {
     pub kind: usize,
     pub id: u32,
@@ -20,16 +20,16 @@ pub struct Row {
 }
 
 // A row as the table has it: kind, start, width, lowest bit, signed, labels. The kind names the message.
-#[derive(Drop)]
+#[derive(Clone, Copy)]
 pub struct Line(pub usize, pub u32, pub u32, pub u32, pub bool, pub u64);
 
 // A message: identifier, extended, bytes, big, and the place of its first row in the table.
-#[derive(Drop)]
+#[derive(Clone, Copy)]
 pub struct Message(pub u32, pub bool, pub usize, pub bool, pub usize);
 
 // 02, Req 11: "Set-up names a post's interface": the pages of document 000, or those of document 001, of the older controllers. The frames of the safety
 // controller, of document 004, belong to either.
-#[derive(Drop)]
+#[derive(Clone, Copy)]
 pub enum Interface {
     Newer,
     Older,
@@ -45,14 +45,14 @@ pub const REST_KIND: usize = 30;
 // How many messages all documents have.
 pub const MESSAGE_COUNT: usize = 43;
 
-#[derive(Drop)]
+#[derive(Clone, Copy)]
 pub enum Found {
     At(usize),
     Nothing,
 }
 
 // A message that was searched for: its kind, the place of its first row, its bytes, and its byte order.
-#[derive(Drop)]
+#[derive(Clone, Copy)]
 pub enum FoundMessage {
     At(usize, usize, usize, bool),
     Nothing,

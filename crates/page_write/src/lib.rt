@@ -13,14 +13,14 @@ mod at_row; // at_row.rt: what packing does at a row
 mod signals; // signals.rt: the loops over one message's rows
 
 // The payload number of raw numbers that all fit and have their labels.
-#[derive(Drop)]
+#[derive(Clone, Copy)]
 enum Packed {
     Number(u64),
     Refused,
 }
 
 // An accepted writing answers the identifier and the number of bytes.
-#[derive(Drop)]
+#[derive(Clone, Copy)]
 pub enum Written {
     Wrote(u32, usize),
     Refused(Refusal),

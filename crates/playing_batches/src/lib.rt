@@ -22,14 +22,14 @@ use watch_rules::Table;
 
 // What a batch answers: so many records, whose lines have so many bytes; the refusal of the set-up that ended the replay; or the number of the refusal, 8 or
 // the batch's own, and nothing was fed.
-#[derive(Drop)]
+#[derive(Clone, Copy)]
 pub enum Written {
     Lines { records: u32, bytes: usize },
     SetUp(Refusal),
     Refused(u32),
 }
 
-#[derive(Drop)]
+#[derive(Clone, Copy)]
 pub struct Batched {
     pub replay: Replay,
     pub answer: Written,

@@ -4,7 +4,7 @@ use refusals::Refusal;
 use watch_rules::{Answer, Table};
 
 // What a replay stands at: its set-ups may still come; records were fed; or a set-up was refused, which ended it.
-#[derive(Drop)]
+#[derive(Clone, Copy)]
 pub enum Course {
     SetUps,
     Records,
@@ -12,7 +12,7 @@ pub enum Course {
 }
 
 // The count is that of the records fed so far.
-#[derive(Drop)]
+#[derive(Clone, Copy)]
 pub struct Replay {
     pub table: Table,
     pub count: u64,
@@ -20,14 +20,14 @@ pub struct Replay {
 }
 
 // A set-up after the first record is late: nothing changes.
-#[derive(Drop)]
+#[derive(Clone, Copy)]
 pub enum Preparing {
     Done,
     Refused(Refusal),
     Late,
 }
 
-#[derive(Drop)]
+#[derive(Clone, Copy)]
 pub struct Prepared {
     pub replay: Replay,
     pub answer: Preparing,
@@ -35,7 +35,7 @@ pub struct Prepared {
 
 // What a call answers: a line of so many bytes, and the byte where the next record begins; the log's end; a cut piece, by its byte; a malformed
 // record, by its refusal and its byte; the refusal of the set-up that ended the replay; or 8, the buffer being too short for a line.
-#[derive(Drop)]
+#[derive(Clone, Copy)]
 pub enum Played {
     Line { bytes: usize, next: usize },
     End,
@@ -46,7 +46,7 @@ pub enum Played {
 }
 
 // Beside a line stands what it tells: the watch's answer to the record, for callers that count. Where there is no line it is no finding.
-#[derive(Drop)]
+#[derive(Clone, Copy)]
 pub struct Next {
     pub replay: Replay,
     pub answer: Played,

@@ -12,14 +12,14 @@ use watch_rules::Table;
 // A replay as plain numbers: its table, the records fed so far, and its course: 0 where set-ups may come, 1 where records were fed, the word of the refusal
 // where a set-up was refused. Zeroed memory is a replay that was just started.
 #[repr(C)]
-#[derive(Drop)]
+#[derive(Clone, Copy)]
 pub struct PlainReplay {
     pub table: Table,
     pub count: u64,
     pub course: u64,
 }
 
-#[derive(Drop)]
+#[derive(Clone, Copy)]
 pub struct LentReplay {
     pub replay: PlainReplay,
     pub answer: u32,

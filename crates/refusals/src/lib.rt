@@ -6,7 +6,7 @@ ghost use Rattle.refusals.specs.Refusals.{number_of, start_of};
 // 01, "Numbers given back": a case for each number, in their order (`number_of` in specs/). Those of 02 follow: a length above the table's
 // (Req 02), the night log's (Req 01), a batch's (Req 07), a full count's (Req 08), a comparison's (Req 10) and the other interface's (Req 11).
 // 5 carries the start bit of the signal (02, Req 02).
-#[derive(Drop)]
+#[derive(Clone, Copy)]
 pub enum Refusal {
     ChannelFree,
     Earlier,

@@ -7,7 +7,7 @@ use std::num::wrapping_sub_u64;
 use text_pen::Pen;
 
 // A walk over the log, and where its lines wait; failed where something could not be read or written, which was said.
-#[derive(Drop)]
+#[derive(Clone, Copy)]
 pub struct Course {
     pub pen: Pen,
     pub walk: Walk,
@@ -15,7 +15,7 @@ pub struct Course {
 }
 
 // The replay stands apart from the course, which most functions hand on alone: with its table it is large.
-#[derive(Drop)]
+#[derive(Clone, Copy)]
 pub struct Read {
     pub replay: Replay,
     pub course: Course,

@@ -9,7 +9,7 @@ use rule_limits::PlainLimits;
 use std::num::wrapping_add_u64;
 
 // A replay with its set-ups; not ready where the file holds something else, or a set-up was refused, and that was said.
-#[derive(Drop)]
+#[derive(Clone, Copy)]
 pub struct Posts {
     pub replay: Replay,
     pub line: u64,

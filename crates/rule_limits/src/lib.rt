@@ -8,7 +8,7 @@ pub use page_table::Interface;
 pub mod kept; // kept.rt: limits as they are handed in and out, and as they are kept
 
 // 02, Req 03: an insulation sensor that measures, or one that only knows yes and no.
-#[derive(Drop)]
+#[derive(Clone, Copy)]
 pub enum Sensor {
     Measuring,
     YesNo,
@@ -16,7 +16,7 @@ pub enum Sensor {
 
 // Default voltage in tenths of a volt, default charge and discharge current in tenths of an ampere, power module silence W in ms, the sensor kind, and the
 // interface whose pages the post reads (02, Req 11).
-#[derive(Drop)]
+#[derive(Clone, Copy)]
 pub struct Limits {
     pub voltage: u32,
     pub charge: u32,
@@ -28,7 +28,7 @@ pub struct Limits {
 
 // The same as a post keeps them: the sensor kind and the interface by their numbers.
 #[repr(C)]
-#[derive(Drop)]
+#[derive(Clone, Copy)]
 pub struct PlainLimits {
     pub voltage: u32,
     pub charge: u32,

@@ -19,7 +19,7 @@ pub const PLACES: usize = 25;
 
 // ---- what a frame is asked for
 
-#[derive(Drop)]
+#[derive(Clone, Copy)]
 pub enum Role {
     Other,
     Status,

@@ -20,7 +20,7 @@ pub const COUNTS: usize = 13;
 
 // The latest frame of a kind, as it came.
 #[repr(C)]
-#[derive(Drop)]
+#[derive(Clone, Copy)]
 pub struct Slot {
     pub known: u32,
     pub kind: u32,
@@ -40,7 +40,7 @@ pub const KEPT: usize = 3;
 
 // All zero where none is open. `first` is the payload number of the New_Charge_Session that opened it.
 #[repr(C)]
-#[derive(Drop)]
+#[derive(Clone, Copy)]
 pub struct Session {
     pub opened: u64,
     pub since: u64,
@@ -51,7 +51,7 @@ pub struct Session {
 // What an event steps of a post: what the rules read, and the counts. The latest controller status and the latest limits told stand here too, so that they read
 // nothing else.
 #[repr(C)]
-#[derive(Drop)]
+#[derive(Clone, Copy)]
 pub struct Head {
     pub used: u32,
     pub channel: u32,
@@ -65,14 +65,14 @@ pub struct Head {
 }
 
 #[repr(C)]
-#[derive(Drop)]
+#[derive(Clone, Copy)]
 pub struct Post {
     pub head: Head,
     pub latest: [Slot; PLACES],
 }
 
 // A head after an event, the slot that the event fills and its place (PLACES where it fills none), and the event's findings.
-#[derive(Drop)]
+#[derive(Clone, Copy)]
 pub struct AfterEvent {
     pub head: Head,
     pub slot: Slot,
@@ -82,26 +82,26 @@ pub struct AfterEvent {
 
 // ---- the record as it is handed out: each time as it was received and, beside it, its age in ms as of the post's latest event
 
-#[derive(Drop)]
+#[derive(Clone, Copy)]
 pub enum LastTime {
     Never,
     At(u32),
 }
 
 // The time of a message as it was received, and its age; a message of the older interface's pages has a type of its own.
-#[derive(Drop)]
+#[derive(Clone, Copy)]
 pub enum Dated {
     Nothing,
     At(u32, u32, Message),
     OlderAt(u32, u32, older_types::Message),
 }
 
-#[derive(Drop)]
+#[derive(Clone, Copy)]
 pub struct Latest {
     pub message: Dated,
 }
 
-#[derive(Drop)]
+#[derive(Clone, Copy)]
 pub struct OpenSession {
     pub since: u32,
     pub age: u32,
@@ -109,7 +109,7 @@ pub struct OpenSession {
     pub plug: Plug,
 }
 
-#[derive(Drop)]
+#[derive(Clone, Copy)]
 pub enum SessionPart {
     Closed,
     Opened(OpenSession),
@@ -117,7 +117,7 @@ pub enum SessionPart {
 
 // What an open session keeps stands at the same places as in the table, beside the session: all messages of both interfaces in each of three fields would be
 // more than a type may have.
-#[derive(Drop)]
+#[derive(Clone, Copy)]
 pub struct Record {
     pub channel: u32,
     pub limits: Limits,

@@ -6,7 +6,7 @@ ghost use Rattle.service.specs.Probes.{degrees_of, probe_of};
 ghost use Rattle.service.specs.Duty.{limited_duty};
 
 // One of 004's four PT1000 channels. 02: "a probe reading is either degrees as a float or not used"
-#[derive(Drop)]
+#[derive(Clone, Copy)]
 pub enum Probe {
     NotUsed,
     Degrees(f32),

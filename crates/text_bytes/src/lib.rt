@@ -5,7 +5,7 @@ ghost use Rattle.text_numbers.specs.Numbers.{are_digits};
 ghost use Rattle.text_bytes.specs.Hex.{is_dash, bytes_of, bytes_in, stored_in};
 
 // How many bytes were stored.
-#[derive(Drop)]
+#[derive(Clone, Copy)]
 pub enum Bytes {
     Bad,
     Is(usize),

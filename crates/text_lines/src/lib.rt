@@ -6,7 +6,7 @@ ghost use Rattle.text_lines.specs.Lines.{part_end, word_end, as_field, field_of,
 use text_numbers::Number;
 
 // A field's number, and where the next field starts: one past the space, and length + 1 where the line ends with this field.
-#[derive(Drop)]
+#[derive(Clone, Copy)]
 pub enum Field {
     Bad,
     Is(u32, usize),

@@ -5,7 +5,7 @@ mod numbers; // numbers.rt: numbers as text
 pub use numbers::{digit, signed, whole};
 
 // A whole number as text.
-#[derive(Drop)]
+#[derive(Clone, Copy)]
 pub enum Number {
     Bad,
     Is(u64),

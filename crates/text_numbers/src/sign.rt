@@ -1,5 +1,5 @@
 // Apart from the function `signed`: two names of one module differ in more than the case of their letters.
-#[derive(Drop)]
+#[derive(Clone, Copy)]
 pub enum Signed {
     Bad,
     Is(i64),

@@ -5,7 +5,7 @@ ghost use Rattle.std.proofs.Math.Seq.{paste};
 ghost use Rattle.text_pen.specs.Pens.{moved, inked};
 
 // Where the next byte goes; full once something did not fit.
-#[derive(Drop)]
+#[derive(Clone, Copy)]
 pub struct Pen {
     pub at: usize,
     pub full: bool,

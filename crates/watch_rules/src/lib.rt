@@ -18,7 +18,7 @@ pub const CHANNELS: usize = 32;
 // empty table.
 // `refused` counts the frames and ticks that were refused since the table was made, and stays at 4,294,967,295 (02, Req 08).
 #[repr(C)]
-#[derive(Drop)]
+#[derive(Clone, Copy)]
 pub struct Table {
     pub posts: [Post; POSTS],
     pub index: [u32; CHANNELS],
@@ -26,39 +26,39 @@ pub struct Table {
 }
 
 // The findings of an accepted frame or tick, finding k in bit k - 1, or the refusal.
-#[derive(Drop)]
+#[derive(Clone, Copy)]
 pub enum Answer {
     Findings(u32),
     Refused(Refusal),
 }
 
-#[derive(Drop)]
+#[derive(Clone, Copy)]
 pub struct Fed {
     pub table: Table,
     pub answer: Answer,
 }
 
-#[derive(Drop)]
+#[derive(Clone, Copy)]
 pub enum Setting {
     Done,
     Refused(Refusal),
 }
 
-#[derive(Drop)]
+#[derive(Clone, Copy)]
 pub struct Settled {
     pub table: Table,
     pub answer: Setting,
 }
 
 // The record of a refused look-up is an empty one.
-#[derive(Drop)]
+#[derive(Clone, Copy)]
 pub struct LookedUp {
     pub answer: Setting,
     pub shown: Record,
 }
 
 // What comes to a post at a time: a tick, a frame by its kind and payload number, or a frame that its reader refused.
-#[derive(Drop)]
+#[derive(Clone, Copy)]
 pub enum Arrival {
     Tick,
     Frame(u32, u64),
@@ -66,7 +66,7 @@ pub enum Arrival {
 }
 
 // A post's head after an arrival, the slot that the arrival fills and its place (PLACES where it fills none), and the answer.
-#[derive(Drop)]
+#[derive(Clone, Copy)]
 pub struct Heard {
     pub head: Head,
     pub slot: Slot,
