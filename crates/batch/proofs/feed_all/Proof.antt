@@ -33,34 +33,34 @@ invariant-loop log answers₀ heads₀ latest₀ index refused₀ at₀ n₀ ans
 abbrev decreases-loop : tie.decreases-loop
 decreases-loop log answers₀ heads₀ latest₀ index refused₀ at₀ n₀ answers heads latest refused at n = length log - at
 
-heads-of-requires : tie.Need-heads-of-requires invariant-loop decreases-loop
-heads-of-requires c κs = search rules
+heads_of-heads-requires : tie.Need-heads_of-heads-requires invariant-loop decreases-loop
+heads_of-heads-requires c κs = search rules
 
-latest-of-requires : tie.Need-latest-of-requires invariant-loop decreases-loop
-latest-of-requires c κs = search rules
+latest_of-latest-requires : tie.Need-latest_of-latest-requires invariant-loop decreases-loop
+latest_of-latest-requires c κs = search rules
 
-loop-holds : tie.Need-loop-init invariant-loop decreases-loop
-loop-holds c =
-    let a = c.before.before.before.before.before.args in
+loop-e-init : tie.Need-loop-e-init invariant-loop decreases-loop
+loop-e-init c =
+    let a = c.args in
     let n : length a.t.posts ≡ post_count = search unmapped in
-    let hs = c.before.before.heads-of.result in
-    let ls = c.before.latest-of.result in
-    let eh = c.before.before.heads-of.ensures in
-    let el = c.before.latest-of.ensures in
-    start (record { posts = joined hs ls; index = a.t.index; refused = a.t.refused }) a.log.now a.answers.now c.before.before.before.before.before.requires hs ls (ap length eh ∙ length-map a.t.posts (λ p. p.head) ∙ n) (ap length el ∙ length-map a.t.posts (λ p. p.latest) ∙ n)
+    let hs = c.heads_of-heads.result in
+    let ls = c.latest_of-latest.result in
+    let eh = c.heads_of-heads.ensures in
+    let el = c.latest_of-latest.ensures in
+    start (record { posts = joined hs ls; index = a.t.index; refused = a.t.refused }) a.log.now a.answers.now c.requires hs ls (ap length eh ∙ length-map a.t.posts (λ p. p.head) ∙ n) (ap length el ∙ length-map a.t.posts (λ p. p.latest) ∙ n)
     refl
 
-record-at-requires : tie.Need-record-at-requires invariant-loop decreases-loop
-record-at-requires c κs = search rules
+record_at-requires : tie.Need-record_at-requires invariant-loop decreases-loop
+record_at-requires c κs = search rules
 
-enum-known-e : tie.Need-enum-known-e invariant-loop decreases-loop
-enum-known-e c = search rules
+enum_known-e : tie.Need-enum_known-e invariant-loop decreases-loop
+enum_known-e c = search rules
 
-table-of-requires : tie.Need-table-of-requires invariant-loop decreases-loop
-table-of-requires c κs = search rules
+table_of-requires : tie.Need-table_of-requires invariant-loop decreases-loop
+table_of-requires c κs = search rules
 
-same_length : tie.Need-same-length invariant-loop decreases-loop
-same_length c = c.before.before.before.loop.invariant.2
+shape_of-answers-in_default : tie.Need-shape_of-answers-in_default invariant-loop decreases-loop
+shape_of-answers-in_default c = c.loop-e.invariant.2
 
 -- every case but Record, which is the first
 abbrev other_cases : List ℕ
@@ -73,186 +73,157 @@ none_found s go End h = refl
 none_found s go (Cut at) h = refl
 none_found s go (Refused w at) h = refl
 
-returns : tie.Need-returns invariant-loop decreases-loop
-returns c =
+returns-in_default : tie.Need-returns-in_default invariant-loop decreases-loop
+returns-in_default c =
     let z = c.before.before.before in
-    let l = z.loop in
-    let a = z.before.before.before.before.before.before.args in
-    let w = stop _ a.log.now a.answers.now l.answers l.heads l.latest l.refused l.at l.n l.invariant c.before.before.record-at.result c.before.before.record-at.ensures (none_found a.log.now (log_at a.log.now) c.before.before.record-at.result c.before.match.keys2) z.before.before.before.before.before.before.requires in
-    let back = ap₂ joined z.before.before.before.heads-of.ensures z.before.before.latest-of.ensures ∙ joined_posts a.t.posts in
+    let l = z.loop-e in
+    let a = z.args in
+    let w = stop _ a.log.now a.answers.now l.answers l.heads l.latest l.refused l.at l.n l.invariant c.record_at.result c.record_at.ensures (none_found a.log.now (log_at a.log.now) c.record_at.result c.in_default.in_default-own.keys2) z.requires in
+    let back = ap₂ joined z.heads_of-heads.ensures z.latest_of-latest.ensures ∙ joined_posts a.t.posts in
     let whole : List Post → Table = λ (ps : List Post). record { posts = ps; index = a.t.index; refused = a.t.refused } in (
       c.table_of.ensures ∙ w.0 ∙ ap (λ (ps : List Post). table_after (whole ps) (records_in (log_of a.log.now))) back,
       w.1 ∙ ap (λ (ps : List Post). answers_by none (whole ps) (records_in (log_of a.log.now)) a.answers.now) back,
     )
 
-cast-c : tie.Need-overflow-cast-c invariant-loop decreases-loop
-cast-c c = search rules
+overflow_cast-c : tie.Need-overflow_cast-c invariant-loop decreases-loop
+overflow_cast-c c = search rules
 
-mul-place-named : tie.Need-overflow-mul-place-named invariant-loop decreases-loop
-mul-place-named c = search rules
+offset_bounds-index-c : tie.Need-offset_bounds-index-c invariant-loop decreases-loop
+offset_bounds-index-c c = search rules
 
-array-read-place-named : tie.Need-array-read-place-named invariant-loop decreases-loop
-array-read-place-named c = search rules
+bounds-index-c : tie.Need-bounds-index-c invariant-loop decreases-loop
+bounds-index-c c = search rules
 
-place-named-requires : tie.Need-place-named-requires invariant-loop decreases-loop
-place-named-requires c κs = search rules
+place_named-i-requires : tie.Need-place_named-i-requires invariant-loop decreases-loop
+place_named-i-requires c κs = search rules
 
-mul-q : tie.Need-overflow-mul-q invariant-loop decreases-loop
-mul-q c = search rules
+offset_bounds-heads-i : tie.Need-offset_bounds-heads-i invariant-loop decreases-loop
+offset_bounds-heads-i c = search rules
 
-array-copy-out-q : tie.Need-array-copy-out-q invariant-loop decreases-loop
-array-copy-out-q c = search rules
+bounds-heads-i : tie.Need-bounds-heads-i invariant-loop decreases-loop
+bounds-heads-i c = search rules
 
-arrival-of-requires : tie.Need-arrival-of-requires invariant-loop decreases-loop
-arrival-of-requires c κs =
+arrival_of-a-requires : tie.Need-arrival_of-a-requires invariant-loop decreases-loop
+arrival_of-a-requires c κs =
     let z = c.before.before.before.before.before.before.before in
-    let e = c.before.before.before.before.e.given in
-    (entry_lies z.before.before.before.before.before.before.args.log.now z.loop.at e.0.0 (sym c.before.before.before.before.before.before.record-at.ensures ∙ e.1)).0
+    let e = c.e-1.given in
+    (entry_lies z.args.log.now z.loop-e.at e.0.0 (sym c.record_at.ensures ∙ e.1)).0
 
-mul-h : tie.Need-overflow-mul-h invariant-loop decreases-loop
-mul-h c = search rules
+offset_bounds-heads-i-in-loop-e : tie.Need-offset_bounds-heads-i-in-loop-e invariant-loop decreases-loop
+offset_bounds-heads-i-in-loop-e c = search rules
 
-array-copy-out-h : tie.Need-array-copy-out-h invariant-loop decreases-loop
-array-copy-out-h c = search rules
+bounds-heads-i-in-loop-e : tie.Need-bounds-heads-i-in-loop-e invariant-loop decreases-loop
+bounds-heads-i-in-loop-e c = search rules
 
-hear-requires : tie.Need-hear-requires invariant-loop decreases-loop
-hear-requires c κs = search rules
+hear-r-requires : tie.Need-hear-r-requires invariant-loop decreases-loop
+hear-r-requires c κs = search rules
 
-mul-heads : tie.Need-overflow-mul-heads invariant-loop decreases-loop
-mul-heads c = search rules
+offset_bounds-heads-i-in-loop-e-2 : tie.Need-offset_bounds-heads-i-in-loop-e-2 invariant-loop decreases-loop
+offset_bounds-heads-i-in-loop-e-2 c = search rules
 
-array-set-from-heads : tie.Need-array-set-from-heads invariant-loop decreases-loop
-array-set-from-heads c = search rules
+bounds-heads-i-in-loop-e-2 : tie.Need-bounds-heads-i-in-loop-e-2 invariant-loop decreases-loop
+bounds-heads-i-in-loop-e-2 c = search rules
 
-refused-after-requires : tie.Need-refused-after-requires invariant-loop decreases-loop
-refused-after-requires c κs = search rules
+refused_after-refused-requires : tie.Need-refused_after-refused-requires invariant-loop decreases-loop
+refused_after-refused-requires c κs = search rules
 
-answer-word-requires : tie.Need-answer-word-requires invariant-loop decreases-loop
-answer-word-requires c κs = search rules
+answer_word-requires : tie.Need-answer_word-requires invariant-loop decreases-loop
+answer_word-requires c κs = search rules
 
-mul-answers : tie.Need-overflow-mul-answers invariant-loop decreases-loop
-mul-answers c =
+offset_bounds-answers-n : tie.Need-offset_bounds-answers-n invariant-loop decreases-loop
+offset_bounds-answers-n c =
     let z = c.before.before.before.before.before.before.before.before.before.before.before.before.before.before in
-    let l = z.loop in
-    let a = z.before.before.before.before.before.before.args in
-    let e = c.before.before.before.before.before.before.before.before.before.before.before.e.given in
-    let here = sym c.before.before.before.before.before.before.before.before.before.before.before.before.before.record-at.ensures ∙ e.1 in
+    let l = z.loop-e in
+    let a = z.args in
+    let e = c.e-1.given in
+    let here = sym c.record_at.ensures ∙ e.1 in
     let p : l.n < length l.answers = has_place _ a.log.now a.answers.now l.answers l.heads l.latest l.refused l.at l.n l.invariant e.0.0 here in
     search (rules, l.invariant.2)
 
-slice-write-answers : tie.Need-slice-write-answers invariant-loop decreases-loop
-slice-write-answers c =
+bounds-answers-n : tie.Need-bounds-answers-n invariant-loop decreases-loop
+bounds-answers-n c =
     let z = c.before.before.before.before.before.before.before.before.before.before.before.before.before.before in
-    let l = z.loop in
-    let a = z.before.before.before.before.before.before.args in
-    let e = c.before.before.before.before.before.before.before.before.before.before.before.e.given in
-    let here = sym c.before.before.before.before.before.before.before.before.before.before.before.before.before.record-at.ensures ∙ e.1 in
+    let l = z.loop-e in
+    let a = z.args in
+    let e = c.e-1.given in
+    let here = sym c.record_at.ensures ∙ e.1 in
     has_place _ a.log.now a.answers.now l.answers l.heads l.latest l.refused l.at l.n l.invariant e.0.0 here
 
-add-n : tie.Need-overflow-add-n invariant-loop decreases-loop
-add-n c =
+overflow_add-n : tie.Need-overflow_add-n invariant-loop decreases-loop
+overflow_add-n c =
     let z = c.before.before.before.before.before.before.before.before.before.before.before.before.before.before in
-    let l = z.loop in
-    let a = z.before.before.before.before.before.before.args in
-    let e = c.before.before.before.before.before.before.before.before.before.before.before.e.given in
-    let here = sym c.before.before.before.before.before.before.before.before.before.before.before.before.before.record-at.ensures ∙ e.1 in
+    let l = z.loop-e in
+    let a = z.args in
+    let e = c.e-1.given in
+    let here = sym c.record_at.ensures ∙ e.1 in
     let p : l.n < length l.answers = has_place _ a.log.now a.answers.now l.answers l.heads l.latest l.refused l.at l.n l.invariant e.0.0 here in
     search (rules, l.invariant.2)
 
-mul-slot : tie.Need-overflow-mul-slot invariant-loop decreases-loop
-mul-slot c = search rules
+offset_bounds-latest-i : tie.Need-offset_bounds-latest-i invariant-loop decreases-loop
+offset_bounds-latest-i c = search rules
 
-mul-slot-2 : tie.Need-overflow-mul-slot-2 invariant-loop decreases-loop
-mul-slot-2 c = search rules
+offset_bounds-latest-k : tie.Need-offset_bounds-latest-k invariant-loop decreases-loop
+offset_bounds-latest-k c = search rules
 
-index-1-slot : tie.Need-bounds-1-slot invariant-loop decreases-loop
-index-1-slot c = search rules
+bounds-1-slot : tie.Need-bounds-1-slot invariant-loop decreases-loop
+bounds-1-slot c = search rules
 
-index-2-slot : tie.Need-bounds-2-slot invariant-loop decreases-loop
-index-2-slot c = search rules
+bounds-2-slot : tie.Need-bounds-2-slot invariant-loop decreases-loop
+bounds-2-slot c = search rules
 
-loop-less : tie.Need-loop-smaller invariant-loop decreases-loop
-loop-less c =
+loop-e-smaller-then-k-lt-PLACES : tie.Need-loop-e-smaller-then-k-lt-PLACES invariant-loop decreases-loop
+loop-e-smaller-then-k-lt-PLACES c =
     let z = c.before.before.before.before.before.before.before.before.before.before.before.before.before.before.before in
-    let l = z.loop in
-    let a = z.before.before.before.before.before.before.args in
-    let e = c.before.before.before.before.before.before.before.before.before.before.before.before.e.given in
-    let here = sym c.before.before.before.before.before.before.before.before.before.before.before.before.before.before.record-at.ensures ∙ e.1 in
+    let l = z.loop-e in
+    let a = z.args in
+    let e = c.e-1.given in
+    let here = sym c.record_at.ensures ∙ e.1 in
     let w = entry_lies a.log.now l.at e.0.0 here in
     omega (arith, w.1, w.2)
 
-loop-again : tie.Need-loop-preserved invariant-loop decreases-loop
-loop-again c =
+loop-e-preserved-then-k-lt-PLACES : tie.Need-loop-e-preserved-then-k-lt-PLACES invariant-loop decreases-loop
+loop-e-preserved-then-k-lt-PLACES c =
     let z = c.before.before.before.before.before.before.before.before.before.before.before.before.before.before.before in
-    let l = z.loop in
-    let a = z.before.before.before.before.before.before.args in
-    let e = c.before.before.before.before.before.before.before.before.before.before.before.before.e.given in
-    let here = sym c.before.before.before.before.before.before.before.before.before.before.before.before.before.before.record-at.ensures ∙ e.1 in
-    let i = c.before.before.before.before.before.before.before.before.before.before.place-named in
-    let w = c.before.before.before.before.before.before.before.arrival-of in
-    let r = c.before.before.before.before.before.hear in
-    turn _ a.log.now a.answers.now l.answers l.heads l.latest l.refused l.at l.n l.invariant e.0.0 here i.result i.ensures.1 i.ensures.0 r.result (heard_read _ a.log.now e.0.0 _ _ w.ensures r.ensures.0) c.before.before.refused-after.result c.before.before.refused-after.ensures c.before.answer_word.result c.before.answer_word.ensures _
-    (latest_kept l.heads l.latest a.t.index l.refused i.result (omega (arith, l.invariant.0, i.ensures.1)) (omega (arith, l.invariant.1, i.ensures.1)) r.result c.if1.true)
+    let l = z.loop-e in
+    let a = z.args in
+    let e = c.e-1.given in
+    let here = sym c.record_at.ensures ∙ e.1 in
+    let i = c.place_named-i in
+    let w = c.arrival_of-a in
+    let r = c.hear-r in
+    turn _ a.log.now a.answers.now l.answers l.heads l.latest l.refused l.at l.n l.invariant e.0.0 here i.result i.ensures.1 i.ensures.0 r.result (heard_read _ a.log.now e.0.0 _ _ w.ensures r.ensures.0) c.refused_after-refused.result c.refused_after-refused.ensures c.answer_word.result c.answer_word.ensures _
+    (latest_kept l.heads l.latest a.t.index l.refused i.result (omega (arith, l.invariant.0, i.ensures.1)) (omega (arith, l.invariant.1, i.ensures.1)) r.result c.if-k-lt-PLACES.true)
 
-loop-less-2 : tie.Need-loop-smaller-2 invariant-loop decreases-loop
-loop-less-2 c =
+loop-e-smaller : tie.Need-loop-e-smaller invariant-loop decreases-loop
+loop-e-smaller c =
     let z = c.before.before.before.before.before.before.before.before.before.before.before.before.before.before.before in
-    let l = z.loop in
-    let a = z.before.before.before.before.before.before.args in
-    let e = c.before.before.before.before.before.before.before.before.before.before.before.before.e.given in
-    let here = sym c.before.before.before.before.before.before.before.before.before.before.before.before.before.before.record-at.ensures ∙ e.1 in
+    let l = z.loop-e in
+    let a = z.args in
+    let e = c.e-1.given in
+    let here = sym c.record_at.ensures ∙ e.1 in
     let w = entry_lies a.log.now l.at e.0.0 here in
     omega (arith, w.1, w.2)
 
-loop-again-2 : tie.Need-loop-preserved-2 invariant-loop decreases-loop
-loop-again-2 c =
+loop-e-preserved : tie.Need-loop-e-preserved invariant-loop decreases-loop
+loop-e-preserved c =
     let z = c.before.before.before.before.before.before.before.before.before.before.before.before.before.before.before in
-    let l = z.loop in
-    let a = z.before.before.before.before.before.before.args in
-    let e = c.before.before.before.before.before.before.before.before.before.before.before.before.e.given in
-    let here = sym c.before.before.before.before.before.before.before.before.before.before.before.before.before.before.record-at.ensures ∙ e.1 in
-    let i = c.before.before.before.before.before.before.before.before.before.before.place-named in
-    let w = c.before.before.before.before.before.before.before.arrival-of in
-    let r = c.before.before.before.before.before.hear in
-    turn _ a.log.now a.answers.now l.answers l.heads l.latest l.refused l.at l.n l.invariant e.0.0 here i.result i.ensures.1 i.ensures.0 r.result (heard_read _ a.log.now e.0.0 _ _ w.ensures r.ensures.0) c.before.before.refused-after.result c.before.before.refused-after.ensures c.before.answer_word.result c.before.answer_word.ensures _
-    (latest_left l.heads l.latest a.t.index l.refused i.result (omega (arith, l.invariant.0, i.ensures.1)) (omega (arith, l.invariant.1, i.ensures.1)) r.result c.if1.false)
+    let l = z.loop-e in
+    let a = z.args in
+    let e = c.e-1.given in
+    let here = sym c.record_at.ensures ∙ e.1 in
+    let i = c.place_named-i in
+    let w = c.arrival_of-a in
+    let r = c.hear-r in
+    turn _ a.log.now a.answers.now l.answers l.heads l.latest l.refused l.at l.n l.invariant e.0.0 here i.result i.ensures.1 i.ensures.0 r.result (heard_read _ a.log.now e.0.0 _ _ w.ensures r.ensures.0) c.refused_after-refused.result c.refused_after-refused.ensures c.answer_word.result c.answer_word.ensures _
+    (latest_left l.heads l.latest a.t.index l.refused i.result (omega (arith, l.invariant.0, i.ensures.1)) (omega (arith, l.invariant.1, i.ensures.1)) r.result c.if-k-lt-PLACES.false)
+
+bounds-latest-i : tie.Need-bounds-latest-i invariant-loop decreases-loop
+bounds-latest-i c = search rules
+
+bounds-latest-k : tie.Need-bounds-latest-k invariant-loop decreases-loop
+bounds-latest-k c = search rules
 
 pub feed_all_spec : {M : Type 1} → statement M
 feed_all_spec =
     tie.close
-    (tie.spec
-    invariant-loop
-    decreases-loop
-    heads-of-requires
-    latest-of-requires
-    loop-holds
-    record-at-requires
-    enum-known-e
-    table-of-requires
-    same_length
-    returns
-    cast-c
-    mul-place-named
-    array-read-place-named
-    place-named-requires
-    mul-q
-    array-copy-out-q
-    arrival-of-requires
-    mul-h
-    array-copy-out-h
-    hear-requires
-    mul-heads
-    array-set-from-heads
-    refused-after-requires
-    answer-word-requires
-    mul-answers
-    slice-write-answers
-    add-n
-    mul-slot
-    mul-slot-2
-    index-1-slot
-    index-2-slot
-    loop-less
-    loop-again
-    loop-less-2
-    loop-again-2)
+    (tie.spec invariant-loop decreases-loop heads_of-heads-requires latest_of-latest-requires loop-e-init record_at-requires enum_known-e table_of-requires shape_of-answers-in_default returns-in_default overflow_cast-c offset_bounds-index-c bounds-index-c place_named-i-requires offset_bounds-heads-i bounds-heads-i arrival_of-a-requires offset_bounds-heads-i-in-loop-e bounds-heads-i-in-loop-e hear-r-requires offset_bounds-heads-i-in-loop-e-2 bounds-heads-i-in-loop-e-2 refused_after-refused-requires answer_word-requires offset_bounds-answers-n bounds-answers-n overflow_add-n offset_bounds-latest-i offset_bounds-latest-k bounds-latest-i bounds-latest-k loop-e-smaller-then-k-lt-PLACES loop-e-preserved-then-k-lt-PLACES loop-e-smaller loop-e-preserved)

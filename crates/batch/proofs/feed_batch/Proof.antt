@@ -9,80 +9,80 @@ use Rattle.batch.proofs.Judged.{told, why_bytes, why_record, why_answers, why_no
 use Rattle.batch.proofs.feed_batch.Statement.{statement}
 use Rattle.batch.proofs.feed_batch.Tie as tie
 
-returns : tie.Need-returns
-returns c =
-    let a = c.before.before.before.before.args in
+returns-then-records-gt-MOST : tie.Need-returns-then-records-gt-MOST
+returns-then-records-gt-MOST c =
+    let a = c.args in
     let s = a.records.now in
     let w = a.answers.now in
-    refused_whole a.t s w BatchBytes c.refused.ensures (why_bytes s (length w) c.before.if1.true)
+    refused_whole a.t s w BatchBytes c.refused.ensures (why_bytes s (length w) c.if-records-gt-MOST.true)
 
-returns-2 : tie.Need-returns-2
-returns-2 c =
-    let a = c.before.before.before.before.before.before.before.before.before.args in
+returns-then-answers-count : tie.Need-returns-then-answers-count
+returns-then-answers-count c =
+    let a = c.args in
     let s = a.records.now in
     let w = a.answers.now in
-    let p = c.before.before.before.count.given in
-    let k = told s (scan.End p.0.0) c.before.before.before.before.before.scan-log.ensures p.1 in
-    refused_whole a.t s w BatchAnswers c.refused2.ensures (why_answers s (length w) c.before.before.before.before.before.before.if1.false k.0 (omega (arith, k.1, c.before.if2.true)))
+    let p = c.count-1.given in
+    let k = told s (scan.End p.0.0) c.scan_log.ensures p.1 in
+    refused_whole a.t s w BatchAnswers c.refused-then-answers-count.ensures (why_answers s (length w) c.if-records-gt-MOST.false k.0 (omega (arith, k.1, c.if-answers-count.true)))
 
-feed-all-requires : tie.Need-feed-all-requires
-feed-all-requires c κs =
-    let a = c.before.before.before.before.before.before.before.before.before.args in
+feed_all-u-requires : tie.Need-feed_all-u-requires
+feed_all-u-requires c κs =
+    let a = c.args in
     let s = a.records.now in
     let w = a.answers.now in
-    let p = c.before.before.before.count.given in
-    let k = told s (scan.End p.0.0) c.before.before.before.before.before.scan-log.ensures p.1 in
-    omega (arith, k.1, c.before.if2.false)
+    let p = c.count-1.given in
+    let k = told s (scan.End p.0.0) c.scan_log.ensures p.1 in
+    omega (arith, k.1, c.if-answers-count.false)
 
-cast-t16 : tie.Need-overflow-cast-t16
-cast-t16 c =
-    let a = c.before.before.before.before.before.before.before.before.before.before.before.before.args in
+overflow_cast-result : tie.Need-overflow_cast-result
+overflow_cast-result c =
+    let a = c.args in
     let s = a.records.now in
     let w = a.answers.now in
-    let p = c.before.before.before.before.before.before.count.given in
-    let k = told s (scan.End p.0.0) c.before.before.before.before.before.before.before.before.scan-log.ensures p.1 in
-    omega (arith, k.1, few_records s, c.before.before.before.before.before.before.before.before.before.if1.false)
+    let p = c.count-1.given in
+    let k = told s (scan.End p.0.0) c.scan_log.ensures p.1 in
+    omega (arith, k.1, few_records s, c.if-records-gt-MOST.false)
 
-returns-3 : tie.Need-returns-3
-returns-3 c =
-    let a = c.before.before.before.before.before.before.before.before.before.before.before.before.args in
+returns-else-answers-count : tie.Need-returns-else-answers-count
+returns-else-answers-count c =
+    let a = c.args in
     let s = a.records.now in
     let w = a.answers.now in
-    let p = c.before.before.before.before.before.before.count.given in
-    let k = told s (scan.End p.0.0) c.before.before.before.before.before.before.before.before.scan-log.ensures p.1 in
-    taken_whole a.t s w c.before.before.feed-all.result p.0.0 _ (why_none s (length w) c.before.before.before.before.before.before.before.before.before.if1.false k.0 (omega (arith, k.1, c.before.before.before.before.if2.false))) (omega (arith, k.1)) c.before.before.feed-all.ensures
+    let p = c.count-1.given in
+    let k = told s (scan.End p.0.0) c.scan_log.ensures p.1 in
+    taken_whole a.t s w c.feed_all-u.result p.0.0 _ (why_none s (length w) c.if-records-gt-MOST.false k.0 (omega (arith, k.1, c.if-answers-count.false))) (omega (arith, k.1)) c.feed_all-u.ensures
 
-returns-4 : tie.Need-returns-4
-returns-4 c =
-    let a = c.before.before.before.before.before.before.before.args in
+returns-in-Cut : tie.Need-returns-in-Cut
+returns-in-Cut c =
+    let a = c.args in
     let s = a.records.now in
     let w = a.answers.now in
-    refused_whole a.t s w BatchRecord c.refused3.ensures (why_record s (length w) c.before.before.before.before.if1.false (told s _ c.before.before.before.scan-log.ensures c.before.enum_told.given.1))
+    refused_whole a.t s w BatchRecord c.refused-in-Cut.ensures (why_record s (length w) c.if-records-gt-MOST.false (told s _ c.scan_log.ensures c.in-Cut.is))
 
-returns-5 : tie.Need-returns-5
-returns-5 c =
-    let a = c.before.before.before.before.before.before.before.args in
+returns-in-Refused : tie.Need-returns-in-Refused
+returns-in-Refused c =
+    let a = c.args in
     let s = a.records.now in
     let w = a.answers.now in
-    refused_whole a.t s w BatchRecord c.refused4.ensures (why_record s (length w) c.before.before.before.before.if1.false (told s _ c.before.before.before.scan-log.ensures c.before.enum-told2.given.1))
+    refused_whole a.t s w BatchRecord c.refused-in-Refused.ensures (why_record s (length w) c.if-records-gt-MOST.false (told s _ c.scan_log.ensures c.in-Refused.is))
 
 pub feed_batch_spec : {M : Type 1} → statement M
 feed_batch_spec =
     tie.close
     (tie.spec
     (λ c κs. search rules)
-    returns
+    returns-then-records-gt-MOST
     (λ c κs. search rules)
     (λ c. search rules)
     (λ c κs. search rules)
-    returns-2
-    feed-all-requires
-    cast-t16
+    returns-then-answers-count
+    feed_all-u-requires
+    overflow_cast-result
     (λ c. search rules)
     (λ c κs. search rules)
     (λ c. search rules)
     (λ c κs. search rules)
     (λ c. search rules)
-    returns-3
-    returns-4
-    returns-5)
+    returns-else-answers-count
+    returns-in-Cut
+    returns-in-Refused)

@@ -22,18 +22,18 @@ invariant-loop t latest₀ i₀ latest i = Filled post_count (map part t.posts) 
 abbrev decreases-loop : tie.decreases-loop
 decreases-loop t latest₀ i₀ latest i = post_count - i
 
-loop-again : tie.Need-loop-preserved invariant-loop decreases-loop
-loop-again c =
-    let l = c.before.before.before.loop in
-    let ps = c.before.before.before.before.before.before.args.t1.posts in
+loop-i-preserved : tie.Need-loop-i-preserved invariant-loop decreases-loop
+loop-i-preserved c =
+    let l = c.loop-i in
+    let ps = c.args.t1.posts in
     let n : length ps ≡ post_count = search unmapped in
     subst (λ (x : List Slot). Filled post_count (map part ps) (set l.latest l.i x) (l.i + 1)) (get_or-map part ps l.i no_post)
     (filled_more post_count (map part ps) l.latest (part no_post) l.i (length-map ps part ∙ n) (omega arith) l.invariant)
 
 returns : tie.Need-returns invariant-loop decreases-loop
 returns c =
-    let l = c.before.loop in
-    let ps = c.before.before.before.before.args.t1.posts in
+    let l = c.loop-i in
+    let ps = c.args.t1.posts in
     let n : length ps ≡ post_count = search unmapped in
     filled_whole post_count (map part ps) l.latest l.i (length-map ps part ∙ n) (omega arith) l.invariant
 
@@ -49,5 +49,5 @@ latest_of_spec =
     (λ c. search rules)
     (λ c. omega arith)
     (λ c. omega arith)
-    loop-again
+    loop-i-preserved
     returns)

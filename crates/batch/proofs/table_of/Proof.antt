@@ -20,10 +20,10 @@ invariant-loop index refused heads latest posts₀ i₀ posts i = Filled post_co
 abbrev decreases-loop : tie.decreases-loop
 decreases-loop index refused heads latest posts₀ i₀ posts i = post_count - i
 
-loop-again : tie.Need-loop-preserved invariant-loop decreases-loop
-loop-again c =
-    let l = c.before.before.before.loop in
-    let a = c.before.before.before.before.before.before.args in
+loop-i-preserved : tie.Need-loop-i-preserved invariant-loop decreases-loop
+loop-i-preserved c =
+    let l = c.loop-i in
+    let a = c.args in
     let hs = a.t1 in
     let ls = a.t2 in
     let m : length hs ≡ post_count = search (rules, unmapped) in
@@ -33,8 +33,8 @@ loop-again c =
 
 returns : tie.Need-returns invariant-loop decreases-loop
 returns c =
-    let l = c.before.loop in
-    let a = c.before.before.before.before.args in
+    let l = c.loop-i in
+    let a = c.args in
     let hs = a.t1 in
     let ls = a.t2 in
     let m : length hs ≡ post_count = search (rules, unmapped) in
@@ -56,5 +56,5 @@ table_of_spec =
     (λ c. search rules)
     (λ c. omega arith)
     (λ c. omega arith)
-    loop-again
+    loop-i-preserved
     returns)

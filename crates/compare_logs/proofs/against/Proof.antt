@@ -12,39 +12,39 @@ use native.Mathlib.Omega.{arith}
 use Rattle.compare_logs.proofs.against.Statement.{statement}
 use Rattle.compare_logs.proofs.against.Tie as tie
 
-take-apart-requires : tie.Need-take-apart-requires
-take-apart-requires c κs = (length-replicate {A = ℕ} 513 0, length-replicate {A = ℕ} 512 0)
+take_apart-requires : tie.Need-take_apart-requires
+take_apart-requires c κs = (length-replicate {A = ℕ} 513 0, length-replicate {A = ℕ} 512 0)
 
-enum-known-m : tie.Need-enum-known-m
-enum-known-m c = search rules
+enum_known-m : tie.Need-enum_known-m
+enum_known-m c = search rules
 
 listing-requires : tie.Need-listing-requires
-listing-requires c κs = (c.before.before.before.before.before.before.before.before.before.before.before.before.before.before.before.before.requires, (omega (arith, (split_is c.before.before.before.before.before.before.before.before.before.before.before.before.before.before.before.before.args.b.now (Records c.before.before.before.before.before.before.m.given.0.0) c.before.before.before.before.before.before.before.before.take-apart.ensures.0 c.before.before.before.before.before.before.m.given.1).1), c.before.before.before.before.before.before.before.before.take-apart.ensures.1 c.before.before.before.before.before.before.m.given.0.0 c.before.before.before.before.before.before.m.given.1))
+listing-requires c κs = (c.requires, (omega (arith, (split_is c.args.b.now (Records c.in-Records.m) c.take_apart.ensures.0 c.in-Records.is).1), c.take_apart.ensures.1 c.in-Records.m c.in-Records.is))
 
-enum-known-at : tie.Need-enum-known-at
-enum-known-at c = search rules
+enum_known-at : tie.Need-enum_known-at
+enum_known-at c = search rules
 
 refused-requires : tie.Need-refused-requires
 refused-requires c κs = search rules
 
-same_length : tie.Need-same-length
-same_length c = search rules
+shape_of-first : tie.Need-shape_of-first
+shape_of-first c = search rules
 
-same-length-2 : tie.Need-same-length-2
-same-length-2 c = search rules
+shape_of-second : tie.Need-shape_of-second
+shape_of-second c = search rules
 
-same-length-3 : tie.Need-same-length-3
-same-length-3 c = search rules
+shape_of-places : tie.Need-shape_of-places
+shape_of-places c = search rules
 
-returns : tie.Need-returns
-returns c =
-    let q = split_is c.before.before.before.before.before.before.before.before.before.before.before.before.before.before.before.before.before.before.before.before.before.before.before.args.b.now (Records c.before.before.before.before.before.before.before.before.before.before.before.before.before.m.given.0.0) c.before.before.before.before.before.before.before.before.before.before.before.before.before.before.before.take-apart.ensures.0 c.before.before.before.before.before.before.before.before.before.before.before.before.before.m.given.1 in
-    let e : c.before.before.before.before.before.before.before.before.before.before.before.before.before.m.given.0.0 ≡ length (records_of c.before.before.before.before.before.before.before.before.before.before.before.before.before.before.before.before.before.before.before.before.before.before.before.args.b.now) = omega (arith, q.1) in
-    let w = c.before.before.before.before.before.before.listing.ensures in
-    (w.0 ∙ ap (λ (k : ℕ). judged c.before.before.before.before.before.before.before.before.before.before.before.before.before.before.before.before.before.before.before.before.before.before.before.args.n k (length c.before.before.before.before.before.before.before.before.before.before.before.before.before.before.before.before.before.before.before.before.before.before.before.args.first.now) (length c.before.before.before.before.before.before.before.before.before.before.before.before.before.before.before.before.before.before.before.before.before.before.before.args.second.now) (length c.before.before.before.before.before.before.before.before.before.before.before.before.before.before.before.before.before.before.before.before.before.before.before.args.places.now) (listed_of (records_of c.before.before.before.before.before.before.before.before.before.before.before.before.before.before.before.before.before.before.before.before.before.before.before.args.a.now) (records_of c.before.before.before.before.before.before.before.before.before.before.before.before.before.before.before.before.before.before.before.before.before.before.before.args.b.now))) e ∙ sym (none_broken 2 _ q.0), w.1, w.2, w.3)
+returns-in-Records : tie.Need-returns-in-Records
+returns-in-Records c =
+    let q = split_is c.args.b.now (Records c.in-Records.m) c.take_apart.ensures.0 c.in-Records.is in
+    let e : c.in-Records.m ≡ length (records_of c.args.b.now) = omega (arith, q.1) in
+    let w = c.listing.ensures in
+    (w.0 ∙ ap (λ (k : ℕ). judged c.args.n k (length c.args.first.now) (length c.args.second.now) (length c.args.places.now) (listed_of (records_of c.args.a.now) (records_of c.args.b.now))) e ∙ sym (none_broken 2 _ q.0), w.1, w.2, w.3)
 
-returns-2 : tie.Need-returns-2
-returns-2 c = refusing (records_of c.before.before.before.before.before.before.before.before.before.before.before.before.args.a.now) (records_of c.before.before.before.before.before.before.before.before.before.before.before.before.args.b.now) c.before.before.before.before.before.before.before.before.before.before.before.before.args.first.now c.before.before.before.before.before.before.before.before.before.before.before.before.args.second.now c.before.before.before.before.before.before.before.before.before.before.before.before.args.places.now CompareLog 2 c.before.before.at.given.0.0 c.refused.ensures (some_broken 2 c.before.before.at.given.0.0 _ (split_is c.before.before.before.before.before.before.before.before.before.before.before.before.args.b.now (Bad c.before.before.at.given.0.0) c.before.before.before.before.take-apart.ensures.0 c.before.before.at.given.1))
+returns-in-Bad : tie.Need-returns-in-Bad
+returns-in-Bad c = refusing (records_of c.args.a.now) (records_of c.args.b.now) c.args.first.now c.args.second.now c.args.places.now CompareLog 2 c.in-Bad.at c.refused.ensures (some_broken 2 c.in-Bad.at _ (split_is c.args.b.now (Bad c.in-Bad.at) c.take_apart.ensures.0 c.in-Bad.is))
 
 pub against_spec : {M : Type 1} → statement M
-against_spec = tie.close (tie.spec take-apart-requires enum-known-m listing-requires enum-known-at refused-requires same_length same-length-2 same-length-3 returns returns-2)
+against_spec = tie.close (tie.spec take_apart-requires enum_known-m listing-requires enum_known-at refused-requires shape_of-first shape_of-second shape_of-places returns-in-Records returns-in-Bad)

@@ -13,40 +13,40 @@ use native.Mathlib.Omega.{arith}
 use Rattle.compare_logs.proofs.compare.Statement.{statement}
 use Rattle.compare_logs.proofs.compare.Tie as tie
 
-take-apart-requires : tie.Need-take-apart-requires
-take-apart-requires c κs = (length-replicate {A = ℕ} 513 0, length-replicate {A = ℕ} 512 0)
+take_apart-requires : tie.Need-take_apart-requires
+take_apart-requires c κs = (length-replicate {A = ℕ} 513 0, length-replicate {A = ℕ} 512 0)
 
-enum-known-n : tie.Need-enum-known-n
-enum-known-n c = search rules
+enum_known-n : tie.Need-enum_known-n
+enum_known-n c = search rules
 
 against-requires : tie.Need-against-requires
-against-requires c κs = (omega (arith, (split_is c.before.before.before.before.before.before.before.before.before.before.before.before.before.before.before.before.args.a.now (Records c.before.before.before.before.before.before.n.given.0.0) c.before.before.before.before.before.before.before.before.take-apart.ensures.0 c.before.before.before.before.before.before.n.given.1).1), c.before.before.before.before.before.before.before.before.take-apart.ensures.1 c.before.before.before.before.before.before.n.given.0.0 c.before.before.before.before.before.before.n.given.1)
+against-requires c κs = (omega (arith, (split_is c.args.a.now (Records c.in-Records.n) c.take_apart.ensures.0 c.in-Records.is).1), c.take_apart.ensures.1 c.in-Records.n c.in-Records.is)
 
-enum-known-at : tie.Need-enum-known-at
-enum-known-at c = search rules
+enum_known-at : tie.Need-enum_known-at
+enum_known-at c = search rules
 
 refused-requires : tie.Need-refused-requires
 refused-requires c κs = search rules
 
-same_length : tie.Need-same-length
-same_length c = search rules
+shape_of-first : tie.Need-shape_of-first
+shape_of-first c = search rules
 
-same-length-2 : tie.Need-same-length-2
-same-length-2 c = search rules
+shape_of-second : tie.Need-shape_of-second
+shape_of-second c = search rules
 
-same-length-3 : tie.Need-same-length-3
-same-length-3 c = search rules
+shape_of-places : tie.Need-shape_of-places
+shape_of-places c = search rules
 
-returns : tie.Need-returns
+returns-in-Records : tie.Need-returns-in-Records
 unfolding compared_of
-returns c = let q = split_is c.before.before.before.before.before.before.before.before.before.before.before.before.before.before.before.before.before.before.before.before.before.before.before.args.a.now (Records c.before.before.before.before.before.before.before.before.before.before.before.before.before.n.given.0.0) c.before.before.before.before.before.before.before.before.before.before.before.before.before.before.before.take-apart.ensures.0 c.before.before.before.before.before.before.before.before.before.before.before.before.before.n.given.1 in
-    let e : c.before.before.before.before.before.before.before.before.before.before.before.before.before.n.given.0.0 ≡ length (records_of c.before.before.before.before.before.before.before.before.before.before.before.before.before.before.before.before.before.before.before.before.before.before.before.args.a.now) = omega (arith, q.1) in
-    let w = c.before.before.before.before.before.before.against.ensures in
-    (w.0 ∙ ap (λ (k : ℕ). unbroken 2 (broken_at (log_of c.before.before.before.before.before.before.before.before.before.before.before.before.before.before.before.before.before.before.before.before.before.before.before.args.b.now)) (judged k (length (records_of c.before.before.before.before.before.before.before.before.before.before.before.before.before.before.before.before.before.before.before.before.before.before.before.args.b.now)) (length c.before.before.before.before.before.before.before.before.before.before.before.before.before.before.before.before.before.before.before.before.before.before.before.args.first.now) (length c.before.before.before.before.before.before.before.before.before.before.before.before.before.before.before.before.before.before.before.before.before.before.before.args.second.now) (length c.before.before.before.before.before.before.before.before.before.before.before.before.before.before.before.before.before.before.before.before.before.before.before.args.places.now) (listed_of (records_of c.before.before.before.before.before.before.before.before.before.before.before.before.before.before.before.before.before.before.before.before.before.before.before.args.a.now) (records_of c.before.before.before.before.before.before.before.before.before.before.before.before.before.before.before.before.before.before.before.before.before.before.before.args.b.now)))) e ∙ sym (none_broken 1 _ q.0), w.1, w.2, w.3)
+returns-in-Records c = let q = split_is c.args.a.now (Records c.in-Records.n) c.take_apart.ensures.0 c.in-Records.is in
+    let e : c.in-Records.n ≡ length (records_of c.args.a.now) = omega (arith, q.1) in
+    let w = c.against.ensures in
+    (w.0 ∙ ap (λ (k : ℕ). unbroken 2 (broken_at (log_of c.args.b.now)) (judged k (length (records_of c.args.b.now)) (length c.args.first.now) (length c.args.second.now) (length c.args.places.now) (listed_of (records_of c.args.a.now) (records_of c.args.b.now)))) e ∙ sym (none_broken 1 _ q.0), w.1, w.2, w.3)
 
-returns-2 : tie.Need-returns-2
+returns-in-Bad : tie.Need-returns-in-Bad
 unfolding compared_of
-returns-2 c = refusing (records_of c.before.before.before.before.before.before.before.before.before.before.before.before.args.a.now) (records_of c.before.before.before.before.before.before.before.before.before.before.before.before.args.b.now) c.before.before.before.before.before.before.before.before.before.before.before.before.args.first.now c.before.before.before.before.before.before.before.before.before.before.before.before.args.second.now c.before.before.before.before.before.before.before.before.before.before.before.before.args.places.now CompareLog 1 c.before.before.at.given.0.0 c.refused.ensures (some_broken 1 c.before.before.at.given.0.0 _ (split_is c.before.before.before.before.before.before.before.before.before.before.before.before.args.a.now (Bad c.before.before.at.given.0.0) c.before.before.before.before.take-apart.ensures.0 c.before.before.at.given.1))
+returns-in-Bad c = refusing (records_of c.args.a.now) (records_of c.args.b.now) c.args.first.now c.args.second.now c.args.places.now CompareLog 1 c.in-Bad.at c.refused.ensures (some_broken 1 c.in-Bad.at _ (split_is c.args.a.now (Bad c.in-Bad.at) c.take_apart.ensures.0 c.in-Bad.is))
 
 pub compare_spec : {M : Type 1} → statement M
-compare_spec = tie.close (tie.spec take-apart-requires enum-known-n against-requires enum-known-at refused-requires same_length same-length-2 same-length-3 returns returns-2)
+compare_spec = tie.close (tie.spec take_apart-requires enum_known-n against-requires enum_known-at refused-requires shape_of-first shape_of-second shape_of-places returns-in-Records returns-in-Bad)

@@ -12,38 +12,38 @@ invariant-loop answers out₀ p₀ i₀ t7 out p i = (i ≤ length answers) × (
 abbrev decreases-loop : tie.decreases-loop
 decreases-loop answers out₀ p₀ i₀ t7 out p i = length answers - i
 
-loop-holds : tie.Need-loop-init invariant-loop decreases-loop
-loop-holds c = search rules
+loop-i-init : tie.Need-loop-i-init invariant-loop decreases-loop
+loop-i-init c = search rules
 
-mul-n : tie.Need-overflow-mul-n invariant-loop decreases-loop
-mul-n c = search rules
+offset_bounds-answers-i : tie.Need-offset_bounds-answers-i invariant-loop decreases-loop
+offset_bounds-answers-i c = search rules
 
-shared-slice-read-n : tie.Need-shared-slice-read-n invariant-loop decreases-loop
-shared-slice-read-n c = search rules
+bounds-answers-i : tie.Need-bounds-answers-i invariant-loop decreases-loop
+bounds-answers-i c = search rules
 
-add-i : tie.Need-overflow-add-i invariant-loop decreases-loop
-add-i c = search rules
+overflow_add-i : tie.Need-overflow_add-i invariant-loop decreases-loop
+overflow_add-i c = search rules
 
-half-full-requires : tie.Need-half-full-requires invariant-loop decreases-loop
-half-full-requires c κs = search rules
+half_full-p-requires : tie.Need-half_full-p-requires invariant-loop decreases-loop
+half_full-p-requires c κs = search rules
 
 slice-aggregate-named : tie.Need-slice-aggregate-named invariant-loop decreases-loop
 slice-aggregate-named c = search rules
 
-named-requires : tie.Need-named-requires invariant-loop decreases-loop
-named-requires c κs = search rules
+named-p-requires : tie.Need-named-p-requires invariant-loop decreases-loop
+named-p-requires c κs = search rules
 
-loop-less : tie.Need-loop-smaller invariant-loop decreases-loop
-loop-less c = search rules
+loop-i-smaller : tie.Need-loop-i-smaller invariant-loop decreases-loop
+loop-i-smaller c = search rules
 
-loop-again : tie.Need-loop-preserved invariant-loop decreases-loop
-loop-again c = search rules
+loop-i-preserved : tie.Need-loop-i-preserved invariant-loop decreases-loop
+loop-i-preserved c = search rules
 
-line-end-requires : tie.Need-line-end-requires invariant-loop decreases-loop
-line-end-requires c κs = search rules
+line_end-requires : tie.Need-line_end-requires invariant-loop decreases-loop
+line_end-requires c κs = search rules
 
-same_length : tie.Need-same-length invariant-loop decreases-loop
-same_length c = search rules
+shape_of-out : tie.Need-shape_of-out invariant-loop decreases-loop
+shape_of-out c = search rules
 
 returns : tie.Need-returns invariant-loop decreases-loop
 returns c = search rules
@@ -51,18 +51,4 @@ returns c = search rules
 pub put_words_spec : {M : Type 1} → statement M
 put_words_spec =
     tie.close
-    (tie.spec
-    invariant-loop
-    decreases-loop
-    loop-holds
-    mul-n
-    shared-slice-read-n
-    add-i
-    half-full-requires
-    slice-aggregate-named
-    named-requires
-    loop-less
-    loop-again
-    line-end-requires
-    same_length
-    returns)
+    (tie.spec invariant-loop decreases-loop loop-i-init offset_bounds-answers-i bounds-answers-i overflow_add-i half_full-p-requires named-p-requires loop-i-smaller loop-i-preserved line_end-requires shape_of-out returns)

@@ -18,63 +18,46 @@ slice-aggregate-put c = search rules
 put-requires : tie.Need-put-requires invariant-loop decreases-loop
 put-requires c κs = search rules
 
-same_length : tie.Need-same-length invariant-loop decreases-loop
-same_length c = search rules
+shape_of-out-then-numbers-eq0 : tie.Need-shape_of-out-then-numbers-eq0 invariant-loop decreases-loop
+shape_of-out-then-numbers-eq0 c = search rules
 
-returns : tie.Need-returns invariant-loop decreases-loop
-returns c = search rules
+returns-then-numbers-eq0 : tie.Need-returns-then-numbers-eq0 invariant-loop decreases-loop
+returns-then-numbers-eq0 c = search rules
 
-loop-holds : tie.Need-loop-init invariant-loop decreases-loop
-loop-holds c = search rules
+loop-i-init : tie.Need-loop-i-init invariant-loop decreases-loop
+loop-i-init c = search rules
 
-put-joint-requires : tie.Need-put-joint-requires invariant-loop decreases-loop
-put-joint-requires c κs = search rules
+put_joint-q-requires : tie.Need-put_joint-q-requires invariant-loop decreases-loop
+put_joint-q-requires c κs = search rules
 
 slice-aggregate-named : tie.Need-slice-aggregate-named invariant-loop decreases-loop
 slice-aggregate-named c = search rules
 
-mul-named : tie.Need-overflow-mul-named invariant-loop decreases-loop
-mul-named c = search rules
+offset_bounds-numbers-i : tie.Need-offset_bounds-numbers-i invariant-loop decreases-loop
+offset_bounds-numbers-i c = search rules
 
-shared-slice-read-named : tie.Need-shared-slice-read-named invariant-loop decreases-loop
-shared-slice-read-named c = search rules
+bounds-numbers-i : tie.Need-bounds-numbers-i invariant-loop decreases-loop
+bounds-numbers-i c = search rules
 
-named-requires : tie.Need-named-requires invariant-loop decreases-loop
-named-requires c κs = search rules
+named-p-requires : tie.Need-named-p-requires invariant-loop decreases-loop
+named-p-requires c κs = search rules
 
-add-i : tie.Need-overflow-add-i invariant-loop decreases-loop
-add-i c = search rules
+overflow_add-i : tie.Need-overflow_add-i invariant-loop decreases-loop
+overflow_add-i c = search rules
 
-loop-less : tie.Need-loop-smaller invariant-loop decreases-loop
-loop-less c = search rules
+loop-i-smaller : tie.Need-loop-i-smaller invariant-loop decreases-loop
+loop-i-smaller c = search rules
 
-loop-again : tie.Need-loop-preserved invariant-loop decreases-loop
-loop-again c = search rules
+loop-i-preserved : tie.Need-loop-i-preserved invariant-loop decreases-loop
+loop-i-preserved c = search rules
 
-same-length-2 : tie.Need-same-length-2 invariant-loop decreases-loop
-same-length-2 c = search rules
+shape_of-out : tie.Need-shape_of-out invariant-loop decreases-loop
+shape_of-out c = search rules
 
-returns-2 : tie.Need-returns-2 invariant-loop decreases-loop
-returns-2 c = search rules
+returns : tie.Need-returns invariant-loop decreases-loop
+returns c = search rules
 
 pub put_numbers_spec : {M : Type 1} → statement M
 put_numbers_spec =
     tie.close
-    (tie.spec
-    invariant-loop
-    decreases-loop
-    slice-aggregate-put
-    put-requires
-    same_length
-    returns
-    loop-holds
-    put-joint-requires
-    slice-aggregate-named
-    mul-named
-    shared-slice-read-named
-    named-requires
-    add-i
-    loop-less
-    loop-again
-    same-length-2
-    returns-2)
+    (tie.spec invariant-loop decreases-loop put-requires shape_of-out-then-numbers-eq0 returns-then-numbers-eq0 loop-i-init put_joint-q-requires offset_bounds-numbers-i bounds-numbers-i named-p-requires overflow_add-i loop-i-smaller loop-i-preserved shape_of-out returns)

@@ -12,29 +12,29 @@ invariant-loop out₀ places x₀ channel₀ out x channel = (channel ≤ 32) ×
 abbrev decreases-loop : tie.decreases-loop
 decreases-loop out₀ places x₀ channel₀ out x channel = 32 - channel
 
-loop-holds : tie.Need-loop-init invariant-loop decreases-loop
-loop-holds c = search rules
+loop-channel-init : tie.Need-loop-channel-init invariant-loop decreases-loop
+loop-channel-init c = search rules
 
-mul-put-place : tie.Need-overflow-mul-put-place invariant-loop decreases-loop
-mul-put-place c = search rules
+offset_bounds-places-channel : tie.Need-offset_bounds-places-channel invariant-loop decreases-loop
+offset_bounds-places-channel c = search rules
 
-array-read-put-place : tie.Need-array-read-put-place invariant-loop decreases-loop
-array-read-put-place c = search rules
+bounds-places-channel : tie.Need-bounds-places-channel invariant-loop decreases-loop
+bounds-places-channel c = search rules
 
-put-place-requires : tie.Need-put-place-requires invariant-loop decreases-loop
-put-place-requires c κs = search rules
+put_place-x-requires : tie.Need-put_place-x-requires invariant-loop decreases-loop
+put_place-x-requires c κs = search rules
 
-add-channel : tie.Need-overflow-add-channel invariant-loop decreases-loop
-add-channel c = search rules
+overflow_add-channel : tie.Need-overflow_add-channel invariant-loop decreases-loop
+overflow_add-channel c = search rules
 
-loop-less : tie.Need-loop-smaller invariant-loop decreases-loop
-loop-less c = search rules
+loop-channel-smaller : tie.Need-loop-channel-smaller invariant-loop decreases-loop
+loop-channel-smaller c = search rules
 
-loop-again : tie.Need-loop-preserved invariant-loop decreases-loop
-loop-again c = search rules
+loop-channel-preserved : tie.Need-loop-channel-preserved invariant-loop decreases-loop
+loop-channel-preserved c = search rules
 
-same_length : tie.Need-same-length invariant-loop decreases-loop
-same_length c = search rules
+shape_of-out : tie.Need-shape_of-out invariant-loop decreases-loop
+shape_of-out c = search rules
 
 returns : tie.Need-returns invariant-loop decreases-loop
 returns c = search rules
@@ -42,15 +42,4 @@ returns c = search rules
 pub put_places_spec : {M : Type 1} → statement M
 put_places_spec =
     tie.close
-    (tie.spec
-    invariant-loop
-    decreases-loop
-    loop-holds
-    mul-put-place
-    array-read-put-place
-    put-place-requires
-    add-channel
-    loop-less
-    loop-again
-    same_length
-    returns)
+    (tie.spec invariant-loop decreases-loop loop-channel-init offset_bounds-places-channel bounds-places-channel put_place-x-requires overflow_add-channel loop-channel-smaller loop-channel-preserved shape_of-out returns)

@@ -13,29 +13,29 @@ invariant-loop out₀ index p₀ c₀ out p c = length out ≡ length out₀
 abbrev decreases-loop : tie.decreases-loop
 decreases-loop out₀ index p₀ c₀ out p c = channel_count - c
 
-loop-holds : tie.Need-loop-init invariant-loop decreases-loop
-loop-holds c = search rules
+loop-c-init : tie.Need-loop-c-init invariant-loop decreases-loop
+loop-c-init c = search rules
 
-mul-put-holder : tie.Need-overflow-mul-put-holder invariant-loop decreases-loop
-mul-put-holder c = search rules
+offset_bounds-index-c : tie.Need-offset_bounds-index-c invariant-loop decreases-loop
+offset_bounds-index-c c = search rules
 
-array-read-put-holder : tie.Need-array-read-put-holder invariant-loop decreases-loop
-array-read-put-holder c = search rules
+bounds-index-c : tie.Need-bounds-index-c invariant-loop decreases-loop
+bounds-index-c c = search rules
 
-put-holder-requires : tie.Need-put-holder-requires invariant-loop decreases-loop
-put-holder-requires c κs = search rules
+put_holder-p-requires : tie.Need-put_holder-p-requires invariant-loop decreases-loop
+put_holder-p-requires c κs = search rules
 
-add-c : tie.Need-overflow-add-c invariant-loop decreases-loop
-add-c c = search rules
+overflow_add-c : tie.Need-overflow_add-c invariant-loop decreases-loop
+overflow_add-c c = search rules
 
-loop-less : tie.Need-loop-smaller invariant-loop decreases-loop
-loop-less c = search rules
+loop-c-smaller : tie.Need-loop-c-smaller invariant-loop decreases-loop
+loop-c-smaller c = search rules
 
-loop-again : tie.Need-loop-preserved invariant-loop decreases-loop
-loop-again c = search rules
+loop-c-preserved : tie.Need-loop-c-preserved invariant-loop decreases-loop
+loop-c-preserved c = search rules
 
-same_length : tie.Need-same-length invariant-loop decreases-loop
-same_length c = search rules
+shape_of-out : tie.Need-shape_of-out invariant-loop decreases-loop
+shape_of-out c = search rules
 
 returns : tie.Need-returns invariant-loop decreases-loop
 returns c = search rules
@@ -43,15 +43,4 @@ returns c = search rules
 pub put_index_spec : {M : Type 1} → statement M
 put_index_spec =
     tie.close
-    (tie.spec
-    invariant-loop
-    decreases-loop
-    loop-holds
-    mul-put-holder
-    array-read-put-holder
-    put-holder-requires
-    add-c
-    loop-less
-    loop-again
-    same_length
-    returns)
+    (tie.spec invariant-loop decreases-loop loop-c-init offset_bounds-index-c bounds-index-c put_holder-p-requires overflow_add-c loop-c-smaller loop-c-preserved shape_of-out returns)

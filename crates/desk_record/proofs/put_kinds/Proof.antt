@@ -12,29 +12,29 @@ invariant-loop out₀ latest first end l₀ k₀ out l k = length out ≡ length
 abbrev decreases-loop : tie.decreases-loop
 decreases-loop out₀ latest first end l₀ k₀ out l k = end - k
 
-loop-holds : tie.Need-loop-init invariant-loop decreases-loop
-loop-holds c = search rules
+loop-k-init : tie.Need-loop-k-init invariant-loop decreases-loop
+loop-k-init c = search rules
 
-place-by-requires : tie.Need-place-by-requires invariant-loop decreases-loop
-place-by-requires c κs = search rules
+place_by-requires : tie.Need-place_by-requires invariant-loop decreases-loop
+place_by-requires c κs = search rules
 
-latest-at-requires : tie.Need-latest-at-requires invariant-loop decreases-loop
-latest-at-requires c κs = search rules
+latest_at-d-requires : tie.Need-latest_at-d-requires invariant-loop decreases-loop
+latest_at-d-requires c κs = search rules
 
-put-next-requires : tie.Need-put-next-requires invariant-loop decreases-loop
-put-next-requires c κs = search rules
+put_next-l-requires : tie.Need-put_next-l-requires invariant-loop decreases-loop
+put_next-l-requires c κs = search rules
 
-add-k : tie.Need-overflow-add-k invariant-loop decreases-loop
-add-k c = search rules
+overflow_add-k : tie.Need-overflow_add-k invariant-loop decreases-loop
+overflow_add-k c = search rules
 
-loop-less : tie.Need-loop-smaller invariant-loop decreases-loop
-loop-less c = search rules
+loop-k-smaller : tie.Need-loop-k-smaller invariant-loop decreases-loop
+loop-k-smaller c = search rules
 
-loop-again : tie.Need-loop-preserved invariant-loop decreases-loop
-loop-again c = search rules
+loop-k-preserved : tie.Need-loop-k-preserved invariant-loop decreases-loop
+loop-k-preserved c = search rules
 
-same_length : tie.Need-same-length invariant-loop decreases-loop
-same_length c = search rules
+shape_of-out : tie.Need-shape_of-out invariant-loop decreases-loop
+shape_of-out c = search rules
 
 returns : tie.Need-returns invariant-loop decreases-loop
 returns c = search rules
@@ -42,15 +42,4 @@ returns c = search rules
 pub put_kinds_spec : {M : Type 1} → statement M
 put_kinds_spec =
     tie.close
-    (tie.spec
-    invariant-loop
-    decreases-loop
-    loop-holds
-    place-by-requires
-    latest-at-requires
-    put-next-requires
-    add-k
-    loop-less
-    loop-again
-    same_length
-    returns)
+    (tie.spec invariant-loop decreases-loop loop-k-init place_by-requires latest_at-d-requires put_next-l-requires overflow_add-k loop-k-smaller loop-k-preserved shape_of-out returns)

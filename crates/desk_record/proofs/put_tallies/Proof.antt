@@ -16,38 +16,38 @@ decreases-loop out₀ tallies p₀ k₀ t8 out p k = finding_count - k
 slice-aggregate-named : tie.Need-slice-aggregate-named invariant-loop decreases-loop
 slice-aggregate-named c = search rules
 
-array-read-named : tie.Need-array-read-named invariant-loop decreases-loop
-array-read-named c = search rules
+bounds-tallies-0 : tie.Need-bounds-tallies-0 invariant-loop decreases-loop
+bounds-tallies-0 c = search rules
 
-named-requires : tie.Need-named-requires invariant-loop decreases-loop
-named-requires c κs = search rules
+named-p-requires : tie.Need-named-p-requires invariant-loop decreases-loop
+named-p-requires c κs = search rules
 
-loop-holds : tie.Need-loop-init invariant-loop decreases-loop
-loop-holds c = search rules
+loop-k-init : tie.Need-loop-k-init invariant-loop decreases-loop
+loop-k-init c = search rules
 
 slice-aggregate-named-2 : tie.Need-slice-aggregate-named-2 invariant-loop decreases-loop
 slice-aggregate-named-2 c = search rules
 
-mul-named : tie.Need-overflow-mul-named invariant-loop decreases-loop
-mul-named c = search rules
+offset_bounds-tallies-k : tie.Need-offset_bounds-tallies-k invariant-loop decreases-loop
+offset_bounds-tallies-k c = search rules
 
-array-read-named-2 : tie.Need-array-read-named-2 invariant-loop decreases-loop
-array-read-named-2 c = search rules
+bounds-tallies-k : tie.Need-bounds-tallies-k invariant-loop decreases-loop
+bounds-tallies-k c = search rules
 
-named-requires-2 : tie.Need-named-requires-2 invariant-loop decreases-loop
-named-requires-2 c κs = search rules
+named-p-requires-in-loop-k : tie.Need-named-p-requires-in-loop-k invariant-loop decreases-loop
+named-p-requires-in-loop-k c κs = search rules
 
-add-k : tie.Need-overflow-add-k invariant-loop decreases-loop
-add-k c = search rules
+overflow_add-k : tie.Need-overflow_add-k invariant-loop decreases-loop
+overflow_add-k c = search rules
 
-loop-less : tie.Need-loop-smaller invariant-loop decreases-loop
-loop-less c = search rules
+loop-k-smaller : tie.Need-loop-k-smaller invariant-loop decreases-loop
+loop-k-smaller c = search rules
 
-loop-again : tie.Need-loop-preserved invariant-loop decreases-loop
-loop-again c = search rules
+loop-k-preserved : tie.Need-loop-k-preserved invariant-loop decreases-loop
+loop-k-preserved c = search rules
 
-same_length : tie.Need-same-length invariant-loop decreases-loop
-same_length c = search rules
+shape_of-out : tie.Need-shape_of-out invariant-loop decreases-loop
+shape_of-out c = search rules
 
 returns : tie.Need-returns invariant-loop decreases-loop
 returns c = search rules
@@ -55,19 +55,4 @@ returns c = search rules
 pub put_tallies_spec : {M : Type 1} → statement M
 put_tallies_spec =
     tie.close
-    (tie.spec
-    invariant-loop
-    decreases-loop
-    slice-aggregate-named
-    array-read-named
-    named-requires
-    loop-holds
-    slice-aggregate-named-2
-    mul-named
-    array-read-named-2
-    named-requires-2
-    add-k
-    loop-less
-    loop-again
-    same_length
-    returns)
+    (tie.spec invariant-loop decreases-loop bounds-tallies-0 named-p-requires loop-k-init offset_bounds-tallies-k bounds-tallies-k named-p-requires-in-loop-k overflow_add-k loop-k-smaller loop-k-preserved shape_of-out returns)

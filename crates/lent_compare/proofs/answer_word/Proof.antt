@@ -4,55 +4,43 @@ use borrow.Author.Rules.{rules}
 use Rattle.lent_compare.proofs.answer_word.Statement.{statement}
 use Rattle.lent_compare.proofs.answer_word.Tie as tie
 
-enum-known-r : tie.Need-enum-known-r
-enum-known-r c = search rules
+enum_known-r : tie.Need-enum_known-r
+enum_known-r c = search rules
 
-slice-write-numbers : tie.Need-slice-write-numbers
-slice-write-numbers c = search rules
+bounds-numbers-0 : tie.Need-bounds-numbers-0
+bounds-numbers-0 c = search rules
 
-slice-write-numbers-2 : tie.Need-slice-write-numbers-2
-slice-write-numbers-2 c = search rules
+bounds-numbers-1 : tie.Need-bounds-numbers-1
+bounds-numbers-1 c = search rules
 
-enum-known-r-2 : tie.Need-enum-known-r-2
-enum-known-r-2 c = search rules
+enum_known-r-in-Refused-1 : tie.Need-enum_known-r-in-Refused-1
+enum_known-r-in-Refused-1 c = search rules
 
-cast-numbers : tie.Need-overflow-cast-numbers
-cast-numbers c = search rules
+overflow_cast-numbers : tie.Need-overflow_cast-numbers
+overflow_cast-numbers c = search rules
 
-slice-write-numbers-3 : tie.Need-slice-write-numbers-3
-slice-write-numbers-3 c = search rules
+bounds-numbers-0-in-Refused : tie.Need-bounds-numbers-0-in-Refused
+bounds-numbers-0-in-Refused c = search rules
 
-slice-write-numbers-4 : tie.Need-slice-write-numbers-4
-slice-write-numbers-4 c = search rules
+bounds-numbers-1-in-Refused : tie.Need-bounds-numbers-1-in-Refused
+bounds-numbers-1-in-Refused c = search rules
 
-refusal-word-requires : tie.Need-refusal-word-requires
-refusal-word-requires c κs = search rules
+refusal_word-requires : tie.Need-refusal_word-requires
+refusal_word-requires c κs = search rules
 
-same_length : tie.Need-same-length
-same_length c = search rules
+shape_of-numbers-in-Listed : tie.Need-shape_of-numbers-in-Listed
+shape_of-numbers-in-Listed c = search rules
 
-returns : tie.Need-returns
-returns c = rw c.before.r.given.1 (refl, refl)
+returns-in-Listed : tie.Need-returns-in-Listed
+returns-in-Listed c = rw c.in-Listed.is (refl, refl)
 
-same-length-2 : tie.Need-same-length-2
-same-length-2 c = search rules
+shape_of-numbers-in-Refused : tie.Need-shape_of-numbers-in-Refused
+shape_of-numbers-in-Refused c = search rules
 
-returns-2 : tie.Need-returns-2
-returns-2 c = rw c.before.before.r2.given.1 (c.refusal-word.ensures, refl)
+returns-in-Refused : tie.Need-returns-in-Refused
+returns-in-Refused c = rw c.in-Refused.is (c.refusal_word.ensures, refl)
 
 pub answer_word_spec : {M : Type 1} → statement M
 answer_word_spec =
     tie.close
-    (tie.spec
-    enum-known-r
-    slice-write-numbers
-    slice-write-numbers-2
-    enum-known-r-2
-    cast-numbers
-    slice-write-numbers-3
-    slice-write-numbers-4
-    refusal-word-requires
-    same_length
-    returns
-    same-length-2
-    returns-2)
+    (tie.spec enum_known-r bounds-numbers-0 bounds-numbers-1 enum_known-r-in-Refused-1 overflow_cast-numbers bounds-numbers-0-in-Refused bounds-numbers-1-in-Refused refusal_word-requires shape_of-numbers-in-Listed returns-in-Listed shape_of-numbers-in-Refused returns-in-Refused)

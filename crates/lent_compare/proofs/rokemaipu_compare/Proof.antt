@@ -7,43 +7,34 @@ use borrow.Author.Rules.{rules}
 use Rattle.lent_compare.proofs.rokemaipu_compare.Statement.{statement}
 use Rattle.lent_compare.proofs.rokemaipu_compare.Tie as tie
 
-refusal-word-requires : tie.Need-refusal-word-requires
-refusal-word-requires c κs = search rules
+refusal_word-requires : tie.Need-refusal_word-requires
+refusal_word-requires c κs = search rules
+
+returns-then-numbers-lt2 : tie.Need-returns-then-numbers-lt2
+returns-then-numbers-lt2 c = rw (lt-ltb (length c.args.numbers.now) 2 c.if-numbers-lt2.true) (c.refusal_word.ensures, refl, refl, refl, refl)
+
+compare-r-requires : tie.Need-compare-r-requires
+compare-r-requires c κs = search rules
+
+answer_word-requires : tie.Need-answer_word-requires
+answer_word-requires c κs = c.if-numbers-lt2.false
+
+shape_of-first : tie.Need-shape_of-first
+shape_of-first c = search rules
+
+shape_of-second : tie.Need-shape_of-second
+shape_of-second c = search rules
+
+shape_of-places : tie.Need-shape_of-places
+shape_of-places c = search rules
+
+shape_of-numbers : tie.Need-shape_of-numbers
+shape_of-numbers c = search rules
 
 returns : tie.Need-returns
-returns c = rw (lt-ltb (length c.before.before.before.before.before.before.before.before.args.numbers.now) 2 c.before.if1.true) (c.refusal-word.ensures, refl, refl, refl, refl)
-
-compare-requires : tie.Need-compare-requires
-compare-requires c κs = search rules
-
-answer-word-requires : tie.Need-answer-word-requires
-answer-word-requires c κs = c.before.before.before.before.before.before.before.before.before.before.before.if1.false
-
-same_length : tie.Need-same-length
-same_length c = search rules
-
-same-length-2 : tie.Need-same-length-2
-same-length-2 c = search rules
-
-same-length-3 : tie.Need-same-length-3
-same-length-3 c = search rules
-
-same-length-4 : tie.Need-same-length-4
-same-length-4 c = search rules
-
-returns-2 : tie.Need-returns-2
-returns-2 c = told_word c.before.before.before.before.before.before.before.before.before.before.before.before.before.before.before.before.before.before.before.before.before.args.a.now c.before.before.before.before.before.before.before.before.before.before.before.before.before.before.before.before.before.before.before.before.before.args.b.now c.before.before.before.before.before.before.before.before.before.before.before.before.before.before.before.before.before.before.before.before.before.args.first.now c.before.before.before.before.before.before.before.before.before.before.before.before.before.before.before.before.before.before.before.before.before.args.second.now c.before.before.before.before.before.before.before.before.before.before.before.before.before.before.before.before.before.before.before.before.before.args.places.now c.before.before.before.before.before.before.before.before.before.before.before.before.before.before.before.before.before.before.before.before.before.args.numbers.now c.before.before.before.before.before.before.before.before.before.before.before.before.before.before.if1.false c.before.before.before.before.before.before.before.before.before.before.compare.ensures c.before.before.answer_word.ensures
+returns c = told_word c.args.a.now c.args.b.now c.args.first.now c.args.second.now c.args.places.now c.args.numbers.now c.if-numbers-lt2.false c.compare-r.ensures c.answer_word.ensures
 
 pub rokemaipu_compare_spec : {M : Type 1} → statement M
 rokemaipu_compare_spec =
     tie.close
-    (tie.spec
-    refusal-word-requires
-    returns
-    compare-requires
-    answer-word-requires
-    same_length
-    same-length-2
-    same-length-3
-    same-length-4
-    returns-2)
+    (tie.spec refusal_word-requires returns-then-numbers-lt2 compare-r-requires answer_word-requires shape_of-first shape_of-second shape_of-places shape_of-numbers returns)

@@ -12,33 +12,33 @@ use Rattle.lent_counts.proofs.ByCase.{counted_by, counts_are}
 use Rattle.lent_counts.proofs.counts_of.Statement.{statement}
 use Rattle.lent_counts.proofs.counts_of.Tie as tie
 
-returns : tie.Need-returns
-returns c =
+returns-then-not-is_post : tie.Need-returns-then-not-is_post
+returns-then-not-is_post c =
     let post = c.before in
-    let a = post.before.before.before.args in
-    let e = counted_by a.t1 a.post a.counts.now (no_post_lem a.t1 a.post (sym post.before.is-post.ensures ∙ not-true _ post.if1.true)) in
-    (c.refusal-word.ensures ∙ e.0, e.1)
+    let a = post.args in
+    let e = counted_by a.t1 a.post a.counts.now (no_post_lem a.t1 a.post (sym post.is_post.ensures ∙ not-true _ post.if-not-is_post.true-raw)) in
+    (c.refusal_word.ensures ∙ e.0, e.1)
 
-element-copy-out-p : tie.Need-element-copy-out-p
-element-copy-out-p c = ltb-true _ _ (sym c.before.is-post.ensures ∙ not-false _ c.if1.false)
+bounds-t-i : tie.Need-bounds-t-i
+bounds-t-i c = ltb-true _ _ (sym c.is_post.ensures ∙ not-false _ c.if-not-is_post.false-raw)
 
-returns-2 : tie.Need-returns-2
-returns-2 c =
+returns-then-not-is_set : tie.Need-returns-then-not-is_set
+returns-then-not-is_set c =
     let used = c.before in
     let post = used.before.before.before.before.before in
-    let a = post.before.before.before.args in
+    let a = post.args in
     let e = counted_by a.t1 a.post a.counts.now
-    (not_set_up a.t1 a.post (sym post.before.is-post.ensures ∙ not-false _ post.if1.false) (sym used.before.is_set.ensures ∙ not-true _ used.if2.true)) in
-    (c.refusal-word2.ensures ∙ e.0, e.1)
+    (not_set_up a.t1 a.post (sym post.is_post.ensures ∙ not-false _ post.if-not-is_post.false-raw) (sym used.is_set.ensures ∙ not-true _ used.if-not-is_set.true-raw)) in
+    (c.refusal_word-then-not-is_set.ensures ∙ e.0, e.1)
 
-returns-3 : tie.Need-returns-3
-returns-3 c =
+returns : tie.Need-returns
+returns c =
     let out = c.before.before in
     let used = out.before.before.before in
     let post = used.before.before.before.before.before in
-    let a = post.before.before.before.args in
+    let a = post.args in
     let e = counted_by a.t1 a.post a.counts.now
-    (set_up a.t1 a.post (sym post.before.is-post.ensures ∙ not-false _ post.if1.false) (sym used.before.is_set.ensures ∙ not-false _ used.if2.false)) in
+    (set_up a.t1 a.post (sym post.is_post.ensures ∙ not-false _ post.if-not-is_post.false-raw) (sym used.is_set.ensures ∙ not-false _ used.if-not-is_set.false-raw)) in
     let own = counts_are (post_in a.t1 a.post) out.store.ensures.2 in
     (out.store.ensures.0 ∙ e.0, out.store.ensures.1 ∙ ap (λ (xs : List ℕ). room_left count_count xs a.counts.now) (sym own) ∙ e.1)
 
@@ -48,13 +48,13 @@ counts_of_spec =
     (tie.spec
     (λ c κs. search rules)
     (λ c κs. search rules)
-    returns
+    returns-then-not-is_post
     (λ c. search rules)
-    element-copy-out-p
+    bounds-t-i
     (λ c. search rules)
     (λ c κs. search rules)
     (λ c κs. search rules)
-    returns-2
+    returns-then-not-is_set
     (λ c κs. search rules)
     (λ c. search rules)
-    returns-3)
+    returns)

@@ -9,24 +9,24 @@ use Rattle.lent_numbers.specs.LookUp.{room_outcome, room_left}
 use Rattle.lent_counts.proofs.store.Statement.{statement}
 use Rattle.lent_counts.proofs.store.Tie as tie
 
-slice-aggregate-hand-out : tie.Need-slice-aggregate-hand-out
-slice-aggregate-hand-out c = search rules
+slice_bounds-hand_out-end : tie.Need-slice_bounds-hand_out-end
+slice_bounds-hand_out-end c = search rules
 
-hand-out-requires : tie.Need-hand-out-requires
-hand-out-requires c κs = search rules
+hand_out-requires : tie.Need-hand_out-requires
+hand_out-requires c κs = search rules
 
-same_length : tie.Need-same-length
-same_length c = search rules
+shape_of-counts : tie.Need-shape_of-counts
+shape_of-counts c = search rules
 
 returns : tie.Need-returns
 returns c =
     let out = c.before.before in
-    let a = out.before.before.before.before.args in
+    let a = out.args in
     let many : length a.t1 ≡ count_count = search rules in (
-      out.hand-out.ensures.0 ∙ ap (λ (k : ℕ). outcome_word (room_outcome k (length a.counts.now))) many,
-      out.hand-out.ensures.1 ∙ ap (λ (k : ℕ). room_left k a.t1 a.counts.now) many,
+      out.hand_out.ensures.0 ∙ ap (λ (k : ℕ). outcome_word (room_outcome k (length a.counts.now))) many,
+      out.hand_out.ensures.1 ∙ ap (λ (k : ℕ). room_left k a.t1 a.counts.now) many,
       many,
     )
 
 pub store_spec : {M : Type 1} → statement M
-store_spec = tie.close (tie.spec slice-aggregate-hand-out hand-out-requires same_length returns)
+store_spec = tie.close (tie.spec slice_bounds-hand_out-end hand_out-requires shape_of-counts returns)

@@ -9,46 +9,39 @@ use Rattle.lent_holder.specs.Holder.{holder_at}
 use Rattle.lent_holder.proofs.holder_at.Statement.{statement}
 use Rattle.lent_holder.proofs.holder_at.Tie as tie
 
-refusal-word-requires : tie.Need-refusal-word-requires
-refusal-word-requires c κs = search rules
+refusal_word-requires : tie.Need-refusal_word-requires
+refusal_word-requires c κs = search rules
+
+returns-then-channel-gt31 : tie.Need-returns-then-channel-gt31
+unfolding holder_at
+returns-then-channel-gt31 c = c.refusal_word.ensures ∙ rw (lt-leb c.args.channel 31 (omega arith))
+
+holds_channel-requires : tie.Need-holds_channel-requires
+holds_channel-requires c κs = search rules
+
+refusal_word-requires-then-not-holds_channel : tie.Need-refusal_word-requires-then-not-holds_channel
+refusal_word-requires-then-not-holds_channel c κs = search rules
+
+returns-then-not-holds_channel : tie.Need-returns-then-not-holds_channel
+unfolding holder_at
+returns-then-not-holds_channel c =
+    let asked = c.before.before in
+    let a = asked.args in
+    let f : holds a.h a.channel ≡ false = sym asked.holds_channel.ensures ∙ not-true _ c.if-not-holds_channel.true-raw in
+    c.refusal_word-then-not-holds_channel.ensures ∙ rw (le-leb a.channel 31 (omega arith), f)
+
+overflow_cast-result : tie.Need-overflow_cast-result
+overflow_cast-result c = search rules
 
 returns : tie.Need-returns
 unfolding holder_at
-returns c = c.refusal-word.ensures ∙ rw (lt-leb c.before.before.args.channel 31 (omega arith))
-
-holds-channel-requires : tie.Need-holds-channel-requires
-holds-channel-requires c κs = search rules
-
-refusal-word-requires-2 : tie.Need-refusal-word-requires-2
-refusal-word-requires-2 c κs = search rules
-
-returns-2 : tie.Need-returns-2
-unfolding holder_at
-returns-2 c =
-    let asked = c.before.before in
-    let a = asked.before.before.args in
-    let f : holds a.h a.channel ≡ false = sym asked.holds-channel.ensures ∙ not-true _ c.before.if2.true in
-    c.refusal-word2.ensures ∙ rw (le-leb a.channel 31 (omega arith), f)
-
-cast-result : tie.Need-overflow-cast-result
-cast-result c = search rules
-
-returns-3 : tie.Need-returns-3
-unfolding holder_at
-returns-3 c =
+returns c =
     let asked = c.before in
-    let a = asked.before.before.args in
-    let f : holds a.h a.channel ≡ true = sym asked.holds-channel.ensures ∙ not-false _ c.if2.false in
+    let a = asked.args in
+    let f : holds a.h a.channel ≡ true = sym asked.holds_channel.ensures ∙ not-false _ c.if-not-holds_channel.false-raw in
     rw (le-leb a.channel 31 (omega arith), f)
 
 pub holder_at_spec : {M : Type 1} → statement M
 holder_at_spec =
     tie.close
-    (tie.spec
-    refusal-word-requires
-    returns
-    holds-channel-requires
-    refusal-word-requires-2
-    returns-2
-    cast-result
-    returns-3)
+    (tie.spec refusal_word-requires returns-then-channel-gt31 holds_channel-requires refusal_word-requires-then-not-holds_channel returns-then-not-holds_channel overflow_cast-result returns)

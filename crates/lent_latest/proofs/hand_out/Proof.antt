@@ -48,57 +48,57 @@ set_three (a ∷ []) x y z l = absurd (let o : ⊥ = omega (arith, l) in o)
 set_three (a ∷ b ∷ []) x y z l = absurd (let o : ⊥ = omega (arith, l) in o)
 set_three (a ∷ b ∷ c ∷ xs) x y z l = refl
 
-returns : tie.Need-returns
-returns c =
-    let a = c.before.before.before.before.before.args in
-    ends a.at a.l a.times.now a.buf.now false _ _ _ (sym c.before.is_set.ensures ∙ not-true _ c.if1.true) refl refl refl
+returns-then-not-is_set : tie.Need-returns-then-not-is_set
+returns-then-not-is_set c =
+    let a = c.args in
+    ends a.at a.l a.times.now a.buf.now false _ _ _ (sym c.is_set.ensures ∙ not-true _ c.if-not-is_set.true-raw) refl refl refl
 
-returns-2 : tie.Need-returns-2
-returns-2 c =
+returns-then-kind-gt-OCPP : tie.Need-returns-then-kind-gt-OCPP
+returns-then-kind-gt-OCPP c =
     let s = c.before.before in
-    let a = s.before.before.before.before.before.args in
-    ends a.at a.l a.times.now a.buf.now true false _ _ (sym s.before.is_set.ensures ∙ not-false _ s.if1.false) (no_kind a.l.kind c.if2.true) refl refl
+    let a = s.args in
+    ends a.at a.l a.times.now a.buf.now true false _ _ (sym s.is_set.ensures ∙ not-false _ s.if-not-is_set.false-raw) (no_kind a.l.kind c.if-kind-gt-OCPP.true) refl refl
 
-returns-3 : tie.Need-returns-3
-returns-3 c =
+returns-then-times-lt3 : tie.Need-returns-then-times-lt3
+returns-then-times-lt3 c =
     let k = c.before.before in
     let s = k.before.before in
-    let a = s.before.before.before.before.before.args in
-    let e = ends a.at a.l a.times.now a.buf.now true true false _ (sym s.before.is_set.ensures ∙ not-false _ s.if1.false) (some_kind a.l.kind k.if2.false) (lt-leb _ _ c.before.if3.true) refl in
-    (c.refusal-word.ensures ∙ e.0, e.1, e.2)
+    let a = s.args in
+    let e = ends a.at a.l a.times.now a.buf.now true true false _ (sym s.is_set.ensures ∙ not-false _ s.if-not-is_set.false-raw) (some_kind a.l.kind k.if-kind-gt-OCPP.false) (lt-leb _ _ c.if-times-lt3.true) refl in
+    (c.refusal_word.ensures ∙ e.0, e.1, e.2)
 
-returns-4 : tie.Need-returns-4
-returns-4 c =
+returns-then-buf-len : tie.Need-returns-then-buf-len
+returns-then-buf-len c =
     let n = c.before.before in
     let r = n.before in
     let k = r.before in
     let s = k.before.before in
-    let a = s.before.before.before.before.before.args in
-    let e = ends a.at a.l a.times.now a.buf.now true true true false (sym s.before.is_set.ensures ∙ not-false _ s.if1.false) (some_kind a.l.kind k.if2.false) (le-leb _ _ r.if3.false) (lt-leb _ _ (rw n.length-of.ensures at c.before.if4.true)) in
-    (c.refusal-word2.ensures ∙ e.0, e.1, e.2)
+    let a = s.args in
+    let e = ends a.at a.l a.times.now a.buf.now true true true false (sym s.is_set.ensures ∙ not-false _ s.if-not-is_set.false-raw) (some_kind a.l.kind k.if-kind-gt-OCPP.false) (le-leb _ _ r.if-times-lt3.false) (lt-leb _ _ (rw n.length_of-len.ensures at c.if-buf-len.true)) in
+    (c.refusal_word-then-buf-len.ensures ∙ e.0, e.1, e.2)
 
-slice-write-times-2 : tie.Need-slice-write-times-2
-slice-write-times-2 c =
+bounds-times-1 : tie.Need-bounds-times-1
+bounds-times-1 c =
     let r = c.before.before.before.before in
-    let a = r.before.before.before.before.before.before.before.before.args in
-    let z : 1 < length (set a.times.now 0 c.before.received.result) = omega (arith, length-set a.times.now 0 c.before.received.result, r.if3.false) in
+    let a = r.args in
+    let z : 1 < length (set a.times.now 0 c.received.result) = omega (arith, length-set a.times.now 0 c.received.result, r.if-times-lt3.false) in
     z
 
-slice-write-times-3 : tie.Need-slice-write-times-3
-slice-write-times-3 c =
+bounds-times-2 : tie.Need-bounds-times-2
+bounds-times-2 c =
     let r = c.before.before.before.before in
-    let a = r.before.before.before.before.before.before.before.before.args in
-    let xs = set a.times.now 0 c.before.received.result in
-    let z : 2 < length (set xs 1 c.age.result) = omega (arith, length-set xs 1 c.age.result, length-set a.times.now 0 c.before.received.result, r.if3.false) in
+    let a = r.args in
+    let xs = set a.times.now 0 c.received.result in
+    let z : 2 < length (set xs 1 c.age.result) = omega (arith, length-set xs 1 c.age.result, length-set a.times.now 0 c.received.result, r.if-times-lt3.false) in
     z
 
-cast-result : tie.Need-overflow-cast-result
-cast-result c =
+overflow_cast-result : tie.Need-overflow_cast-result
+overflow_cast-result c =
     let n = c.before.before.before.before.before.before.before.before in
-    record { fits = omega (arith, n.length-of.ensures, short_length n.before.before.before.before.before.before.before.before.before.args.l.kind) }
+    record { fits = omega (arith, n.length_of-len.ensures, short_length n.args.l.kind) }
 
-returns-5 : tie.Need-returns-5
-returns-5 c =
+returns : tie.Need-returns
+returns c =
     let w = c.before.before in
     let big = w.before.before in
     let aged = big.before in
@@ -108,15 +108,15 @@ returns-5 c =
     let r = n.before in
     let k = r.before in
     let s = k.before.before in
-    let a = s.before.before.before.before.before.args in
-    let long : length_of a.l.kind ≤ length a.buf.now = rw n.length-of.ensures at room.if4.false in
-    let e = ends a.at a.l a.times.now a.buf.now true true true true (sym s.before.is_set.ensures ∙ not-false _ s.if1.false) (some_kind a.l.kind k.if2.false) (le-leb _ _ r.if3.false) (le-leb _ _ long) in (
-      n.length-of.ensures ∙ e.0,
+    let a = s.args in
+    let long : length_of a.l.kind ≤ length a.buf.now = rw n.length_of-len.ensures at room.if-buf-len.false in
+    let e = ends a.at a.l a.times.now a.buf.now true true true true (sym s.is_set.ensures ∙ not-false _ s.if-not-is_set.false-raw) (some_kind a.l.kind k.if-kind-gt-OCPP.false) (le-leb _ _ r.if-times-lt3.false) (le-leb _ _ long) in (
+      n.length_of-len.ensures ∙ e.0,
       ap₂ (λ (x y : ℕ). set (set (set a.times.now 0 x) 1 y) 2 a.l.kind) stamp.received.ensures aged.age.ensures
-          ∙ set_three a.times.now (received_of a.l.time) (age_of a.at a.l.time) a.l.kind r.if3.false
+          ∙ set_three a.times.now (received_of a.l.time) (age_of a.at a.l.time) a.l.kind r.if-times-lt3.false
           ∙ e.1,
       w.store.ensures
-          ∙ ap₂ (λ (b : Bool) (len : ℕ). stored_in b len a.l.raw a.buf.now) big.is-big.ensures n.length-of.ensures
+          ∙ ap₂ (λ (b : Bool) (len : ℕ). stored_in b len a.l.raw a.buf.now) big.is_big.ensures n.length_of-len.ensures
           ∙ stored_in_lem (big_of a.l.kind) (length_of a.l.kind) a.l.raw a.buf.now long
           ∙ e.2,
     )
@@ -127,22 +127,22 @@ hand_out_spec =
     (tie.spec
     (λ c. search rules)
     (λ c κs. search rules)
-    returns
+    returns-then-not-is_set
     (λ c. search rules)
-    returns-2
+    returns-then-kind-gt-OCPP
     (λ c κs. search rules)
-    returns-3
+    returns-then-times-lt3
     (λ c κs. search rules)
     (λ c κs. search rules)
-    returns-4
+    returns-then-buf-len
     (λ c κs. search rules)
     (λ c. search rules)
     (λ c κs. search rules)
-    slice-write-times-2
-    slice-write-times-3
+    bounds-times-1
+    bounds-times-2
     (λ c κs. search rules)
     (λ c κs. search rules)
-    cast-result
+    overflow_cast-result
     (λ c. search rules)
     (λ c. search rules)
-    returns-5)
+    returns)

@@ -10,56 +10,56 @@ use Rattle.lent_latest.proofs.ByCase.{handed_by_lem, handed_kept}
 use Rattle.lent_latest.proofs.latest_of.Statement.{statement}
 use Rattle.lent_latest.proofs.latest_of.Tie as tie
 
-returns : tie.Need-returns
-returns c =
+returns-then-not-is_post : tie.Need-returns-then-not-is_post
+returns-then-not-is_post c =
     let post = c.before in
-    let a = post.before.before.before.before.args in
-    let e = handed_by_lem a.t1 a.post a.kind a.times.now a.buf.now (no_post_lem a.t1 a.post (sym post.before.is-post.ensures ∙ not-true _ post.if1.true)) in
-    (c.refusal-word.ensures ∙ e.0, e.1, e.2)
+    let a = post.args in
+    let e = handed_by_lem a.t1 a.post a.kind a.times.now a.buf.now (no_post_lem a.t1 a.post (sym post.is_post.ensures ∙ not-true _ post.if-not-is_post.true-raw)) in
+    (c.refusal_word.ensures ∙ e.0, e.1, e.2)
 
-element-copy-out-p : tie.Need-element-copy-out-p
-element-copy-out-p c = ltb-true _ _ (sym c.before.is-post.ensures ∙ not-false _ c.if1.false)
+bounds-t-i : tie.Need-bounds-t-i
+bounds-t-i c = ltb-true _ _ (sym c.is_post.ensures ∙ not-false _ c.if-not-is_post.false-raw)
 
-returns-2 : tie.Need-returns-2
-returns-2 c =
+returns-then-not-is_set : tie.Need-returns-then-not-is_set
+returns-then-not-is_set c =
     let used = c.before in
     let post = used.before.before.before.before.before in
-    let a = post.before.before.before.before.args in
+    let a = post.args in
     let e = handed_by_lem a.t1 a.post a.kind a.times.now a.buf.now
-    (not_set_up a.t1 a.post (sym post.before.is-post.ensures ∙ not-false _ post.if1.false) (sym used.before.is_set.ensures ∙ not-true _ used.if2.true)) in
-    (c.refusal-word2.ensures ∙ e.0, e.1, e.2)
+    (not_set_up a.t1 a.post (sym post.is_post.ensures ∙ not-false _ post.if-not-is_post.false-raw) (sym used.is_set.ensures ∙ not-true _ used.if-not-is_set.true-raw)) in
+    (c.refusal_word-then-not-is_set.ensures ∙ e.0, e.1, e.2)
 
-returns-3 : tie.Need-returns-3
-returns-3 c =
+returns-then-k-gt-OCPP : tie.Need-returns-then-k-gt-OCPP
+returns-then-k-gt-OCPP c =
     let used = c.before.before in
     let post = used.before.before.before.before.before in
-    let a = post.before.before.before.before.args in
+    let a = post.args in
     let e = handed_by_lem a.t1 a.post a.kind a.times.now a.buf.now
-    (set_up a.t1 a.post (sym post.before.is-post.ensures ∙ not-false _ post.if1.false) (sym used.before.is_set.ensures ∙ not-false _ used.if2.false)) in
+    (set_up a.t1 a.post (sym post.is_post.ensures ∙ not-false _ post.if-not-is_post.false-raw) (sym used.is_set.ensures ∙ not-false _ used.if-not-is_set.false-raw)) in
     let f = rw (le-ltb a.kind message_count (omega arith)) at e in
-    (c.refusal-word3.ensures ∙ f.0, f.1, f.2)
+    (c.refusal_word-then-k-gt-OCPP.ensures ∙ f.0, f.1, f.2)
 
 -- the kind's place is one of the post's
-mul-l : tie.Need-overflow-mul-l
-mul-l c =
-    let a = c.before.before.before.before.before.before.before.before.before.before.before.args in
+offset_bounds-p-j : tie.Need-offset_bounds-p-j
+offset_bounds-p-j c =
+    let a = c.args in
     omega (arith, c.place-by.ensures, place_small a.kind (omega arith))
 
-element-copy-out-l : tie.Need-element-copy-out-l
-element-copy-out-l c =
-    let a = c.before.before.before.before.before.before.before.before.before.before.before.args in
-    omega (arith, c.place-by.ensures, place_small a.kind (omega arith))
+bounds-p-j : tie.Need-bounds-p-j
+bounds-p-j c =
+    let a = c.args in
+    omega (arith, c.place_by-j.ensures, place_small a.kind (omega arith))
 
-returns-4 : tie.Need-returns-4
-returns-4 c =
+returns : tie.Need-returns
+returns c =
     let h = c.before.before.before.before in
     let own = h.before.before.before in
     let place = own.before.before in
     let used = place.before.before in
     let post = used.before.before.before.before.before in
-    let a = post.before.before.before.before.args in
-    handed_kept a.t1 a.post a.kind a.times.now a.buf.now (sym post.before.is-post.ensures ∙ not-false _ post.if1.false) (sym used.before.is_set.ensures ∙ not-false _ used.if2.false) (omega arith)
-    (rw (own.of-kind.ensures, place.place-by.ensures) at h.hand-out.ensures)
+    let a = post.args in
+    handed_kept a.t1 a.post a.kind a.times.now a.buf.now (sym post.is_post.ensures ∙ not-false _ post.if-not-is_post.false-raw) (sym used.is_set.ensures ∙ not-false _ used.if-not-is_set.false-raw) (omega arith)
+    (rw (own.of_kind-own.ensures, place.place_by-j.ensures) at h.hand_out.ensures)
 
 pub latest_of_spec : {M : Type 1} → statement M
 latest_of_spec =
@@ -67,20 +67,20 @@ latest_of_spec =
     (tie.spec
     (λ c κs. search rules)
     (λ c κs. search rules)
-    returns
+    returns-then-not-is_post
     (λ c. search rules)
-    element-copy-out-p
+    bounds-t-i
     (λ c. search rules)
     (λ c κs. search rules)
     (λ c κs. search rules)
-    returns-2
+    returns-then-not-is_set
     (λ c κs. search rules)
-    returns-3
+    returns-then-k-gt-OCPP
     (λ c κs. search rules)
-    mul-l
-    element-copy-out-l
+    offset_bounds-p-j
+    bounds-p-j
     (λ c κs. search rules)
     (λ c κs. search rules)
     (λ c. search rules)
     (λ c. search rules)
-    returns-4)
+    returns)

@@ -12,38 +12,38 @@ use Rattle.lent_numbers.proofs.ByCase.{numbers_many, looked_by}
 use Rattle.lent_numbers.proofs.looked.Statement.{statement}
 use Rattle.lent_numbers.proofs.looked.Tie as tie
 
-returns : tie.Need-returns
-returns c =
+returns-then-not-is_post : tie.Need-returns-then-not-is_post
+returns-then-not-is_post c =
     let post = c.before in
-    let a = post.before.before.before.args in
-    let e = looked_by a.t1 a.post a.numbers.now (no_post_lem a.t1 a.post (sym post.before.is-post.ensures ∙ not-true _ post.if1.true)) in
-    (c.refusal-word.ensures ∙ e.0, e.1)
+    let a = post.args in
+    let e = looked_by a.t1 a.post a.numbers.now (no_post_lem a.t1 a.post (sym post.is_post.ensures ∙ not-true _ post.if-not-is_post.true-raw)) in
+    (c.refusal_word.ensures ∙ e.0, e.1)
 
-element-copy-out-p : tie.Need-element-copy-out-p
-element-copy-out-p c = ltb-true _ _ (sym c.before.is-post.ensures ∙ not-false _ c.if1.false)
+bounds-t-i : tie.Need-bounds-t-i
+bounds-t-i c = ltb-true _ _ (sym c.is_post.ensures ∙ not-false _ c.if-not-is_post.false-raw)
 
-returns-2 : tie.Need-returns-2
-returns-2 c =
+returns-then-not-is_set : tie.Need-returns-then-not-is_set
+returns-then-not-is_set c =
     let used = c.before in
     let post = used.before.before.before.before.before in
-    let a = post.before.before.before.args in
+    let a = post.args in
     let e = looked_by a.t1 a.post a.numbers.now
-    (not_set_up a.t1 a.post (sym post.before.is-post.ensures ∙ not-false _ post.if1.false) (sym used.before.is_set.ensures ∙ not-true _ used.if2.true)) in
-    (c.refusal-word2.ensures ∙ e.0, e.1)
+    (not_set_up a.t1 a.post (sym post.is_post.ensures ∙ not-false _ post.if-not-is_post.false-raw) (sym used.is_set.ensures ∙ not-true _ used.if-not-is_set.true-raw)) in
+    (c.refusal_word-then-not-is_set.ensures ∙ e.0, e.1)
 
-returns-3 : tie.Need-returns-3
-returns-3 c =
+returns : tie.Need-returns
+returns c =
     let out = c.before.before in
     let n = out.before.before.before in
     let used = n.before in
     let post = used.before.before.before.before.before in
-    let a = post.before.before.before.args in
+    let a = post.args in
     let e = looked_by a.t1 a.post a.numbers.now
-    (set_up a.t1 a.post (sym post.before.is-post.ensures ∙ not-false _ post.if1.false) (sym used.before.is_set.ensures ∙ not-false _ used.if2.false)) in
+    (set_up a.t1 a.post (sym post.is_post.ensures ∙ not-false _ post.if-not-is_post.false-raw) (sym used.is_set.ensures ∙ not-false _ used.if-not-is_set.false-raw)) in
     let ns = n.Numbers-of.ensures in
     let many = ap length ns ∙ numbers_many _ in (
-      out.hand-out.ensures.0 ∙ ap (λ (k : ℕ). outcome_word (room_outcome k (length a.numbers.now))) many ∙ e.0,
-      out.hand-out.ensures.1 ∙ ap₂ (λ (k : ℕ) (xs : List ℕ). room_left k xs a.numbers.now) many ns ∙ e.1,
+      out.hand_out.ensures.0 ∙ ap (λ (k : ℕ). outcome_word (room_outcome k (length a.numbers.now))) many ∙ e.0,
+      out.hand_out.ensures.1 ∙ ap₂ (λ (k : ℕ) (xs : List ℕ). room_left k xs a.numbers.now) many ns ∙ e.1,
     )
 
 pub looked_spec : {M : Type 1} → statement M
@@ -52,15 +52,15 @@ looked_spec =
     (tie.spec
     (λ c κs. search rules)
     (λ c κs. search rules)
-    returns
+    returns-then-not-is_post
     (λ c. search rules)
-    element-copy-out-p
-    (λ c. search rules)
-    (λ c κs. search rules)
-    (λ c κs. search rules)
-    returns-2
-    (λ c κs. search rules)
+    bounds-t-i
     (λ c. search rules)
     (λ c κs. search rules)
+    (λ c κs. search rules)
+    returns-then-not-is_set
+    (λ c κs. search rules)
     (λ c. search rules)
-    returns-3)
+    (λ c κs. search rules)
+    (λ c. search rules)
+    returns)

@@ -50,26 +50,26 @@ returns c =
     let iface = opened.before.before.before.before in
     let sensor = iface.before in
     rw (
-      c.interface-number.ensures,
-      c.before.where-set5.ensures,
+      c.interface_number.ensures,
+      c.where_set-5.ensures,
       age.age.ensures,
-      age.before.where-set4.ensures,
-      plug.plug-number.ensures,
-      plug.before.where-set3.ensures,
-      protocol.protocol-number.ensures,
-      since.where-set2.ensures,
-      since.before.received2.ensures,
-      since.before.before.flag2.ensures,
-      time.where-set.ensures,
-      time.before.received.ensures,
-      time.before.before.flag.ensures,
-      kind.sensor-number.ensures,
-      read.session-in.ensures,
-      opened.is-set2.ensures,
-      opened.before.is_set.ensures,
-      iface.interface-of.ensures,
-      sensor.sensor-of.ensures,
-    ) (sym (spelled sensor.before.before.before.args.p))
+      age.where_set-4.ensures,
+      plug.plug_number.ensures,
+      plug.where_set-3.ensures,
+      protocol.protocol_number.ensures,
+      since.where_set-2.ensures,
+      since.received-2.ensures,
+      since.flag-2.ensures,
+      time.where_set.ensures,
+      time.received.ensures,
+      time.flag.ensures,
+      kind.sensor_number.ensures,
+      read.session_in-n.ensures,
+      opened.is_set-opened.ensures,
+      opened.is_set-heard.ensures,
+      iface.interface_of-interface.ensures,
+      sensor.sensor_of-sensor.ensures,
+    ) (sym (spelled sensor.args.p))
 
 pub numbers_of_spec : {M : Type 1} → statement M
 numbers_of_spec =

@@ -5,18 +5,18 @@ use mathlib.Core.Path.{sym, ◌∙◌}
 use Rattle.lent_session.proofs.open_kept.Statement.{statement}
 use Rattle.lent_session.proofs.open_kept.Tie as tie
 
-returns : tie.Need-returns
-returns c = rw (sym c.before.is_set.ensures ∙ not-true _ c.if1.true)
+returns-then-not-is_set : tie.Need-returns-then-not-is_set
+returns-then-not-is_set c = rw (sym c.is_set.ensures ∙ not-true _ c.if-not-is_set.true-raw)
 
-returns-2 : tie.Need-returns-2
-returns-2 c = rw (sym c.before.before.is_set.ensures ∙ not-false _ c.before.if1.false)
+returns : tie.Need-returns
+returns c = rw (sym c.is_set.ensures ∙ not-false _ c.if-not-is_set.false-raw)
 
 pub open_kept_spec : {M : Type 1} → statement M
 open_kept_spec =
     tie.close
     (tie.spec
     (λ c κs. search rules)
-    returns
+    returns-then-not-is_set
     (λ c. search rules)
     (λ c. search rules)
-    returns-2)
+    returns)

@@ -7,7 +7,7 @@ use Rattle.lent_words.proofs.released.Tie as tie
 
 returns : tie.Need-returns
 unfolding release_word
-returns c = in_words c.before.before.release.ensures.0 c.setting-word.ensures
+returns c = in_words c.release-r.ensures.0 c.setting_word.ensures
 
 pub released_spec : {M : Type 1} → statement M
 released_spec = tie.close (tie.spec (λ c κs. search rules) (λ c κs. search rules) returns)

@@ -7,7 +7,7 @@ use Rattle.lent_words.proofs.settled.Tie as tie
 
 returns : tie.Need-returns
 unfolding set_up_word
-returns c = in_words c.before.before.set-up-plain.ensures.0 c.setting-word.ensures
+returns c = in_words c.set_up_plain-r.ensures.0 c.setting_word.ensures
 
 pub settled_spec : {M : Type 1} → statement M
 settled_spec = tie.close (tie.spec (λ c κs. search rules) (λ c κs. search rules) returns)

@@ -13,59 +13,59 @@ invariant-loop s at n₀ weight₀ i₀ n weight i = Turn s at n weight i
 abbrev decreases-loop : tie.decreases-loop
 decreases-loop s at n₀ weight₀ i₀ n weight i = 4 - i
 
-cast-n : tie.Need-overflow-cast-n invariant-loop decreases-loop
-cast-n c = search (rules, c.shared-slice-known2.given c.before.before.args.at)
+overflow_cast-n : tie.Need-overflow_cast-n invariant-loop decreases-loop
+overflow_cast-n c = search (rules, c.shared_slice_known-2-1.given c.args.at)
 
-loop-holds : tie.Need-loop-init invariant-loop decreases-loop
-loop-holds c =
-    let a = c.before.before.args in
-    turn_start a.s.now a.at (λ j. omega (arith, c.shared-slice-known2.given j)) (omega arith) (omega arith)
+loop-i-init : tie.Need-loop-i-init invariant-loop decreases-loop
+loop-i-init c =
+    let a = c.args in
+    turn_start a.s.now a.at (λ j. omega (arith, c.shared_slice_known-2-1.given j)) (omega arith) (omega arith)
 
-returns : tie.Need-returns invariant-loop decreases-loop
-returns c = turn_cut c.before.loop.invariant c.if1.true
+returns-then-s-at : tie.Need-returns-then-s-at invariant-loop decreases-loop
+returns-then-s-at c = turn_cut c.loop-i.invariant c.if-s-at.true
 
-last-group-requires : tie.Need-last-group-requires invariant-loop decreases-loop
-last-group-requires c κs =
+last_group-requires : tie.Need-last_group-requires invariant-loop decreases-loop
+last_group-requires c κs =
     let g = c.before in
-    let l = g.before.before.before.loop in
-    (turn_fits l.invariant g.group-bound.ensures c.if2.true, l.invariant.most)
+    let l = g.loop-i in
+    (turn_fits l.invariant g.group_bound.ensures c.if-b-group_bound.true, l.invariant.most)
 
-returns-2 : tie.Need-returns-2 invariant-loop decreases-loop
-returns-2 c =
+returns-then-b-group_bound : tie.Need-returns-then-b-group_bound invariant-loop decreases-loop
+returns-then-b-group_bound c =
     let g = c.before.before in
-    let l = g.before.before.before.loop in
-    c.last-group.ensures ∙ turn_last l.invariant g.group-bound.ensures (omega arith) c.before.if2.true
+    let l = g.loop-i in
+    c.last_group.ensures ∙ turn_last l.invariant g.group_bound.ensures (omega arith) c.if-b-group_bound.true
 
-returns-3 : tie.Need-returns-3 invariant-loop decreases-loop
-returns-3 c =
+returns-then-i-eq4 : tie.Need-returns-then-i-eq4 invariant-loop decreases-loop
+returns-then-i-eq4 c =
     let g = c.before.before in
-    let l = g.before.before.before.loop in
-    turn_ill l.invariant g.group-bound.ensures (omega arith) c.before.if2.false c.if3.true
+    let l = g.loop-i in
+    turn_ill l.invariant g.group_bound.ensures (omega arith) c.if-b-group_bound.false c.if-i-eq4.true
 
 -- the turn in which a group with its high bit set came
-abbrev turn : (c : tie.Else3 invariant-loop decreases-loop) → tie.At-loop invariant-loop decreases-loop
+abbrev turn : (c : tie.Else-i-eq4 invariant-loop decreases-loop) → tie.At-loop-i invariant-loop decreases-loop
 turn c = c.before.before.before.before.before
 
-high : (c : tie.Else3 invariant-loop decreases-loop) → High (turn c).before.before.before.args.s.now (turn c).before.before.before.args.at (turn c).loop.n (turn c).loop.weight (turn c).loop.i
-high c = turn_high (turn c).loop.invariant c.before.before.group-bound.ensures c.if3.false c.before.if2.false
+high : (c : tie.Else-i-eq4 invariant-loop decreases-loop) → High (turn c).args.s.now (turn c).args.at (turn c).loop.n (turn c).loop.weight (turn c).loop.i
+high c = turn_high (turn c).loop.invariant c.group_bound.ensures c.if-i-eq4.false c.if-b-group_bound.false
 
-sub-n-2 : tie.Need-overflow-sub-n-2 invariant-loop decreases-loop
-sub-n-2 c = (high c).high
+overflow_sub-n-in-loop-i : tie.Need-overflow_sub-n-in-loop-i invariant-loop decreases-loop
+overflow_sub-n-in-loop-i c = (high c).high
 
-cast-n-2 : tie.Need-overflow-cast-n-2 invariant-loop decreases-loop
-cast-n-2 c = search (rules, high c)
+overflow_cast-n-in-loop-i : tie.Need-overflow_cast-n-in-loop-i invariant-loop decreases-loop
+overflow_cast-n-in-loop-i c = search (rules, high c)
 
-mul-n : tie.Need-overflow-mul-n invariant-loop decreases-loop
-mul-n c = search (rules, high c)
+overflow_mul-n : tie.Need-overflow_mul-n invariant-loop decreases-loop
+overflow_mul-n c = search (rules, high c)
 
-add-n : tie.Need-overflow-add-n invariant-loop decreases-loop
-add-n c = search (rules, high c)
+overflow_add-n : tie.Need-overflow_add-n invariant-loop decreases-loop
+overflow_add-n c = search (rules, high c)
 
-mul-weight : tie.Need-overflow-mul-weight invariant-loop decreases-loop
-mul-weight c = search (rules, high c)
+overflow_mul-weight : tie.Need-overflow_mul-weight invariant-loop decreases-loop
+overflow_mul-weight c = search (rules, high c)
 
-loop-again : tie.Need-loop-preserved invariant-loop decreases-loop
-loop-again c = turn_more (turn c).loop.invariant (high c) (omega arith) c.if3.false
+loop-i-preserved : tie.Need-loop-i-preserved invariant-loop decreases-loop
+loop-i-preserved c = turn_more (turn c).loop.invariant (high c) (omega arith) c.if-i-eq4.false
 
 pub groups_at_spec : {M : Type 1} → statement M
 groups_at_spec =
@@ -75,21 +75,21 @@ groups_at_spec =
     decreases-loop
     (λ c. omega arith)
     (λ c. omega arith)
-    cast-n
-    loop-holds
+    overflow_cast-n
+    loop-i-init
     (λ c. omega arith)
-    returns
+    returns-then-s-at
     (λ c. omega arith)
     (λ c. omega arith)
     (λ c κs. search rules)
-    last-group-requires
-    returns-2
-    returns-3
-    sub-n-2
-    cast-n-2
-    mul-n
-    add-n
-    mul-weight
+    last_group-requires
+    returns-then-b-group_bound
+    returns-then-i-eq4
+    overflow_sub-n-in-loop-i
+    overflow_cast-n-in-loop-i
+    overflow_mul-n
+    overflow_add-n
+    overflow_mul-weight
     (λ c. omega arith)
     (λ c. omega arith)
-    loop-again)
+    loop-i-preserved)

@@ -5,12 +5,12 @@ use Rattle.log_numbers.proofs.Groups.{at_end, at_one}
 use Rattle.log_numbers.proofs.number_at.Statement.{statement}
 use Rattle.log_numbers.proofs.number_at.Tie as tie
 
-returns : tie.Need-returns
-returns c = at_end c.before.before.args.s.now c.before.before.args.at 4 c.if1.true
+returns-then-s-at : tie.Need-returns-then-s-at
+returns-then-s-at c = at_end c.args.s.now c.args.at 4 c.if-s-at.true
 
-returns-2 : tie.Need-returns-2
-returns-2 c = at_one c.before.before.before.before.args.s.now c.before.before.before.before.args.at (omega arith) c.if2.true
+returns-then-b-lt128 : tie.Need-returns-then-b-lt128
+returns-then-b-lt128 c = at_one c.args.s.now c.args.at (omega arith) c.if-b-lt128.true
 
 pub number_at_spec : {M : Type 1} → statement M
 number_at_spec =
-    tie.close (tie.spec returns (λ c. search rules) (λ c. search rules) returns-2 (λ c κs. search rules) (λ c. search rules))
+    tie.close (tie.spec returns-then-s-at (λ c. search rules) (λ c. search rules) returns-then-b-lt128 (λ c κs. search rules) (λ c. search rules))

@@ -5,24 +5,24 @@ use borrow.Author.Rules.{rules}
 use Rattle.log_read.proofs.at_place.Statement.{statement}
 use Rattle.log_read.proofs.at_place.Tie as tie
 
-enum-known-taken : tie.Need-enum-known-taken
-enum-known-taken c = search rules
+enum_known-taken : tie.Need-enum_known-taken
+enum_known-taken c = search rules
 
-enum_told : tie.Need-enum-told
-enum_told c = search rules
+enum_told-1 : tie.Need-enum_told-1
+enum_told-1 c = search rules
 
-enum-known-taken-2 : tie.Need-enum-known-taken-2
-enum-known-taken-2 c = search rules
+enum_known-taken-in-Bad-1 : tie.Need-enum_known-taken-in-Bad-1
+enum_known-taken-in-Bad-1 c = search rules
 
-returns : tie.Need-returns
-returns c = sym (ap (placed c.before.before.before.args.at) c.before.taken.given.1)
+returns-in-Whole : tie.Need-returns-in-Whole
+returns-in-Whole c = sym (ap (placed c.args.at) c.in-Whole.is)
 
-returns-2 : tie.Need-returns-2
-returns-2 c = sym (ap (placed c.before.before.args.at) c.enum_told.given.1)
+returns-in-Cut : tie.Need-returns-in-Cut
+returns-in-Cut c = sym (ap (placed c.args.at) c.in-Cut.is)
 
-returns-3 : tie.Need-returns-3
-returns-3 c = sym (ap (placed c.before.before.before.args.at) c.before.taken2.given.1)
+returns-in-Bad : tie.Need-returns-in-Bad
+returns-in-Bad c = sym (ap (placed c.args.at) c.in-Bad.is)
 
 pub at_place_spec : {M : Type 1} → statement M
 at_place_spec =
-    tie.close (tie.spec enum-known-taken enum_told enum-known-taken-2 returns returns-2 returns-3)
+    tie.close (tie.spec enum_known-taken enum_told-1 enum_known-taken-in-Bad-1 returns-in-Whole returns-in-Cut returns-in-Bad)

@@ -6,17 +6,17 @@ use borrow.Author.Rules.{rules}
 use Rattle.log_read.proofs.record_at.Statement.{statement}
 use Rattle.log_read.proofs.record_at.Tie as tie
 
+returns-then-s-at : tie.Need-returns-then-s-at
+returns-then-s-at c = rw (le-leb _ _ c.if-s-at.true)
+
+record_from-requires : tie.Need-record_from-requires
+record_from-requires c κs = search rules
+
+at_place-requires : tie.Need-at_place-requires
+at_place-requires c κs = search rules
+
 returns : tie.Need-returns
-returns c = rw (le-leb _ _ c.if1.true)
-
-record-from-requires : tie.Need-record-from-requires
-record-from-requires c κs = search rules
-
-at-place-requires : tie.Need-at-place-requires
-at-place-requires c κs = search rules
-
-returns-2 : tie.Need-returns-2
-returns-2 c = rw (lt-leb _ _ c.before.before.if1.false) (c.at-place.ensures ∙ ap (placed c.before.before.before.before.args.at) c.before.record-from.ensures)
+returns c = rw (lt-leb _ _ c.if-s-at.false) (c.at_place.ensures ∙ ap (placed c.args.at) c.record_from.ensures)
 
 pub record_at_spec : {M : Type 1} → statement M
-record_at_spec = tie.close (tie.spec returns record-from-requires at-place-requires returns-2)
+record_at_spec = tie.close (tie.spec returns-then-s-at record_from-requires at_place-requires returns)

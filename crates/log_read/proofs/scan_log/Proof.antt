@@ -15,55 +15,42 @@ invariant-loop s at₀ records₀ at records = Scanned s at records
 abbrev decreases-loop : tie.decreases-loop
 decreases-loop s at₀ records₀ at records = length s - at
 
-loop-holds : tie.Need-loop-init invariant-loop decreases-loop
-loop-holds c = (omega arith, omega arith, refl)
+loop-at-init : tie.Need-loop-at-init invariant-loop decreases-loop
+loop-at-init c = (omega arith, omega arith, refl)
 
-record-from-requires : tie.Need-record-from-requires invariant-loop decreases-loop
-record-from-requires c κs = c.before.loop.invariant.0
+record_from-requires : tie.Need-record_from-requires invariant-loop decreases-loop
+record_from-requires c κs = c.loop-at.invariant.0
 
-enum-known-e : tie.Need-enum-known-e invariant-loop decreases-loop
-enum-known-e c = search rules
+enum_known-e : tie.Need-enum_known-e invariant-loop decreases-loop
+enum_known-e c = search rules
 
-add-records : tie.Need-overflow-add-records invariant-loop decreases-loop
-add-records c = search (rules, c.before.before.before.before.before.loop.invariant.0, c.before.before.before.before.before.loop.invariant.1)
+overflow_add-records : tie.Need-overflow_add-records invariant-loop decreases-loop
+overflow_add-records c = search (rules, c.loop-at.invariant.0, c.loop-at.invariant.1)
 
-loop-less : tie.Need-loop-smaller invariant-loop decreases-loop
-loop-less c = omega (arith, (scan_more c.before.before.before.before.before.before.before.args.s.now c.before.before.before.before.before.loop.at c.before.before.before.before.before.loop.records c.before.e.given.0.0 (omega arith) c.before.before.before.before.before.loop.invariant c.before.before.before.record-from.ensures c.before.e.given.1).1)
+loop-at-smaller : tie.Need-loop-at-smaller invariant-loop decreases-loop
+loop-at-smaller c = omega (arith, (scan_more c.args.s.now c.loop-at.at c.loop-at.records c.in-Whole.e (omega arith) c.loop-at.invariant c.record_from.ensures c.in-Whole.is).1)
 
-loop-again : tie.Need-loop-preserved invariant-loop decreases-loop
-loop-again c = (scan_more c.before.before.before.before.before.before.before.args.s.now c.before.before.before.before.before.loop.at c.before.before.before.before.before.loop.records c.before.e.given.0.0 (omega arith) c.before.before.before.before.before.loop.invariant c.before.before.before.record-from.ensures c.before.e.given.1).0
+loop-at-preserved : tie.Need-loop-at-preserved invariant-loop decreases-loop
+loop-at-preserved c = (scan_more c.args.s.now c.loop-at.at c.loop-at.records c.in-Whole.e (omega arith) c.loop-at.invariant c.record_from.ensures c.in-Whole.is).0
 
-enum_told : tie.Need-enum-told invariant-loop decreases-loop
-enum_told c = search rules
+enum_told-1 : tie.Need-enum_told-1 invariant-loop decreases-loop
+enum_told-1 c = search rules
+
+returns-in-Cut : tie.Need-returns-in-Cut invariant-loop decreases-loop
+unfolding scan_of
+returns-in-Cut c = (scan_turn c.args.s.now c.loop-at.at c.loop-at.records (omega arith) c.loop-at.invariant c.record_from.ensures c.in-Cut.is).0
+
+enum_known-why : tie.Need-enum_known-why invariant-loop decreases-loop
+enum_known-why c = search rules
+
+returns-in-Bad : tie.Need-returns-in-Bad invariant-loop decreases-loop
+unfolding scan_of
+returns-in-Bad c = (scan_turn c.args.s.now c.loop-at.at c.loop-at.records (omega arith) c.loop-at.invariant c.record_from.ensures c.in-Bad.is).0
 
 returns : tie.Need-returns invariant-loop decreases-loop
-unfolding scan_of
-returns c = (scan_turn c.before.before.before.before.before.before.args.s.now c.before.before.before.before.loop.at c.before.before.before.before.loop.records (omega arith) c.before.before.before.before.loop.invariant c.before.before.record-from.ensures c.enum_told.given.1).0
-
-enum-known-why : tie.Need-enum-known-why invariant-loop decreases-loop
-enum-known-why c = search rules
-
-returns-2 : tie.Need-returns-2 invariant-loop decreases-loop
-unfolding scan_of
-returns-2 c = (scan_turn c.before.before.before.before.before.before.before.args.s.now c.before.before.before.before.before.loop.at c.before.before.before.before.before.loop.records (omega arith) c.before.before.before.before.before.loop.invariant c.before.before.before.record-from.ensures c.before.why.given.1).0
-
-returns-3 : tie.Need-returns-3 invariant-loop decreases-loop
-returns-3 c = scan_end c.before.before.before.args.s.now c.before.loop.at c.before.loop.records (omega arith) c.before.loop.invariant
+returns c = scan_end c.args.s.now c.loop-at.at c.loop-at.records (omega arith) c.loop-at.invariant
 
 pub scan_log_spec : {M : Type 1} → statement M
 scan_log_spec =
     tie.close
-    (tie.spec
-    invariant-loop
-    decreases-loop
-    loop-holds
-    record-from-requires
-    enum-known-e
-    add-records
-    loop-less
-    loop-again
-    enum_told
-    returns
-    enum-known-why
-    returns-2
-    returns-3)
+    (tie.spec invariant-loop decreases-loop loop-at-init record_from-requires enum_known-e overflow_add-records loop-at-smaller loop-at-preserved enum_told-1 returns-in-Cut enum_known-why returns-in-Bad returns)

@@ -4,39 +4,31 @@ use Rattle.log_walk.specs.Walk.{seen_of}
 use Rattle.log_walk.proofs.seen_as.Statement.{statement}
 use Rattle.log_walk.proofs.seen_as.Tie as tie
 
-enum-known-found : tie.Need-enum-known-found
-enum-known-found c = search rules
+enum_known-found : tie.Need-enum_known-found
+enum_known-found c = search rules
 
-enum_told : tie.Need-enum-told
-enum_told c = search rules
+enum_told-1 : tie.Need-enum_told-1
+enum_told-1 c = search rules
 
-enum-told-2 : tie.Need-enum-told-2
-enum-told-2 c = search rules
+enum_told-in-Cut : tie.Need-enum_told-in-Cut
+enum_told-in-Cut c = search rules
 
-enum-known-found-2 : tie.Need-enum-known-found-2
-enum-known-found-2 c = search rules
+enum_known-found-in-Refused-1 : tie.Need-enum_known-found-in-Refused-1
+enum_known-found-in-Refused-1 c = search rules
 
-returns : tie.Need-returns
-returns c = sym (ap seen_of c.before.found.given.1)
+returns-in-Record : tie.Need-returns-in-Record
+returns-in-Record c = sym (ap seen_of c.in-Record.is)
 
-returns-2 : tie.Need-returns-2
-returns-2 c = search rules
+returns-in-End : tie.Need-returns-in-End
+returns-in-End c = search rules
 
-returns-3 : tie.Need-returns-3
-returns-3 c = search rules
+returns-in-Cut : tie.Need-returns-in-Cut
+returns-in-Cut c = search rules
 
-returns-4 : tie.Need-returns-4
-returns-4 c = sym (ap seen_of c.before.found2.given.1)
+returns-in-Refused : tie.Need-returns-in-Refused
+returns-in-Refused c = sym (ap seen_of c.in-Refused.is)
 
 pub seen_as_spec : {M : Type 1} → statement M
 seen_as_spec =
     tie.close
-    (tie.spec
-    enum-known-found
-    enum_told
-    enum-told-2
-    enum-known-found-2
-    returns
-    returns-2
-    returns-3
-    returns-4)
+    (tie.spec enum_known-found enum_told-1 enum_told-in-Cut enum_known-found-in-Refused-1 returns-in-Record returns-in-End returns-in-Cut returns-in-Refused)

@@ -6,18 +6,18 @@ use Rattle.log_walk.proofs.stepped.Tie as tie
 place-requires : tie.Need-place-requires
 place-requires c κs = search rules
 
-record-at-requires : tie.Need-record-at-requires
-record-at-requires c κs = search rules
+record_at-found-requires : tie.Need-record_at-found-requires
+record_at-found-requires c κs = search rules
 
-seen-as-requires : tie.Need-seen-as-requires
-seen-as-requires c κs = search rules
+seen_as-requires : tie.Need-seen_as-requires
+seen_as-requires c κs = search rules
 
-passed-requires : tie.Need-passed-requires
-passed-requires c κs = search rules
+passed-walk-requires : tie.Need-passed-walk-requires
+passed-walk-requires c κs = search rules
 
 returns : tie.Need-returns
 returns c = cc
 
 pub stepped_spec : {M : Type 1} → statement M
 stepped_spec =
-    tie.close (tie.spec place-requires record-at-requires seen-as-requires passed-requires returns)
+    tie.close (tie.spec place-requires record_at-found-requires seen_as-requires passed-walk-requires returns)

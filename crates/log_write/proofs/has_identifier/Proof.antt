@@ -2,11 +2,11 @@
 use Rattle.log_write.proofs.has_identifier.Statement.{statement}
 use Rattle.log_write.proofs.has_identifier.Tie as tie
 
-returns : tie.Need-returns
-returns c = rw c.if1.true
+returns-then-extended : tie.Need-returns-then-extended
+returns-then-extended c = rw c.if-extended.true
 
-returns-2 : tie.Need-returns-2
-returns-2 c = rw c.if1.false
+returns-else-extended : tie.Need-returns-else-extended
+returns-else-extended c = rw c.if-extended.false
 
 pub has_identifier_spec : {M : Type 1} → statement M
-has_identifier_spec = tie.close (tie.spec returns returns-2)
+has_identifier_spec = tie.close (tie.spec returns-then-extended returns-else-extended)

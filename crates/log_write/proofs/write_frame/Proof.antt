@@ -21,90 +21,76 @@ has i x r e t = ltb-true i (identifiers x) (sym e ∙ not-false r t)
 lacks : (i : ℕ) (x r : Bool) → r ≡ ltb i (identifiers x) → not r ≡ true → identifiers x ≤ i
 lacks i x r e t = ltb-false i (identifiers x) (sym e ∙ not-true r t)
 
-returns : tie.Need-returns
-returns c = let a = c.before.before.before.args in frame_channel a.time a.channel a.extended a.id a.payload.now a.out.now c.if1.true
+returns-then-channel-gt-LAST_CHANNEL : tie.Need-returns-then-channel-gt-LAST_CHANNEL
+returns-then-channel-gt-LAST_CHANNEL c = let a = c.args in frame_channel a.time a.channel a.extended a.id a.payload.now a.out.now c.if-channel-gt-LAST_CHANNEL.true
 
-has-identifier-requires : tie.Need-has-identifier-requires
-has-identifier-requires c κs = search rules
+has_identifier-requires : tie.Need-has_identifier-requires
+has_identifier-requires c κs = search rules
 
 above-requires : tie.Need-above-requires
 above-requires c κs = search rules
 
-returns-2 : tie.Need-returns-2
-returns-2 c =
-    let a = c.before.before.before.before.before.before.args in
-    let q = c.before.before.has-identifier in
-    rw c.above.ensures (frame_above a.time a.channel a.extended a.id a.payload.now a.out.now (omega arith) (lacks a.id a.extended q.result q.ensures c.before.if2.true))
+returns-then-not-has_identifier : tie.Need-returns-then-not-has_identifier
+returns-then-not-has_identifier c =
+    let a = c.args in
+    let q = c.has_identifier in
+    rw c.above.ensures (frame_above a.time a.channel a.extended a.id a.payload.now a.out.now (omega arith) (lacks a.id a.extended q.result q.ensures c.if-not-has_identifier.true-raw))
 
-returns-3 : tie.Need-returns-3
-returns-3 c =
-    let a = c.before.before.before.before.before.before.args in
-    let q = c.before.before.has-identifier in
-    frame_long a.time a.channel a.extended a.id a.payload.now a.out.now (omega arith) (has a.id a.extended q.result q.ensures c.before.if2.false) c.if3.true
+returns-then-payload-gt8 : tie.Need-returns-then-payload-gt8
+returns-then-payload-gt8 c =
+    let a = c.args in
+    let q = c.has_identifier in
+    frame_long a.time a.channel a.extended a.id a.payload.now a.out.now (omega arith) (has a.id a.extended q.result q.ensures c.if-not-has_identifier.false-raw) c.if-payload-gt8.true
 
-part-of-requires : tie.Need-part-of-requires
-part-of-requires c κs =
-    let a = c.before.before.before.before.before.before.args in
-    let q = c.before.before.has-identifier in
-    has a.id a.extended q.result q.ensures c.before.if2.false
+part_of-p-requires : tie.Need-part_of-p-requires
+part_of-p-requires c κs =
+    let a = c.args in
+    let q = c.has_identifier in
+    has a.id a.extended q.result q.ensures c.if-not-has_identifier.false-raw
 
-cast-n : tie.Need-overflow-cast-n
-cast-n c = search rules
+overflow_cast-n : tie.Need-overflow_cast-n
+overflow_cast-n c = search rules
 
-head-size-requires : tie.Need-head-size-requires
-head-size-requires c κs = search rules
+head_size-requires : tie.Need-head_size-requires
+head_size-requires c κs = search rules
 
-add-size : tie.Need-overflow-add-size
-add-size c =
-    let a = c.before.before.before.before.before.before.before.before.args in
-    omega (arith, head_le a.time a.channel c.before.part_of.result (length a.payload.now))
+overflow_add-size : tie.Need-overflow_add-size
+overflow_add-size c =
+    let a = c.args in
+    omega (arith, head_le a.time a.channel c.part_of-p.result (length a.payload.now))
 
-returns-4 : tie.Need-returns-4
-returns-4 c =
-    let a = c.before.before.before.before.before.before.before.before.before.args in
-    let q = c.before.before.before.before.before.has-identifier in
-    let p = c.before.before.part_of in
-    let n = c.before.head-size.result + length a.payload.now in
-    short (frame a.time a.channel a.extended a.id a.payload.now) a.out.now n (search rules, omega arith, has a.id a.extended q.result q.ensures c.before.before.before.before.if2.false, omega arith)
-    (omega (arith, frame_length a.time a.channel p.result a.extended a.id a.payload.now p.ensures)) c.if4.true
+returns-then-out-size : tie.Need-returns-then-out-size
+returns-then-out-size c =
+    let a = c.args in
+    let q = c.has_identifier in
+    let p = c.part_of-p in
+    let n = c.head_size.result + length a.payload.now in
+    short (frame a.time a.channel a.extended a.id a.payload.now) a.out.now n (search rules, omega arith, has a.id a.extended q.result q.ensures c.if-not-has_identifier.false-raw, omega arith)
+    (omega (arith, frame_length a.time a.channel p.result a.extended a.id a.payload.now p.ensures)) c.if-out-size.true
 
-store-head-requires : tie.Need-store-head-requires
-store-head-requires c κs = search rules
+store_head-at-requires : tie.Need-store_head-at-requires
+store_head-at-requires c κs = search rules
 
-store-bytes-requires : tie.Need-store-bytes-requires
-store-bytes-requires c κs = search rules
+store_bytes-requires : tie.Need-store_bytes-requires
+store_bytes-requires c κs = search rules
 
-same_length : tie.Need-same-length
-same_length c = search rules
+shape_of-out : tie.Need-shape_of-out
+shape_of-out c = search rules
 
-returns-5 : tie.Need-returns-5
-returns-5 c =
-    let a = c.before.before.before.before.before.before.before.before.before.before.before.before.before.before.before.before.before.args in
-    let q = c.before.before.before.before.before.before.before.before.before.before.before.before.before.has-identifier in
-    let p = c.before.before.before.before.before.before.before.before.before.before.part_of in
-    let n = c.before.before.before.before.before.before.before.before.before.head-size.result + length a.payload.now in
-    let h = c.before.before.before.before.before.before.store-head in
+returns : tie.Need-returns
+returns c =
+    let a = c.args in
+    let q = c.has_identifier in
+    let p = c.part_of-p in
+    let n = c.head_size.result + length a.payload.now in
+    let h = c.store_head-at in
     let b = c.before.before.store_Bytes in
-    logged (frame a.time a.channel a.extended a.id a.payload.now) a.out.now n (search rules, omega arith, has a.id a.extended q.result q.ensures c.before.before.before.before.before.before.before.before.before.before.before.before.if2.false, omega arith)
-    (omega (arith, frame_length a.time a.channel p.result a.extended a.id a.payload.now p.ensures)) b.new.0 c.before.before.before.before.before.before.before.before.if4.false
+    logged (frame a.time a.channel a.extended a.id a.payload.now) a.out.now n (search rules, omega arith, has a.id a.extended q.result q.ensures c.if-not-has_identifier.false-raw, omega arith)
+    (omega (arith, frame_length a.time a.channel p.result a.extended a.id a.payload.now p.ensures)) b.new.0 c.if-out-size.false
     (body_stored a.out.now h.new.0 b.new.0 a.time a.channel p.result (length a.payload.now) h.result a.payload.now h.ensures b.ensures
     ∙ ap (sets a.out.now 0) (frame_bytes a.time a.channel p.result a.extended a.id a.payload.now p.ensures))
 
 pub write_frame_spec : {M : Type 1} → statement M
 write_frame_spec =
     tie.close
-    (tie.spec
-    returns
-    has-identifier-requires
-    above-requires
-    returns-2
-    returns-3
-    part-of-requires
-    cast-n
-    head-size-requires
-    add-size
-    returns-4
-    store-head-requires
-    store-bytes-requires
-    same_length
-    returns-5)
+    (tie.spec returns-then-channel-gt-LAST_CHANNEL has_identifier-requires above-requires returns-then-not-has_identifier returns-then-payload-gt8 part_of-p-requires overflow_cast-n head_size-requires overflow_add-size returns-then-out-size store_head-at-requires store_bytes-requires shape_of-out returns)

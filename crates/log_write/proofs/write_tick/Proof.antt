@@ -9,32 +9,32 @@ use Rattle.log_write.proofs.Stores.{tick_length, tick_bytes}
 use Rattle.log_write.proofs.write_tick.Statement.{statement}
 use Rattle.log_write.proofs.write_tick.Tie as tie
 
+returns-then-channel-gt-LAST_CHANNEL : tie.Need-returns-then-channel-gt-LAST_CHANNEL
+returns-then-channel-gt-LAST_CHANNEL c = let a = c.args in tick_channel a.time a.channel a.out.now c.if-channel-gt-LAST_CHANNEL.true
+
+head_size-size-requires : tie.Need-head_size-size-requires
+head_size-size-requires c κs = search rules
+
+returns-then-out-size : tie.Need-returns-then-out-size
+returns-then-out-size c =
+    let a = c.args in
+    short (tick a.time a.channel) a.out.now c.head_size-size.result (search rules, omega arith)
+    (omega (arith, tick_length a.time a.channel)) c.if-out-size.true
+
+store_head-requires : tie.Need-store_head-requires
+store_head-requires c κs = search rules
+
+shape_of-out : tie.Need-shape_of-out
+shape_of-out c = search rules
+
 returns : tie.Need-returns
-returns c = let a = c.before.before.args in tick_channel a.time a.channel a.out.now c.if1.true
-
-head-size-requires : tie.Need-head-size-requires
-head-size-requires c κs = search rules
-
-returns-2 : tie.Need-returns-2
-returns-2 c =
-    let a = c.before.before.before.before.args in
-    short (tick a.time a.channel) a.out.now c.before.head-size.result (search rules, omega arith)
-    (omega (arith, tick_length a.time a.channel)) c.if2.true
-
-store-head-requires : tie.Need-store-head-requires
-store-head-requires c κs = search rules
-
-same_length : tie.Need-same-length
-same_length c = search rules
-
-returns-3 : tie.Need-returns-3
-returns-3 c =
-    let a = c.before.before.before.before.before.before.before.before.args in
-    logged (tick a.time a.channel) a.out.now c.before.before.before.before.before.head-size.result (search rules, omega arith)
-    (omega (arith, tick_length a.time a.channel)) c.before.before.store-head.new.0 c.before.before.before.before.if2.false
-    (c.before.before.store-head.ensures.1 ∙ ap (sets a.out.now 0) (tick_bytes a.time a.channel))
+returns c =
+    let a = c.args in
+    logged (tick a.time a.channel) a.out.now c.head_size-size.result (search rules, omega arith)
+    (omega (arith, tick_length a.time a.channel)) c.store_head.new.0 c.if-out-size.false
+    (c.store_head.ensures.1 ∙ ap (sets a.out.now 0) (tick_bytes a.time a.channel))
 
 pub write_tick_spec : {M : Type 1} → statement M
 write_tick_spec =
     tie.close
-    (tie.spec returns head-size-requires returns-2 store-head-requires same_length returns-3)
+    (tie.spec returns-then-channel-gt-LAST_CHANNEL head_size-size-requires returns-then-out-size store_head-requires shape_of-out returns)

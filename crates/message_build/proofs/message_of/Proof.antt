@@ -10,7 +10,7 @@ use Rattle.message_build.proofs.message_of.Tie as tie
 
 returns : tie.Need-returns
 unfolding message_of
-returns c = c.built.ensures ∙ ap (λ (zs : List ℤ). built_of c.before.before.args.kind (at zs)) c.before.raws-of.ensures
+returns c = c.built.ensures ∙ ap (λ (zs : List ℤ). built_of c.args.kind (at zs)) c.raws_of.ensures
 
 pub message_of_spec : {M : Type 1} → statement M
 message_of_spec = tie.close (tie.spec (λ c κs. search rules) (λ c κs. search rules) returns)

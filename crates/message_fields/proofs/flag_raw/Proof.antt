@@ -2,11 +2,11 @@
 use Rattle.message_fields.proofs.flag_raw.Statement.{statement}
 use Rattle.message_fields.proofs.flag_raw.Tie as tie
 
-returns : tie.Need-returns
-returns c = rw c.if1.true
+returns-then-b : tie.Need-returns-then-b
+returns-then-b c = rw c.if-b.true
 
-returns-2 : tie.Need-returns-2
-returns-2 c = rw c.if1.false
+returns-else-b : tie.Need-returns-else-b
+returns-else-b c = rw c.if-b.false
 
 pub flag_raw_spec : {M : Type 1} → statement M
-flag_raw_spec = tie.close (tie.spec returns returns-2)
+flag_raw_spec = tie.close (tie.spec returns-then-b returns-else-b)

@@ -12,23 +12,23 @@ use Rattle.message_fields.proofs.Signs.{natural_is, natural_no, natural_le}
 use Rattle.message_fields.proofs.natural.Statement.{statement}
 use Rattle.message_fields.proofs.natural.Tie as tie
 
-whole : (c : tie.Else1) → to_z w64 (of_z w64 c.before.args.z) ≡ pos (natural_of c.before.args.z)
+whole : (c : tie.Else-z-lt0) → to_z w64 (of_z w64 c.args.z) ≡ pos (natural_of c.args.z)
 whole c =
-    let z = c.before.args.z in
-    let f = c.before.ranges.z in
-    to_z-of_z f ∙ natural_is z (tested z false f c.if1.false)
+    let z = c.args.z in
+    let f = c.ranges.z in
+    to_z-of_z f ∙ natural_is z (tested z false f c.if-z-lt0.false)
 
-cast-result : tie.Need-overflow-cast-result
-cast-result c =
-    rw (whole c) (tt, record { fits = omega (arith, natural_le c.before.args.z, c.before.ranges.z.sfits) })
+overflow_cast-result : tie.Need-overflow_cast-result
+overflow_cast-result c =
+    rw (whole c) (tt, record { fits = omega (arith, natural_le c.args.z, c.ranges.z.sfits) })
 
-returns : tie.Need-returns
-returns c =
-    let z = c.before.args.z in
-    natural_no z (tested z true c.before.ranges.z c.if1.true)
+returns-then-z-lt0 : tie.Need-returns-then-z-lt0
+returns-then-z-lt0 c =
+    let z = c.args.z in
+    natural_no z (tested z true c.ranges.z c.if-z-lt0.true)
 
-returns-2 : tie.Need-returns-2
-returns-2 c = ap nat_abs (whole c)
+returns-else-z-lt0 : tie.Need-returns-else-z-lt0
+returns-else-z-lt0 c = ap nat_abs (whole c)
 
 pub natural_spec : {M : Type 1} → statement M
-natural_spec = tie.close (tie.spec cast-result returns returns-2)
+natural_spec = tie.close (tie.spec overflow_cast-result returns-then-z-lt0 returns-else-z-lt0)

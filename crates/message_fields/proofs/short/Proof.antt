@@ -15,22 +15,22 @@ use Rattle.message_fields.proofs.short.Statement.{statement}
 use Rattle.message_fields.proofs.short.Tie as tie
 
 -- what `fits` answered
-answered : (c : tie.After-fits2) → fits_in true 16 c.before.args.z ≡ c.fits2.result
+answered : (c : tie.After-fits) → fits_in true 16 c.args.z ≡ c.fits.result
 answered c =
-    sym (c.fits2.ensures ∙ ap (fits_of true 16) (to_z-of_z c.before.ranges.z) ∙ fits_in_lem true 16 c.before.args.z (omega arith) (omega arith))
+    sym (c.fits.ensures ∙ ap (fits_of true 16) (to_z-of_z c.ranges.z) ∙ fits_in_lem true 16 c.args.z (omega arith) (omega arith))
 
-fitting : (c : tie.Then1) → SFits w16 c.before.before.args.z
-fitting c = record { sfits = ltb-true (mag c.before.before.args.z) (2 ^ 15) (answered c.before ∙ c.if1.true) }
+fitting : (c : tie.Then-fits) → SFits w16 c.args.z
+fitting c = record { sfits = ltb-true (mag c.args.z) (2 ^ 15) (answered c.before ∙ c.if-fits.true) }
 
-cast-result : tie.Need-overflow-cast-result
-cast-result c = rw (to_z-of_z c.before.before.ranges.z) (fitting c)
+overflow_cast-result : tie.Need-overflow_cast-result
+overflow_cast-result c = rw (to_z-of_z c.ranges.z) (fitting c)
 
-returns : tie.Need-returns
-returns c =
-    rw (to_z-of_z c.before.before.ranges.z, answered c.before, c.if1.true) (to_z-of_z (fitting c))
+returns-then-fits : tie.Need-returns-then-fits
+returns-then-fits c =
+    rw (to_z-of_z c.ranges.z, answered c.before, c.if-fits.true) (to_z-of_z (fitting c))
 
-returns-2 : tie.Need-returns-2
-returns-2 c = rw (answered c.before, c.if1.false)
+returns-else-fits : tie.Need-returns-else-fits
+returns-else-fits c = rw (answered c.before, c.if-fits.false)
 
 pub short_spec : {M : Type 1} → statement M
-short_spec = tie.close (tie.spec (λ c κs. search rules) cast-result returns returns-2)
+short_spec = tie.close (tie.spec (λ c κs. search rules) overflow_cast-result returns-then-fits returns-else-fits)

@@ -18,11 +18,11 @@ low x h = sym (ap (λ (b : Bool). cond b (pos x) (negsuc 0)) (lt-ltb x (2 ^ 63) 
 high : (x : ℕ) → 2 ^ 63 ≤ x → negsuc 0 ≡ wide_raw x
 high x h = sym (ap (λ (b : Bool). cond b (pos x) (negsuc 0)) (le-ltb x (2 ^ 63) h))
 
-returns : tie.Need-returns
-returns c = to_z_pos w64 c.if1.true ∙ low c.before.args.x c.if1.true
+returns-then-x-lt9223372036854775808 : tie.Need-returns-then-x-lt9223372036854775808
+returns-then-x-lt9223372036854775808 c = to_z_pos w64 c.if-x-lt9223372036854775808.true ∙ low c.args.x c.if-x-lt9223372036854775808.true
 
-returns-2 : tie.Need-returns-2
-returns-2 c = high c.before.args.x c.if1.false
+returns : tie.Need-returns
+returns c = high c.args.x c.if-x-lt9223372036854775808.false
 
 pub wide_raw_spec : {M : Type 1} → statement M
-wide_raw_spec = tie.close (tie.spec (λ c. search rules) returns returns-2)
+wide_raw_spec = tie.close (tie.spec (λ c. search rules) returns-then-x-lt9223372036854775808 returns)

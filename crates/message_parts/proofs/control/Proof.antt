@@ -17,30 +17,30 @@ returns c =
     let b = n1.before.before in
     let a = b.before.before in
     let v = a.before.before in
-    simp (to_z-of_z, sfits_of, a.short.type-inv, b.short2.type-inv)
+    simp (to_z-of_z, sfits_of, a.short.type_inv, b.short-2.type_inv)
     (simp (
       to_z-of_z,
       sfits_of,
-      v.before.word_arg.given,
-      a.before.short-arg.given,
-      b.before.short-arg2.given,
-      n1.before.natural-arg.given,
-      r.before.flag-arg.given,
-      n2.before.natural-arg2.given,
-      n3.before.natural-arg3.given,
-      n4.before.natural-arg4.given,
+      v.word-arg-1.given,
+      a.short-arg-1.given,
+      b.short-arg-2-1.given,
+      n1.natural-arg-1.given,
+      r.flag-arg-1.given,
+      n2.natural-arg-2-1.given,
+      n3.natural-arg-3-1.given,
+      n4.natural-arg-4-1.given,
       v.word.ensures,
       a.short.ensures,
-      b.short2.ensures,
+      b.short-2.ensures,
       n1.natural.ensures,
       f.Function-of.ensures,
       r.flag.ensures,
-      n2.natural2.ensures,
+      n2.natural-2.ensures,
       m.Mode-of.ensures,
-      n3.natural3.ensures,
-      k.contactors-of.ensures,
-      n4.natural4.ensures,
-      c.lowering-of.ensures,
+      n3.natural-3.ensures,
+      k.contactors_of.ensures,
+      n4.natural-4.ensures,
+      c.lowering_of.ensures,
     ))
 
 pub control_spec : {M : Type 1} → statement M

@@ -20,14 +20,14 @@ returns c =
     let a1 = a2.before in
     c.control.ensures
     ∙ rw (
-      to_z-of_z {w = w64} (record { sfits = a1.raw_of.type-inv }) ∙ a1.raw_of.ensures,
-      to_z-of_z {w = w64} (record { sfits = a2.raw-of2.type-inv }) ∙ a2.raw-of2.ensures,
-      to_z-of_z {w = w64} (record { sfits = a3.raw-of3.type-inv }) ∙ a3.raw-of3.ensures,
-      to_z-of_z {w = w64} (record { sfits = a4.raw-of4.type-inv }) ∙ a4.raw-of4.ensures,
-      to_z-of_z {w = w64} (record { sfits = a5.raw-of5.type-inv }) ∙ a5.raw-of5.ensures,
-      to_z-of_z {w = w64} (record { sfits = a6.raw-of6.type-inv }) ∙ a6.raw-of6.ensures,
-      to_z-of_z {w = w64} (record { sfits = a7.raw-of7.type-inv }) ∙ a7.raw-of7.ensures,
-      to_z-of_z {w = w64} (record { sfits = a8.raw-of8.type-inv }) ∙ a8.raw-of8.ensures,
+      to_z-of_z {w = w64} (record { sfits = a1.raw_of.type_inv }) ∙ a1.raw_of.ensures,
+      to_z-of_z {w = w64} (record { sfits = a2.raw_of-2.type_inv }) ∙ a2.raw_of-2.ensures,
+      to_z-of_z {w = w64} (record { sfits = a3.raw_of-3.type_inv }) ∙ a3.raw_of-3.ensures,
+      to_z-of_z {w = w64} (record { sfits = a4.raw_of-4.type_inv }) ∙ a4.raw_of-4.ensures,
+      to_z-of_z {w = w64} (record { sfits = a5.raw_of-5.type_inv }) ∙ a5.raw_of-5.ensures,
+      to_z-of_z {w = w64} (record { sfits = a6.raw_of-6.type_inv }) ∙ a6.raw_of-6.ensures,
+      to_z-of_z {w = w64} (record { sfits = a7.raw_of-7.type_inv }) ∙ a7.raw_of-7.ensures,
+      to_z-of_z {w = w64} (record { sfits = a8.raw_of-8.type_inv }) ∙ a8.raw_of-8.ensures,
     )
 
 pub control_in_spec : {M : Type 1} → statement M

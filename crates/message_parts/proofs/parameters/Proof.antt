@@ -9,8 +9,8 @@ returns c =
     let w2 = c.before.before in
     let w1 = w2.before.before in
     let w0 = w1.before.before in
-    simp (to_z-of_z, sfits_of, c.short.type-inv)
-    (search (rules, w0.word.ensures, w1.word2.ensures, w2.word3.ensures, c.short.ensures))
+    simp (to_z-of_z, sfits_of, c.short.type_inv)
+    (search (rules, w0.word.ensures, w1.word-2.ensures, w2.word-3.ensures, c.short.ensures))
 
 pub parameters_spec : {M : Type 1} → statement M
 parameters_spec =

@@ -8,7 +8,7 @@ returns c =
     let n1 = c.before in
     let p = n1.before.before in
     let n0 = p.before in
-    search (rules, n0.natural.ensures, p.protocol-of.ensures, n1.natural2.ensures, c.plug-of.ensures)
+    search (rules, n0.natural.ensures, p.protocol_of.ensures, n1.natural-2.ensures, c.plug_of.ensures)
 
 pub session_spec : {M : Type 1} → statement M
 session_spec =

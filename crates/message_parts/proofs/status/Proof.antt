@@ -12,8 +12,8 @@ returns c =
     let m = t.before.before in
     let a = m.before.before in
     let v = a.before.before in
-    simp (to_z-of_z, sfits_of, a.short.type-inv, m.celsius.type-inv, t.celsius2.type-inv)
-    (search (rules, v.word.ensures, a.short.ensures, m.celsius.ensures, t.celsius2.ensures, n.natural.ensures, e.enable-of.ensures, c.kilohms.ensures))
+    simp (to_z-of_z, sfits_of, a.short.type_inv, m.celsius.type_inv, t.celsius-2.type_inv)
+    (search (rules, v.word.ensures, a.short.ensures, m.celsius.ensures, t.celsius-2.ensures, n.natural.ensures, e.enable_of.ensures, c.kilohms.ensures))
 
 pub status_spec : {M : Type 1} → statement M
 status_spec =

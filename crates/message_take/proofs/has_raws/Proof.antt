@@ -34,7 +34,7 @@ has_raws_spec =
     (λ c. search rules)
     (λ c. search rules)
     (λ c. search rules)
-    (λ c. rw c.before.before.m.given.1)
+    (λ c. rw c.in-Status.is)
     (λ c. sym (ap has_raws c.enum_told.given.1))
     (λ c. sym (ap has_raws c.enum-told2.given.1))
     (λ c. sym (ap has_raws c.enum-told3.given.1))

@@ -27,22 +27,22 @@ writes m buf b e = (
   sym (ap (λ (x : Bool). cond x (pages.buffer_after (kind_of m) (padded m) buf) buf) e),
 )
 
+returns-then-not-has_raws : tie.Need-returns-then-not-has_raws
+returns-then-not-has_raws c =
+    let h = c.before in
+    let a = h.args in
+    writes a.m a.buf.now false (sym h.has_raws.ensures ∙ not-true h.has_raws.result c.if-not-has_raws.true-raw)
+
 returns : tie.Need-returns
 returns c =
-    let h = c.before in
-    let a = h.before.before.args in
-    writes a.m a.buf.now false (sym h.has-raws.ensures ∙ not-true h.has-raws.result c.if1.true)
-
-returns-2 : tie.Need-returns-2
-returns-2 c =
     let w = c.before.before in
     let r = w.before.before in
     let k = r.before in
     let h = k.before.before in
-    let a = h.before.before.args in
-    let e = writes a.m a.buf.now true (sym h.has-raws.ensures ∙ not-false h.has-raws.result k.before.if1.false) in (
-      w.write-raws.ensures.0 ∙ ap₂ (λ (x : ℕ) (zs : List ℤ). write_raws_of x zs a.buf.now) k.kind-of.ensures r.raws.ensures ∙ e.0,
-      w.write-raws.ensures.1 ∙ ap₂ (λ (x : ℕ) (zs : List ℤ). pages.buffer_after x zs a.buf.now) k.kind-of.ensures r.raws.ensures ∙ e.1,
+    let a = h.args in
+    let e = writes a.m a.buf.now true (sym h.has_raws.ensures ∙ not-false h.has_raws.result k.if-not-has_raws.false-raw) in (
+      w.write_raws.ensures.0 ∙ ap₂ (λ (x : ℕ) (zs : List ℤ). write_raws_of x zs a.buf.now) k.kind_of.ensures r.raws.ensures ∙ e.0,
+      w.write_raws.ensures.1 ∙ ap₂ (λ (x : ℕ) (zs : List ℤ). pages.buffer_after x zs a.buf.now) k.kind_of.ensures r.raws.ensures ∙ e.1,
     )
 
 pub write_spec : {M : Type 1} → statement M
@@ -50,9 +50,9 @@ write_spec =
     tie.close
     (tie.spec
     (λ c κs. search rules)
-    returns
+    returns-then-not-has_raws
     (λ c κs. search rules)
     (λ c κs. search rules)
     (λ c κs. search rules)
     (λ c. search rules)
-    returns-2)
+    returns)

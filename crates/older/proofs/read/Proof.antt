@@ -17,21 +17,21 @@ read_by : (m : ℕ) (x : Bool) (bs : List ℕ) (j : Judged) → j ≡ judge_on O
 unfolding read_of
 read_by m x bs j e = ap reading_of e
 
-returns : tie.Need-returns
-returns c =
+returns-in-Frame : tie.Need-returns-in-Frame
+returns-in-Frame c =
     let k = c.before.before in
     let j = k.before.before in
-    let a = j.before.before.args in
-    ap Accepted c.message-of.ensures ∙ read_by a.id a.extended a.bytes.now _ (sym k.kind.given.1 ∙ j.judge-on.ensures)
+    let a = j.args in
+    ap Accepted c.message_of.ensures ∙ read_by a.id a.extended a.bytes.now _ (sym k.in-Frame.is ∙ j.judge_on.ensures)
 
-returns-2 : tie.Need-returns-2
-returns-2 c =
+returns-in-Refused : tie.Need-returns-in-Refused
+returns-in-Refused c =
     let w = c.before in
     let j = w.before.before in
-    let a = j.before.before.args in
-    read_by a.id a.extended a.bytes.now _ (sym w.w.given.1 ∙ j.judge-on.ensures)
+    let a = j.args in
+    read_by a.id a.extended a.bytes.now _ (sym w.in-Refused.is ∙ j.judge_on.ensures)
 
 pub read_spec : {M : Type 1} → statement M
 read_spec =
     tie.close
-    (tie.spec (λ c κs. search rules) (λ c. search rules) (λ c κs. search rules) (λ c. search rules) returns returns-2)
+    (tie.spec (λ c κs. search rules) (λ c. search rules) (λ c κs. search rules) (λ c. search rules) returns-in-Frame returns-in-Refused)

@@ -26,7 +26,7 @@ returns c =
     let r = c.before.before in
     let s = r.before.before.before in
     let a = s.args in
-    handed a.id a.extended a.bytes.now a.start a.raw _ _ _ (to_z-of_z s.ranges.raw) r.change-on.ensures
+    handed a.id a.extended a.bytes.now a.start a.raw _ _ _ (to_z-of_z s.ranges.raw) r.change_on.ensures
 
 pub change_spec : {M : Type 1} → statement M
 change_spec = tie.close (tie.spec (λ c κs. search rules) (λ c. search rules) returns)

@@ -41,96 +41,96 @@ sought : (iface : Interface) (m : ℕ) (x : Bool) (bs : List ℕ) (s : ℕ) (z :
     → change_on iface m x bs s z ≡ changed_at k n z f
 sought iface m x bs s z k n f e g = read iface m x bs s z (Frame k n) e ∙ ap (changed_at k n z) g
 
-judge-on-requires : tie.Need-judge-on-requires
-judge-on-requires c κs = search rules
+judge_on-read-requires : tie.Need-judge_on-read-requires
+judge_on-read-requires c κs = search rules
 
-enum-known-read : tie.Need-enum-known-read
-enum-known-read c = search rules
+enum_known-read : tie.Need-enum_known-read
+enum_known-read c = search rules
 
-enum_told : tie.Need-enum-told
-enum_told c = search rules
+enum_told-1 : tie.Need-enum_told-1
+enum_told-1 c = search rules
 
-same_length : tie.Need-same-length
-same_length c = search rules
+shape_of-bytes-in_default : tie.Need-shape_of-bytes-in_default
+shape_of-bytes-in_default c = search rules
 
-returns : tie.Need-returns
-returns c =
+returns-in_default : tie.Need-returns-in_default
+returns-in_default c =
     let j = c.before.before in
-    let a = j.before.before.before.args in
-    ended a.bytes.now _ j.judge-on.result _ c.enum_told.given.1
-    (read a.iface a.id a.extended a.bytes.now a.start a.raw _ (sym j.judge-on.ensures ∙ c.enum_told.given.1))
+    let a = j.args in
+    ended a.bytes.now _ j.judge_on-read.result _ c.in_default.is
+    (read a.iface a.id a.extended a.bytes.now a.start a.raw _ (sym j.judge_on-read.ensures ∙ c.in_default.is))
 
-signal-at-requires : tie.Need-signal-at-requires
-signal-at-requires c κs = search rules
+signal_at-requires : tie.Need-signal_at-requires
+signal_at-requires c κs = search rules
 
-enum-known-i : tie.Need-enum-known-i
-enum-known-i c = search rules
+enum_known-i : tie.Need-enum_known-i
+enum_known-i c = search rules
 
-enum-told-2 : tie.Need-enum-told-2
-enum-told-2 c = search rules
+enum_told-in_default-signal_at : tie.Need-enum_told-in_default-signal_at
+enum_told-in_default-signal_at c = search rules
 
-same-length-2 : tie.Need-same-length-2
-same-length-2 c = search rules
+shape_of-bytes-in_default-signal_at : tie.Need-shape_of-bytes-in_default-signal_at
+shape_of-bytes-in_default-signal_at c = search rules
 
 -- the arguments, from the search on, and the frame that was read
-start : (c : tie.After-signal-at) → tie.Start
+start : (c : tie.After-signal_at) → tie.Start
 start c = c.before.before.before.before.before.before.before
 
-kind : (c : tie.After-signal-at) → ℕ
-kind c = c.before.before.read.given.0.0
+kind : (c : tie.After-signal_at) → ℕ
+kind c = c.in-Frame.kind
 
-number : (c : tie.After-signal-at) → ℕ
-number c = c.before.before.read.given.0.1.0
+number : (c : tie.After-signal_at) → ℕ
+number c = c.in-Frame.n
 
-frame : (c : tie.After-signal-at) → (let a = (start c).args in judge_on a.iface a.id a.extended a.bytes.now ≡ Frame (kind c) (number c))
+frame : (c : tie.After-signal_at) → (let a = (start c).args in judge_on a.iface a.id a.extended a.bytes.now ≡ Frame (kind c) (number c))
 unfolding start kind number
 frame c =
     let r = c.before.before in
-    sym r.before.before.judge-on.ensures ∙ r.read.given.1
+    sym r.judge_on-read.ensures ∙ r.in-Frame.is
 
-returns-2 : tie.Need-returns-2
+returns-in_default-signal_at : tie.Need-returns-in_default-signal_at
 unfolding start kind number
-returns-2 c =
+returns-in_default-signal_at c =
     let f = c.before.before in
     let a = (start f).args in
     ended a.bytes.now NoSignal _ _ refl
     (sought a.iface a.id a.extended a.bytes.now a.start a.raw (kind f) (number f) Nothing (frame f)
-    (sym f.signal-at.ensures ∙ c.enum-told2.given.1))
+    (sym f.signal_at.ensures ∙ c.in_default-signal_at.is))
 
-place : (c : tie.After-i) → ℕ
-place c = c.i.given.0.0
+place : (c : tie.In-At-2) → ℕ
+place c = c.in-At.i
 
-found : (c : tie.After-i) → (let f = c.before.before in first_at (is_signal (kind f) (start f).args.start) 0 rows ≡ At (place c))
+found : (c : tie.In-At-2) → (let f = c.before.before in first_at (is_signal (kind f) (start f).args.start) 0 rows ≡ At (place c))
 unfolding start kind number place
-found c = sym c.before.before.signal-at.ensures ∙ c.i.given.1
+found c = sym c.signal_at.ensures ∙ c.in-At.is
 
-row-to-change-requires : tie.Need-row-to-change-requires
-row-to-change-requires c κs = search rules
+row_to_change-r-requires : tie.Need-row_to_change-r-requires
+row_to_change-r-requires c κs = search rules
 
-change-row-requires : tie.Need-change-row-requires
+change_row-changed-requires : tie.Need-change_row-changed-requires
 unfolding start kind number place
-change-row-requires c κs =
+change_row-changed-requires c κs =
     let i = c.before.before in
     let f = i.before.before in
-    fine_at _ _ (found_in (is_signal (kind f) (start f).args.start) (place i) (found i)).0 c.row-to-change.ensures
+    fine_at _ _ (found_in (is_signal (kind f) (start f).args.start) (place i) (found i)).0 c.row_to_change-r.ensures
 
-enum-known-changed : tie.Need-enum-known-changed
-enum-known-changed c = search rules
+enum_known-changed : tie.Need-enum_known-changed
+enum_known-changed c = search rules
 
-enum-told-3 : tie.Need-enum-told-3
-enum-told-3 c = search rules
+enum_told-in_default-changed : tie.Need-enum_told-in_default-changed
+enum_told-in_default-changed c = search rules
 
-same-length-3 : tie.Need-same-length-3
-same-length-3 c = search rules
+shape_of-bytes-in_default-changed : tie.Need-shape_of-bytes-in_default-changed
+shape_of-bytes-in_default-changed c = search rules
 
 -- the search, from the row's change on
-sought_at : (c : tie.After-change-row) → tie.After-signal-at
+sought_at : (c : tie.After-change_row-changed) → tie.After-signal_at
 sought_at c = c.before.before.before.before.before
 
-asked : (c : tie.After-change-row) → tie.Start
+asked : (c : tie.After-change_row-changed) → tie.Start
 asked c = start (sought_at c)
 
-changed : (c : tie.After-change-row) → (let a = (asked c).args in c.change-row.result ≡ change_on a.iface a.id a.extended a.bytes.now a.start a.raw)
+changed : (c : tie.After-change_row-changed) → (let a = (asked c).args in c.change_row-changed.result ≡ change_on a.iface a.id a.extended a.bytes.now a.start a.raw)
 unfolding start kind number place sought_at asked
 changed c =
     let r = c.before in
@@ -138,15 +138,15 @@ changed c =
     let f = sought_at c in
     let s = asked c in
     let a = s.args in
-    c.change-row.ensures
-    ∙ ap₂ (λ (q : Row) (z : ℤ). changed_row q (kind f) (number f) z) r.row-to-change.ensures (to_z-of_z s.fits.raw)
+    c.change_row-changed.ensures
+    ∙ ap₂ (λ (q : Row) (z : ℤ). changed_row q (kind f) (number f) z) r.row_to_change-r.ensures (to_z-of_z s.fits.raw)
     ∙ sym (sought a.iface a.id a.extended a.bytes.now a.start a.raw (kind f) (number f) (At (place i)) (frame f) (found i))
 
-returns-3 : tie.Need-returns-3
+returns-in_default-changed : tie.Need-returns-in_default-changed
 unfolding start kind number place sought_at asked
-returns-3 c =
+returns-in_default-changed c =
     let d = c.before.before in
-    ended (asked d).args.bytes.now _ d.change-row.result _ c.enum-told3.given.1 (sym (changed d) ∙ c.enum-told3.given.1)
+    ended (asked d).args.bytes.now _ d.change_row-changed.result _ c.in_default-changed.is (sym (changed d) ∙ c.in_default-changed.is)
 
 bits-requires : tie.Need-bits-requires
 bits-requires c κs = search rules
@@ -155,7 +155,7 @@ bits-requires c κs = search rules
 stored : (c : tie.After-bits) → (
     let g = c.before.before.before in
     let d = g.before.before in
-    Storing d.before.row-to-change.result (asked d).args.bytes.now g.changed.given.0.0 g.changed.given.0.1.0 c.bits.result)
+    Storing d.row_to_change-r.result (asked d).args.bytes.now g.in-Frame-changed.field-0 g.in-Frame-changed.m c.bits.result)
 unfolding start kind number place sought_at asked
 stored c =
     let g = c.before.before.before in
@@ -165,48 +165,28 @@ stored c =
     let f = sought_at d in
     let s = asked d in
     let a = s.args in
-    storing a.iface a.id a.extended a.bytes.now a.start a.raw (kind f) (number f) (place i) _ _ c.bits.result r.row-to-change.result
-    (frame f) (found i) r.row-to-change.ensures (sym (changed d) ∙ g.changed.given.1) s.fits.raw c.bits.ensures
+    storing a.iface a.id a.extended a.bytes.now a.start a.raw (kind f) (number f) (place i) _ _ c.bits.result r.row_to_change-r.result
+    (frame f) (found i) r.row_to_change-r.ensures (sym (changed d) ∙ g.in-Frame-changed.is) s.fits.raw c.bits.ensures
 
-store-changed-requires : tie.Need-store-changed-requires
+store_changed-requires : tie.Need-store_changed-requires
 unfolding start kind number place sought_at asked
-store-changed-requires c κs = let t = stored c in (t.some, t.within, t.narrow, t.put)
+store_changed-requires c κs = let t = stored c in (t.some, t.within, t.narrow, t.put)
 
-same-length-4 : tie.Need-same-length-4
-same-length-4 c = search rules
+shape_of-bytes : tie.Need-shape_of-bytes
+shape_of-bytes c = search rules
 
-returns-4 : tie.Need-returns-4
+returns : tie.Need-returns
 unfolding start kind number place sought_at asked
-returns-4 c =
+returns c =
     let p = c.before.before in
     let t = stored p.before in
     let g = p.before.before.before.before in
     let d = g.before.before in
     let bs = (asked d).args.bytes.now in
-    let e = sym g.changed.given.1 ∙ changed d in
-    (e, p.store-changed.ensures ∙ ap (λ (x : Bool). bytes_of x (length bs) g.changed.given.0.1.0) t.same ∙ ap (bytes_after bs) e)
+    let e = sym g.in-Frame-changed.is ∙ changed d in
+    (e, p.store_changed.ensures ∙ ap (λ (x : Bool). bytes_of x (length bs) g.in-Frame-changed.m) t.same ∙ ap (bytes_after bs) e)
 
 pub change_on_spec : {M : Type 1} → statement M
 change_on_spec =
     tie.close
-    (tie.spec
-    judge-on-requires
-    enum-known-read
-    enum_told
-    same_length
-    returns
-    signal-at-requires
-    enum-known-i
-    enum-told-2
-    same-length-2
-    returns-2
-    row-to-change-requires
-    change-row-requires
-    enum-known-changed
-    enum-told-3
-    same-length-3
-    returns-3
-    bits-requires
-    store-changed-requires
-    same-length-4
-    returns-4)
+    (tie.spec judge_on-read-requires enum_known-read enum_told-1 shape_of-bytes-in_default returns-in_default signal_at-requires enum_known-i enum_told-in_default-signal_at shape_of-bytes-in_default-signal_at returns-in_default-signal_at row_to_change-r-requires change_row-changed-requires enum_known-changed enum_told-in_default-changed shape_of-bytes-in_default-changed returns-in_default-changed bits-requires store_changed-requires shape_of-bytes returns)

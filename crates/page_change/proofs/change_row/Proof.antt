@@ -17,70 +17,62 @@ use Rattle.page_change.proofs.change_row.Tie as tie
 fits-requires : tie.Need-fits-requires
 fits-requires c κs = search rules
 
-answered : (c : tie.After-fits2) → (let a = c.before.args in fits_in a.r.signed a.r.width a.z ≡ c.fits2.result)
-answered c = let s = c.before in sym (c.fits2.ensures ∙ fits_row s.args.r s.requires s.args.z s.ranges.z)
+answered : (c : tie.After-fits) → (let a = c.args in fits_in a.r.signed a.r.width a.z ≡ c.fits.result)
+answered c = let s = c.before in sym (c.fits.ensures ∙ fits_row s.args.r s.requires s.args.z s.ranges.z)
 
-fitting : (c : tie.Else1) → (let a = c.before.before.args in fits_in a.r.signed a.r.width a.z ≡ true)
-fitting c = answered c.before ∙ not-false c.before.fits2.result c.if1.false
+fitting : (c : tie.Else-not-fits) → (let a = c.args in fits_in a.r.signed a.r.width a.z ≡ true)
+fitting c = answered c.before ∙ not-false c.fits.result c.if-not-fits.false-raw
 
-labelled : (c : tie.After-label-holds) → (
-    let a = c.before.before.before.before.args in
-    takes a.r.labels (bits_in a.r.signed a.r.width a.z) ≡ c.label-holds.result)
+labelled : (c : tie.After-label_holds) → (
+    let a = c.args in
+    takes a.r.labels (bits_in a.r.signed a.r.width a.z) ≡ c.label_holds.result)
 labelled c =
     let b = c.before in
     let s = b.before.before.before in
     sym
-    (c.label-holds.ensures
+    (c.label_holds.ensures
     ∙ ap (takes s.args.r.labels)
-    (b.bits.ensures ∙ bits_row s.args.r s.requires s.args.z s.ranges.z (fitting b.before)))
+    (b.bits-v.ensures ∙ bits_row s.args.r s.requires s.args.z s.ranges.z (fitting b.before)))
 
-returns : tie.Need-returns
-returns c = rw (answered c.before, not-true c.before.fits2.result c.if1.true)
+returns-then-not-fits : tie.Need-returns-then-not-fits
+returns-then-not-fits c = rw (answered c.before, not-true c.fits.result c.if-not-fits.true-raw)
 
-bits-requires : tie.Need-bits-requires
-bits-requires c κs = search rules
+bits-v-requires : tie.Need-bits-v-requires
+bits-v-requires c κs = search rules
 
-label-holds-requires : tie.Need-label-holds-requires
-label-holds-requires c κs = search rules
+label_holds-requires : tie.Need-label_holds-requires
+label_holds-requires c κs = search rules
 
-start-bit-requires : tie.Need-start-bit-requires
-start-bit-requires c κs = search rules
+start_bit-requires : tie.Need-start_bit-requires
+start_bit-requires c κs = search rules
 
-returns-2 : tie.Need-returns-2
-returns-2 c =
+returns-then-not-label_holds : tie.Need-returns-then-not-label_holds
+returns-then-not-label_holds c =
     let b = c.before in
     let t = b.before in
     let s = t.before.before.before.before in
-    rw (fitting t.before.before, labelled t, not-true t.label-holds.result b.if2.true)
-    (ap (λ (s : ℕ). Refused (NoLabel s)) (start_row s.args.r s.requires c.start-bit.result c.start-bit.ensures))
+    rw (fitting t.before.before, labelled t, not-true t.label_holds.result b.if-not-label_holds.true-raw)
+    (ap (λ (s : ℕ). Refused (NoLabel s)) (start_row s.args.r s.requires c.start_bit.result c.start_bit.ensures))
 
-held : (c : tie.Else2) → (let a = c.before.before.before.before.before.args in row_takes a.r a.z ≡ true)
+held : (c : tie.Else-not-label_holds) → (let a = c.args in row_takes a.r a.z ≡ true)
 held c =
     let t = c.before in
-    rw (fitting t.before.before, labelled t, not-false t.label-holds.result c.if2.false)
+    rw (fitting t.before.before, labelled t, not-false t.label_holds.result c.if-not-label_holds.false-raw)
 
 put-requires : tie.Need-put-requires
 put-requires c κs = search rules
 
-returns-3 : tie.Need-returns-3
-returns-3 c =
+returns : tie.Need-returns
+returns c =
     let q = c.before in
     let t = q.before in
     let b = t.before in
     let s = b.before.before.before in
     let a = s.args in
-    rw (fitting b.before, labelled t, not-false t.label-holds.result q.if2.false)
-    (ap (Frame a.kind) (c.put.ensures ∙ put_raw_row a.r s.requires a.z s.ranges.z a.n b.bits.result b.bits.ensures (held q)))
+    rw (fitting b.before, labelled t, not-false t.label_holds.result q.if-not-label_holds.false-raw)
+    (ap (Frame a.kind) (c.put.ensures ∙ put_raw_row a.r s.requires a.z s.ranges.z a.n b.bits-v.result b.bits-v.ensures (held q)))
 
 pub change_row_spec : {M : Type 1} → statement M
 change_row_spec =
     tie.close
-    (tie.spec
-    fits-requires
-    returns
-    bits-requires
-    label-holds-requires
-    start-bit-requires
-    returns-2
-    put-requires
-    returns-3)
+    (tie.spec fits-requires returns-then-not-fits bits-v-requires label_holds-requires start_bit-requires returns-then-not-label_holds put-requires returns)

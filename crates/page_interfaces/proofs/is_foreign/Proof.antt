@@ -8,22 +8,22 @@ use Rattle.page_interfaces.proofs.Foreign.{foreign_at_lem, foreign_none}
 use Rattle.page_interfaces.proofs.is_foreign.Statement.{statement}
 use Rattle.page_interfaces.proofs.is_foreign.Tie as tie
 
+returns-in_default : tie.Need-returns-in_default
+unfolding is_foreign
+returns-in_default c =
+    let f = c.before.before in
+    let a = f.args in
+    foreign_none a.iface (first_at (has_id a.id a.extended) 0 rows) (sym f.with_id.ensures ∙ c.in_default.is)
+
 returns : tie.Need-returns
 unfolding is_foreign
 returns c =
-    let f = c.before.before in
-    let a = f.before.args in
-    foreign_none a.iface (first_at (has_id a.id a.extended) 0 rows) (sym f.with-id.ensures ∙ c.enum_told.given.1)
-
-returns-2 : tie.Need-returns-2
-unfolding is_foreign
-returns-2 c =
     let k = c.before.before in
     let f = k.before.before in
-    let a = f.before.args in
-    let g = k.kind.given.0 in
-    ap not c.is-on.ensures
-    ∙ foreign_at_lem a.iface (first_at (has_id a.id a.extended) 0 rows) g.0 g.1.0 g.1.1.0 g.1.1.1.0 (sym f.with-id.ensures ∙ k.kind.given.1)
+    let a = f.args in
+    let g = k.kind-1.given.0 in
+    ap not c.is_on.ensures
+    ∙ foreign_at_lem a.iface (first_at (has_id a.id a.extended) 0 rows) g.0 g.1.0 g.1.1.0 g.1.1.1.0 (sym f.with_id.ensures ∙ k.in-At.is)
 
 pub is_foreign_spec : {M : Type 1} → statement M
-is_foreign_spec = tie.close (tie.spec (λ c κs. search rules) (λ c. search rules) (λ c. search rules) returns (λ c κs. search rules) returns-2)
+is_foreign_spec = tie.close (tie.spec (λ c κs. search rules) (λ c. search rules) (λ c. search rules) returns-in_default (λ c κs. search rules) returns)

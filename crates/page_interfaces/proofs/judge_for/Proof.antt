@@ -7,8 +7,8 @@ use Rattle.page_interfaces.proofs.judge_for.Tie as tie
 
 returns : tie.Need-returns
 returns c =
-    let a = c.before.before.args in
-    c.judge-from.ensures ∙ from_for a.iface a.id a.extended a.bytes.now
+    let a = c.args in
+    c.judge_from.ensures ∙ from_for a.iface a.id a.extended a.bytes.now
 
 pub judge_for_spec : {M : Type 1} → statement M
 judge_for_spec = tie.close (tie.spec (λ c κs. search rules) returns)

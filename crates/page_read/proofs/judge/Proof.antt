@@ -7,8 +7,8 @@ use Rattle.page_read.proofs.judge.Tie as tie
 
 returns : tie.Need-returns
 returns c =
-    let a = c.before.before.args in
-    c.judge-on.ensures ∙ sym (newer a.id a.extended a.bytes.now)
+    let a = c.args in
+    c.judge_on.ensures ∙ sym (newer a.id a.extended a.bytes.now)
 
 pub judge_spec : {M : Type 1} → statement M
 judge_spec = tie.close (tie.spec (λ c κs. search rules) returns)

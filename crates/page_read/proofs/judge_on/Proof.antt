@@ -7,8 +7,8 @@ use Rattle.page_read.proofs.judge_on.Tie as tie
 
 returns : tie.Need-returns
 returns c =
-    let a = c.before.before.args in
-    c.judge-from.ensures ∙ from_on a.iface a.id a.extended a.bytes.now
+    let a = c.args in
+    c.judge_from.ensures ∙ from_on a.iface a.id a.extended a.bytes.now
 
 pub judge_on_spec : {M : Type 1} → statement M
 judge_on_spec = tie.close (tie.spec (λ c κs. search rules) returns)

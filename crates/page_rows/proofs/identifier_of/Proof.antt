@@ -6,11 +6,11 @@ use Rattle.page_table.proofs.Heads.{says}
 use Rattle.page_rows.proofs.identifier_of.Statement.{statement}
 use Rattle.page_rows.proofs.identifier_of.Tie as tie
 
-message-at-requires : tie.Need-message-at-requires
-message-at-requires c κs = search rules
+message_at-requires : tie.Need-message_at-requires
+message_at-requires c κs = search rules
 
 returns : tie.Need-returns
-returns c = ap (λ (m : Message). m.0) c.message-at.ensures ∙ (says c.before.args.kind).0
+returns c = ap (λ (m : Message). m.0) c.message_at.ensures ∙ (says c.args.kind).0
 
 pub identifier_of_spec : {M : Type 1} → statement M
-identifier_of_spec = tie.close (tie.spec message-at-requires returns)
+identifier_of_spec = tie.close (tie.spec message_at-requires returns)

@@ -6,11 +6,11 @@ use Rattle.page_table.proofs.Heads.{says}
 use Rattle.page_rows.proofs.is_extended.Statement.{statement}
 use Rattle.page_rows.proofs.is_extended.Tie as tie
 
-message-at-requires : tie.Need-message-at-requires
-message-at-requires c κs = search rules
+message_at-requires : tie.Need-message_at-requires
+message_at-requires c κs = search rules
 
 returns : tie.Need-returns
-returns c = ap (λ (m : Message). m.1) c.message-at.ensures ∙ (says c.before.args.kind).1
+returns c = ap (λ (m : Message). m.1) c.message_at.ensures ∙ (says c.args.kind).1
 
 pub is_extended_spec : {M : Type 1} → statement M
-is_extended_spec = tie.close (tie.spec message-at-requires returns)
+is_extended_spec = tie.close (tie.spec message_at-requires returns)

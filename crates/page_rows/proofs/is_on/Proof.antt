@@ -24,31 +24,31 @@ older k e = rw e
 below : (k : ℕ) → leb safety_kind k ≡ false → leb safety_kind k ≡ is_on Older k
 below k e = rw e
 
-enum_told : tie.Need-enum-told
-enum_told c = search rules
+enum_told-1 : tie.Need-enum_told-1
+enum_told-1 c = search rules
 
-enum-told-2 : tie.Need-enum-told-2
-enum-told-2 c = search rules
+enum_told-in-Older : tie.Need-enum_told-in-Older
+enum_told-in-Older c = search rules
 
-returns : tie.Need-returns
-returns c =
-    let k = c.before.before.before.args.kind in
-    newer k (lt-ltb k kind_count c.if1.true) ∙ sym (ap (λ (i : Interface). is_on i k) c.before.enum_told.given.1)
+returns-then-kind-lt-KIND_COUNT : tie.Need-returns-then-kind-lt-KIND_COUNT
+returns-then-kind-lt-KIND_COUNT c =
+    let k = c.args.kind in
+    newer k (lt-ltb k kind_count c.if-kind-lt-KIND_COUNT.true) ∙ sym (ap (λ (i : Interface). is_on i k) c.in-Newer.is)
 
-returns-2 : tie.Need-returns-2
-returns-2 c =
-    let k = c.before.before.before.args.kind in
-    newer_rest k (le-ltb k kind_count c.if1.false) ∙ sym (ap (λ (i : Interface). is_on i k) c.before.enum_told.given.1)
+returns-else-kind-lt-KIND_COUNT : tie.Need-returns-else-kind-lt-KIND_COUNT
+returns-else-kind-lt-KIND_COUNT c =
+    let k = c.args.kind in
+    newer_rest k (le-ltb k kind_count c.if-kind-lt-KIND_COUNT.false) ∙ sym (ap (λ (i : Interface). is_on i k) c.in-Newer.is)
 
-returns-3 : tie.Need-returns-3
-returns-3 c =
-    let k = c.before.before.before.args.kind in
-    older k (le-leb safety_kind k c.if2.true) ∙ sym (ap (λ (i : Interface). is_on i k) c.before.enum-told2.given.1)
+returns-then-kind-ge-SAFETY_KIND : tie.Need-returns-then-kind-ge-SAFETY_KIND
+returns-then-kind-ge-SAFETY_KIND c =
+    let k = c.args.kind in
+    older k (le-leb safety_kind k c.if-kind-ge-SAFETY_KIND.true) ∙ sym (ap (λ (i : Interface). is_on i k) c.in-Older.is)
 
-returns-4 : tie.Need-returns-4
-returns-4 c =
-    let k = c.before.before.before.args.kind in
-    below k (lt-leb safety_kind k c.if2.false) ∙ sym (ap (λ (i : Interface). is_on i k) c.before.enum-told2.given.1)
+returns-else-kind-ge-SAFETY_KIND : tie.Need-returns-else-kind-ge-SAFETY_KIND
+returns-else-kind-ge-SAFETY_KIND c =
+    let k = c.args.kind in
+    below k (lt-leb safety_kind k c.if-kind-ge-SAFETY_KIND.false) ∙ sym (ap (λ (i : Interface). is_on i k) c.in-Older.is)
 
 pub is_on_spec : {M : Type 1} → statement M
-is_on_spec = tie.close (tie.spec enum_told enum-told-2 returns returns-2 returns-3 returns-4)
+is_on_spec = tie.close (tie.spec enum_told-1 enum_told-in-Older returns-then-kind-lt-KIND_COUNT returns-else-kind-lt-KIND_COUNT returns-then-kind-ge-SAFETY_KIND returns-else-kind-ge-SAFETY_KIND)

@@ -7,20 +7,20 @@ use borrow.Author.Rules.{rules}
 use Rattle.page_rows.proofs.label_holds.Statement.{statement}
 use Rattle.page_rows.proofs.label_holds.Tie as tie
 
-returns : tie.Need-returns
-returns c = rw c.if1.true
+returns-then-labels-eq0 : tie.Need-returns-then-labels-eq0
+returns-then-labels-eq0 c = rw c.if-labels-eq0.true
 
-returns-2 : tie.Need-returns-2
-returns-2 c =
+returns-then-bits-ge64 : tie.Need-returns-then-bits-ge64
+returns-then-bits-ge64 c =
     let s = c.before.before in
-    let small : s.args.labels < 2 ^ s.args.bits = lt_of_lt_of_le s.ranges.labels.fits (pow_mono c.if2.true) in
-    rw (ne_eqb s.args.labels 0 c.before.if1.false, div-eq_of_lt small)
+    let small : s.args.labels < 2 ^ s.args.bits = lt_of_lt_of_le s.ranges.labels.fits (pow_mono c.if-bits-ge64.true) in
+    rw (ne_eqb s.args.labels 0 c.if-labels-eq0.false, div-eq_of_lt small)
 
-shr-result : tie.Need-overflow-shr-result
-shr-result c = search rules
+overflow_shr-result : tie.Need-overflow_shr-result
+overflow_shr-result c = search rules
 
-returns-3 : tie.Need-returns-3
-returns-3 c = rw (ne_eqb c.before.before.args.labels 0 c.before.if1.false)
+returns : tie.Need-returns
+returns c = rw (ne_eqb c.args.labels 0 c.if-labels-eq0.false)
 
 pub label_holds_spec : {M : Type 1} → statement M
-label_holds_spec = tie.close (tie.spec returns returns-2 shr-result returns-3)
+label_holds_spec = tie.close (tie.spec returns-then-labels-eq0 returns-then-bits-ge64 overflow_shr-result returns)

@@ -5,11 +5,11 @@ use Rattle.page_table.specs.Layout.{row_with}
 use Rattle.page_rows.proofs.row_of.Statement.{statement}
 use Rattle.page_rows.proofs.row_of.Tie as tie
 
-message-at-requires : tie.Need-message-at-requires
-message-at-requires c κs = search rules
+message_at-m-requires : tie.Need-message_at-m-requires
+message_at-m-requires c κs = search rules
 
 returns : tie.Need-returns
-returns c = ap (row_with c.before.args.l) c.message-at.ensures
+returns c = ap (row_with c.args.l) c.message_at-m.ensures
 
 pub row_of_spec : {M : Type 1} → statement M
-row_of_spec = tie.close (tie.spec message-at-requires returns)
+row_of_spec = tie.close (tie.spec message_at-m-requires returns)

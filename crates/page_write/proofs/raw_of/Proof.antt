@@ -9,59 +9,52 @@ use Rattle.page_write.proofs.Places.{pad_at, pad_past, pad_none}
 use Rattle.page_write.proofs.raw_of.Statement.{statement}
 use Rattle.page_write.proofs.raw_of.Tie as tie
 
-first-of-kind-requires : tie.Need-first-of-kind-requires
-first-of-kind-requires c κs = search rules
+first_of_kind-requires : tie.Need-first_of_kind-requires
+first_of_kind-requires c κs = search rules
 
-enum-known-i : tie.Need-enum-known-i
-enum-known-i c = search rules
+enum_known-i : tie.Need-enum_known-i
+enum_known-i c = search rules
 
-enum_told : tie.Need-enum-told
-enum_told c = search rules
+enum_told-1 : tie.Need-enum_told-1
+enum_told-1 c = search rules
 
-returns : tie.Need-returns
+returns-in_default : tie.Need-returns-in_default
 unfolding raws_of wholes_of
-returns c =
+returns-in_default c =
     let f = c.before.before in
-    let g = f.before.args in
-    let e = none_kind g.kind (sym f.first-of-kind.ensures ∙ c.enum_told.given.1) in
+    let g = f.args in
+    let e = none_kind g.kind (sym f.first_of_kind.ensures ∙ c.in_default.is) in
     sym (ap (λ (l : List Row). get_or (pad signal_count (wholes_of g.number l)) g.place (pos 0)) e ∙ pad_none signal_count g.place)
 
-returns-2 : tie.Need-returns-2
+returns-then-place-ge16 : tie.Need-returns-then-place-ge16
 unfolding raws_of
-returns-2 c =
-    let g = c.before.before.before.before.before.args in
-    sym (pad_past signal_count g.place (wholes_of g.number (rows_of g.kind)) c.if1.true)
+returns-then-place-ge16 c =
+    let g = c.args in
+    sym (pad_past signal_count g.place (wholes_of g.number (rows_of g.kind)) c.if-place-ge16.true)
 
-raw-after-requires : tie.Need-raw-after-requires
-raw-after-requires c κs =
+raw_after-requires : tie.Need-raw_after-requires
+raw_after-requires c κs =
     let k = c.before.before in
     let f = k.before.before in
-    let e = sym f.first-of-kind.ensures ∙ k.i.given.1 in
-    let kind = f.before.args.kind in
-    let i = k.i.given.0.0 in
-    ((first_kind kind i e).0, c.if1.false, eqb-true (get_or rows i no_row).kind kind (found_in (has_kind kind) i e).1)
+    let e = sym f.first_of_kind.ensures ∙ k.in-At.is in
+    let kind = f.args.kind in
+    let i = k.in-At.i in
+    ((first_kind kind i e).0, c.if-place-ge16.false, eqb-true (get_or rows i no_row).kind kind (found_in (has_kind kind) i e).1)
 
-returns-3 : tie.Need-returns-3
+returns : tie.Need-returns
 unfolding raws_of
-returns-3 c =
+returns c =
     let q = c.before in
     let k = q.before.before in
     let f = k.before.before in
-    let g = f.before.args in
-    let e = sym f.first-of-kind.ensures ∙ k.i.given.1 in
-    to_z-of_z {w = w64} (record { sfits = c.raw-after.type-inv })
-    ∙ c.raw-after.ensures
+    let g = f.args in
+    let e = sym f.first_of_kind.ensures ∙ k.in-At.is in
+    to_z-of_z {w = w64} (record { sfits = c.raw_after.type_inv })
+    ∙ c.raw_after.ensures
     ∙ ap (λ (l : List Row). get_or (wholes_of g.number l) g.place (pos 0)) (first_kind g.kind _ e).1
-    ∙ sym (pad_at signal_count g.place (wholes_of g.number (rows_of g.kind)) q.if1.false)
+    ∙ sym (pad_at signal_count g.place (wholes_of g.number (rows_of g.kind)) q.if-place-ge16.false)
 
 pub raw_of_spec : {M : Type 1} → statement M
 raw_of_spec =
     tie.close
-    (tie.spec
-    first-of-kind-requires
-    enum-known-i
-    enum_told
-    returns
-    returns-2
-    raw-after-requires
-    returns-3)
+    (tie.spec first_of_kind-requires enum_known-i enum_told-1 returns-in_default returns-then-place-ge16 raw_after-requires returns)

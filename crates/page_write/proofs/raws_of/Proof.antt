@@ -7,35 +7,35 @@ use Rattle.page_table.proofs.Firsts.{first_kind, none_kind}
 use Rattle.page_write.proofs.raws_of.Statement.{statement}
 use Rattle.page_write.proofs.raws_of.Tie as tie
 
-first-of-kind-requires : tie.Need-first-of-kind-requires
-first-of-kind-requires c κs = search rules
+first_of_kind-requires : tie.Need-first_of_kind-requires
+first_of_kind-requires c κs = search rules
 
-enum-known-i : tie.Need-enum-known-i
-enum-known-i c = search rules
+enum_known-i : tie.Need-enum_known-i
+enum_known-i c = search rules
 
-enum_told : tie.Need-enum-told
-enum_told c = search rules
+enum_told-1 : tie.Need-enum_told-1
+enum_told-1 c = search rules
 
-returns : tie.Need-returns
+returns-in_default : tie.Need-returns-in_default
 unfolding raws_of pad wholes_of
-returns c =
+returns-in_default c =
     let f = c.before.before in
-    ap (λ (l : List Row). pad signal_count (wholes_of f.before.args.number l))
-    (sym (none_kind f.before.args.kind (sym f.first-of-kind.ensures ∙ c.enum_told.given.1)))
+    ap (λ (l : List Row). pad signal_count (wholes_of f.args.number l))
+    (sym (none_kind f.args.kind (sym f.first_of_kind.ensures ∙ c.in_default.is)))
 
 unpack-requires : tie.Need-unpack-requires
 unpack-requires c κs = search rules
 
-returns-2 : tie.Need-returns-2
+returns : tie.Need-returns
 unfolding raws_of
-returns-2 c =
+returns c =
     let k = c.before.before in
     let f = k.before.before in
     c.unpack.ensures
-    ∙ ap (λ (l : List Row). pad signal_count (wholes_of f.before.args.number l))
-    (first_kind f.before.args.kind _ (sym f.first-of-kind.ensures ∙ k.i.given.1)).1
+    ∙ ap (λ (l : List Row). pad signal_count (wholes_of f.args.number l))
+    (first_kind f.args.kind _ (sym f.first_of_kind.ensures ∙ k.in-At.is)).1
 
 pub raws_of_spec : {M : Type 1} → statement M
 raws_of_spec =
     tie.close
-    (tie.spec first-of-kind-requires enum-known-i enum_told returns unpack-requires returns-2)
+    (tie.spec first_of_kind-requires enum_known-i enum_told-1 returns-in_default unpack-requires returns)

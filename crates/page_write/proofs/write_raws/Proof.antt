@@ -57,30 +57,30 @@ packs_not rs zs true p a e f =
 some : (k : ℕ) (zs : List ℤ) (b : Bool) → 1 ≤ length (rows_of k) → all_take (rows_of k) zs ≡ b → can_write k zs ≡ b
 some k zs b l e = ap₂ (λ (x y : Bool). x && y) (le-leb 1 (length (rows_of k)) l) e
 
-first-of-kind-requires : tie.Need-first-of-kind-requires
-first-of-kind-requires c κs = search rules
+first_of_kind-requires : tie.Need-first_of_kind-requires
+first_of_kind-requires c κs = search rules
 
-enum-known-i : tie.Need-enum-known-i
-enum-known-i c = search rules
+enum_known-i : tie.Need-enum_known-i
+enum_known-i c = search rules
 
-enum_told : tie.Need-enum-told
-enum_told c = search rules
+enum_told-1 : tie.Need-enum_told-1
+enum_told-1 c = search rules
 
-returns : tie.Need-returns
-returns c =
+returns-in_default : tie.Need-returns-in_default
+returns-in_default c =
     let f = c.before.before in
-    let a = f.before.before.args in
+    let a = f.args in
     cannot a.kind a.raws a.buf.now
-    (ap (λ (l : List Row). leb 1 (length l) && all_take l a.raws) (none_kind a.kind (sym f.first-of-kind.ensures ∙ c.enum_told.given.1)))
+    (ap (λ (l : List Row). leb 1 (length l) && all_take l a.raws) (none_kind a.kind (sym f.first_of_kind.ensures ∙ c.in_default.is)))
 
 pack-requires : tie.Need-pack-requires
 pack-requires c κs = search rules
 
-enum-known-n : tie.Need-enum-known-n
-enum-known-n c = search rules
+enum_known-n : tie.Need-enum_known-n
+enum_known-n c = search rules
 
-enum-told-2 : tie.Need-enum-told-2
-enum-told-2 c = search rules
+enum_told-in_default-pack : tie.Need-enum_told-in_default-pack
+enum_told-in_default-pack c = search rules
 
 -- where the kind's rows were packed
 start : (c : tie.After-pack) → tie.Start
@@ -90,49 +90,49 @@ known : (c : tie.After-pack) → (c.pack.result ≡ pack_of (rows_of (start c).a
 unfolding start
 known c =
     let i = c.before.before in
-    let k = first_kind (start c).args.kind _ (sym i.before.before.first-of-kind.ensures ∙ i.i.given.1) in
+    let k = first_kind (start c).args.kind _ (sym i.first_of_kind.ensures ∙ i.in-At.is) in
     (c.pack.ensures ∙ ap (λ (l : List Row). pack_of l (start c).args.raws) k.1, k.3)
 
-returns-2 : tie.Need-returns-2
+returns-in_default-pack : tie.Need-returns-in_default-pack
 unfolding start
-returns-2 c =
+returns-in_default-pack c =
     let d = c.before.before in
     let a = (start d).args in
     let k = known d in
     cannot a.kind a.raws a.buf.now
-    (some a.kind a.raws false k.1 (packs_not (rows_of a.kind) a.raws (all_take (rows_of a.kind) a.raws) d.pack.result refl k.0 c.enum-told2.given.1))
+    (some a.kind a.raws false k.1 (packs_not (rows_of a.kind) a.raws (all_take (rows_of a.kind) a.raws) d.pack.result refl k.0 c.in_default-pack.is))
 
-length-of-requires : tie.Need-length-of-requires
-length-of-requires c κs = search rules
+length_of-bytes-requires : tie.Need-length_of-bytes-requires
+length_of-bytes-requires c κs = search rules
 
-returns-3 : tie.Need-returns-3
+returns-then-buf-bytes : tie.Need-returns-then-buf-bytes
 unfolding start
-returns-3 c =
+returns-then-buf-bytes c =
     let l = c.before in
     let n = l.before.before in
     let d = n.before.before in
     let a = (start d).args in
     let k = known d in
-    let p = packs (rows_of a.kind) a.raws (all_take (rows_of a.kind) a.raws) d.pack.result _ refl k.0 n.n.given.1 in
-    let short : length a.buf.now < length_of a.kind = subst (λ (x : ℕ). length a.buf.now < x) l.length-of.ensures c.if1.true in
+    let p = packs (rows_of a.kind) a.raws (all_take (rows_of a.kind) a.raws) d.pack.result _ refl k.0 n.in-Number.is in
+    let short : length a.buf.now < length_of a.kind = subst (λ (x : ℕ). length a.buf.now < x) l.length_of-bytes.ensures c.if-buf-bytes.true in
     let e = can a.kind a.raws a.buf.now false (some a.kind a.raws true k.1 p.0) (lt-leb _ _ short) in
     (e.0, sym (stored_not (big_of a.kind) (length_of a.kind) (packed_on 0 (rows_of a.kind) a.raws) a.buf.now short) ∙ e.1)
 
-is-big-requires : tie.Need-is-big-requires
-is-big-requires c κs = search rules
+is_big-requires : tie.Need-is_big-requires
+is_big-requires c κs = search rules
 
 store-requires : tie.Need-store-requires
 store-requires c κs = search rules
 
-identifier-of-requires : tie.Need-identifier-of-requires
-identifier-of-requires c κs = search rules
+identifier_of-requires : tie.Need-identifier_of-requires
+identifier_of-requires c κs = search rules
 
-same_length : tie.Need-same-length
-same_length c = search rules
+shape_of-buf : tie.Need-shape_of-buf
+shape_of-buf c = search rules
 
-returns-4 : tie.Need-returns-4
+returns : tie.Need-returns
 unfolding start
-returns-4 c =
+returns c =
     let st = c.before.before.before in
     let b = st.before.before in
     let r = b.before in
@@ -141,32 +141,17 @@ returns-4 c =
     let d = n.before.before in
     let a = (start d).args in
     let k = known d in
-    let p = packs (rows_of a.kind) a.raws (all_take (rows_of a.kind) a.raws) d.pack.result _ refl k.0 n.n.given.1 in
-    let room : length_of a.kind ≤ length a.buf.now = subst (λ (x : ℕ). x ≤ length a.buf.now) l.length-of.ensures r.if1.false in
+    let p = packs (rows_of a.kind) a.raws (all_take (rows_of a.kind) a.raws) d.pack.result _ refl k.0 n.in-Number.is in
+    let room : length_of a.kind ≤ length a.buf.now = subst (λ (x : ℕ). x ≤ length a.buf.now) l.length_of-bytes.ensures r.if-buf-bytes.false in
     let e = can a.kind a.raws a.buf.now true (some a.kind a.raws true k.1 p.0) (le-leb _ _ room) in (
-      ap₂ (λ (x y : ℕ). Wrote x y) c.identifier-of.ensures l.length-of.ensures ∙ e.0,
+      ap₂ (λ (x y : ℕ). Wrote x y) c.identifier_of.ensures l.length_of-bytes.ensures ∙ e.0,
       st.store.ensures
-          ∙ ap (λ (x : Bool). stored_in x l.length-of.result n.n.given.0.0 a.buf.now) b.is-big.ensures
-          ∙ ap₂ (λ (x y : ℕ). stored_in (big_of a.kind) x y a.buf.now) l.length-of.ensures p.1
+          ∙ ap (λ (x : Bool). stored_in x l.length_of-bytes.result n.in-Number.n a.buf.now) b.is_big.ensures
+          ∙ ap₂ (λ (x y : ℕ). stored_in (big_of a.kind) x y a.buf.now) l.length_of-bytes.ensures p.1
           ∙ e.1,
     )
 
 pub write_raws_spec : {M : Type 1} → statement M
 write_raws_spec =
     tie.close
-    (tie.spec
-    first-of-kind-requires
-    enum-known-i
-    enum_told
-    returns
-    pack-requires
-    enum-known-n
-    enum-told-2
-    returns-2
-    length-of-requires
-    returns-3
-    is-big-requires
-    store-requires
-    identifier-of-requires
-    same_length
-    returns-4)
+    (tie.spec first_of_kind-requires enum_known-i enum_told-1 returns-in_default pack-requires enum_known-n enum_told-in_default-pack returns-in_default-pack length_of-bytes-requires returns-then-buf-bytes is_big-requires store-requires identifier_of-requires shape_of-buf returns)

@@ -18,46 +18,46 @@ invariant-loop bytes end n₀ i₀ n i = (i ≤ end) × (end ≡ length (take 8 
 abbrev decreases-loop : tie.decreases-loop
 decreases-loop bytes end n₀ i₀ n i = end - i
 
-loop-holds : tie.Need-loop-init invariant-loop decreases-loop
-loop-holds c =
-    let bs = c.before.args.bytes.now in (
+loop-i-init : tie.Need-loop-i-init invariant-loop decreases-loop
+loop-i-init c =
+    let bs = c.args.bytes.now in (
       omega arith,
-      ⊎_elim (λ w. omega (arith, length-take 8 bs)) (λ w. omega (arith, length-take 8 bs)) c.if1.branch,
+      ⊎_elim (λ w. omega (arith, length-take 8 bs)) (λ w. omega (arith, length-take 8 bs)) c.if-bytes-lt8.branch,
       taken_none (take 8 bs),
     )
 
-shared-slice-read-n : tie.Need-shared-slice-read-n invariant-loop decreases-loop
-shared-slice-read-n c = omega (arith, length-take 8 c.before.before.before.before.args.bytes.now)
+bounds-bytes-i : tie.Need-bounds-bytes-i invariant-loop decreases-loop
+bounds-bytes-i c = omega (arith, length-take 8 c.args.bytes.now)
 
-cast-n : tie.Need-overflow-cast-n invariant-loop decreases-loop
-cast-n c = omega (arith, c.shared-slice-known.given c.before.before.loop.i)
+overflow_cast-n : tie.Need-overflow_cast-n invariant-loop decreases-loop
+overflow_cast-n c = omega (arith, c.shared_slice_known-1.given c.loop-i.i)
 
-add-i : tie.Need-overflow-add-i invariant-loop decreases-loop
-add-i c = omega (arith, length-take 8 c.before.before.before.before.args.bytes.now)
+overflow_add-i : tie.Need-overflow_add-i invariant-loop decreases-loop
+overflow_add-i c = omega (arith, length-take 8 c.args.bytes.now)
 
-loop-less : tie.Need-loop-smaller invariant-loop decreases-loop
-loop-less c = omega arith
+loop-i-smaller : tie.Need-loop-i-smaller invariant-loop decreases-loop
+loop-i-smaller c = omega arith
 
-loop-again : tie.Need-loop-preserved invariant-loop decreases-loop
-loop-again c =
-    let bs = c.before.before.before.before.args.bytes.now in
-    let l = c.before.before.loop in
+loop-i-preserved : tie.Need-loop-i-preserved invariant-loop decreases-loop
+loop-i-preserved c =
+    let bs = c.args.bytes.now in
+    let l = c.loop-i in
     let few : length (take 8 bs) ≤ 8 = omega (arith, length-take 8 bs) in
     let same : get_or (take 8 bs) l.i 0 ≡ get_or bs l.i 0 = get_or-take 8 bs l.i 0 (omega arith) in (
       omega arith,
       l.invariant.1,
       subst (λ (x : ℕ). Taken (take 8 bs) x (bit_or (l.n * 2 ^ 8 % 2 ^ 64) (get_or bs l.i 0))) (sym (add-one l.i))
           (subst (λ (x : ℕ). Taken (take 8 bs) (suc l.i) (bit_or (l.n * 2 ^ 8 % 2 ^ 64) x)) same
-          (taken_more (take 8 bs) l.i l.n (omega arith) few (omega (arith, c.shared-slice-known.given l.i)) l.invariant.2)),
+          (taken_more (take 8 bs) l.i l.n (omega arith) few (omega (arith, c.shared_slice_known-1.given l.i)) l.invariant.2)),
     )
 
 returns : tie.Need-returns invariant-loop decreases-loop
 returns c =
-    let bs = c.before.before.before.args.bytes.now in
-    let l = c.before.loop in
+    let bs = c.args.bytes.now in
+    let l = c.loop-i in
     let all : l.i ≡ length (take 8 bs) = omega arith in
     taken_all (take 8 bs) l.n (subst (λ (x : ℕ). Taken (take 8 bs) x l.n) all l.invariant.2)
 
 pub be_number_spec : {M : Type 1} → statement M
 be_number_spec =
-    tie.close (tie.spec invariant-loop decreases-loop loop-holds shared-slice-read-n cast-n add-i loop-less loop-again returns)
+    tie.close (tie.spec invariant-loop decreases-loop loop-i-init bounds-bytes-i overflow_cast-n overflow_add-i loop-i-smaller loop-i-preserved returns)

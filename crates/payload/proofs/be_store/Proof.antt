@@ -21,9 +21,9 @@ invariant-loop buf₀ n len rest₀ i₀ buf rest i =
 abbrev decreases-loop : tie.decreases-loop
 decreases-loop buf₀ n len rest₀ i₀ buf rest i = i
 
-loop-holds : tie.Need-loop-init invariant-loop decreases-loop
+loop-i-init : tie.Need-loop-i-init invariant-loop decreases-loop
 unfolding be_bytes
-loop-holds c =
+loop-i-init c =
     let a = c.args in
     let buf = a.buf.now in
     let none : 0 ≡ a.len - a.len = omega arith in (
@@ -33,25 +33,25 @@ loop-holds c =
       sym (take-append-drop a.len buf) ∙ ap (λ (x : ℕ). take a.len buf ++ (be_bytes x a.n ++ drop a.len buf)) none,
     )
 
-sub-i : tie.Need-overflow-sub-i invariant-loop decreases-loop
-sub-i c = omega arith
+overflow_sub-i : tie.Need-overflow_sub-i invariant-loop decreases-loop
+overflow_sub-i c = omega arith
 
-cast-buf : tie.Need-overflow-cast-buf invariant-loop decreases-loop
-cast-buf c = Fits-mask c.before.loop.rest 8 tt
+overflow_cast-buf : tie.Need-overflow_cast-buf invariant-loop decreases-loop
+overflow_cast-buf c = Fits-mask c.loop-i.rest 8 tt
 
-slice-write-buf : tie.Need-slice-write-buf invariant-loop decreases-loop
-slice-write-buf c = omega arith
+bounds-buf-i : tie.Need-bounds-buf-i invariant-loop decreases-loop
+bounds-buf-i c = omega arith
 
-loop-less : tie.Need-loop-smaller invariant-loop decreases-loop
-loop-less c = omega arith
+loop-i-smaller : tie.Need-loop-i-smaller invariant-loop decreases-loop
+loop-i-smaller c = omega arith
 
-loop-again : tie.Need-loop-preserved invariant-loop decreases-loop
-loop-again c =
-    let a = c.before.before.args in
+loop-i-preserved : tie.Need-loop-i-preserved invariant-loop decreases-loop
+loop-i-preserved c =
+    let a = c.args in
     let buf₀ = a.buf.now in
     let n = a.n in
     let len = a.len in
-    let l = c.before.loop in
+    let l = c.loop-i in
     let last : l.i ≡ suc (l.i - 1) = omega arith in
     let more : suc (len - l.i) ≡ len - (l.i - 1) = omega arith in
     let byte : bit_and l.rest 255 ≡ n / 2 ^ (8 * (len - l.i)) % 256 = and_mask l.rest 8 ∙ ap (λ (x : ℕ). x % 256) l.invariant.2 in
@@ -64,19 +64,19 @@ loop-again c =
           ∙ ap (λ (x : ℕ). take (l.i - 1) buf₀ ++ (be_bytes x n ++ drop len buf₀)) more,
     )
 
-same_length : tie.Need-same-length invariant-loop decreases-loop
-same_length c = c.before.loop.invariant.1
+shape_of-buf : tie.Need-shape_of-buf invariant-loop decreases-loop
+shape_of-buf c = c.loop-i.invariant.1
 
 returns : tie.Need-returns invariant-loop decreases-loop
 returns c =
-    let a = c.before.before.args in
+    let a = c.args in
     let buf₀ = a.buf.now in
     let len = a.len in
-    let l = c.before.loop in
+    let l = c.loop-i in
     let none : l.i ≡ 0 = omega arith in
     let all : len - 0 ≡ len = omega arith in
     l.invariant.3 ∙ ap (λ (x : ℕ). take x buf₀ ++ (be_bytes (len - x) a.n ++ drop len buf₀)) none ∙ ap (λ (x : ℕ). be_bytes x a.n ++ drop len buf₀) all
 
 pub be_store_spec : {M : Type 1} → statement M
 be_store_spec =
-    tie.close (tie.spec invariant-loop decreases-loop loop-holds sub-i cast-buf slice-write-buf loop-less loop-again same_length returns)
+    tie.close (tie.spec invariant-loop decreases-loop loop-i-init overflow_sub-i overflow_cast-buf bounds-buf-i loop-i-smaller loop-i-preserved shape_of-buf returns)

@@ -23,28 +23,28 @@ invariant-loop buf₀ n len rest₀ i₀ buf rest i =
 abbrev decreases-loop : tie.decreases-loop
 decreases-loop buf₀ n len rest₀ i₀ buf rest i = len - i
 
-loop-holds : tie.Need-loop-init invariant-loop decreases-loop
+loop-i-init : tie.Need-loop-i-init invariant-loop decreases-loop
 unfolding le_bytes
-loop-holds c = (search rules, refl, sym (div-one c.args.n), refl)
+loop-i-init c = (search rules, refl, sym (div-one c.args.n), refl)
 
-cast-buf : tie.Need-overflow-cast-buf invariant-loop decreases-loop
-cast-buf c = Fits-mask c.before.loop.rest 8 tt
+overflow_cast-buf : tie.Need-overflow_cast-buf invariant-loop decreases-loop
+overflow_cast-buf c = Fits-mask c.loop-i.rest 8 tt
 
-slice-write-buf : tie.Need-slice-write-buf invariant-loop decreases-loop
-slice-write-buf c = omega arith
+bounds-buf-i : tie.Need-bounds-buf-i invariant-loop decreases-loop
+bounds-buf-i c = omega arith
 
-add-i : tie.Need-overflow-add-i invariant-loop decreases-loop
-add-i c = omega arith
+overflow_add-i : tie.Need-overflow_add-i invariant-loop decreases-loop
+overflow_add-i c = omega arith
 
-loop-less : tie.Need-loop-smaller invariant-loop decreases-loop
-loop-less c = omega arith
+loop-i-smaller : tie.Need-loop-i-smaller invariant-loop decreases-loop
+loop-i-smaller c = omega arith
 
-loop-again : tie.Need-loop-preserved invariant-loop decreases-loop
-loop-again c =
-    let a = c.before.before.args in
+loop-i-preserved : tie.Need-loop-i-preserved invariant-loop decreases-loop
+loop-i-preserved c =
+    let a = c.args in
     let buf₀ = a.buf.now in
     let n = a.n in
-    let l = c.before.loop in
+    let l = c.loop-i in
     let byte : bit_and l.rest 255 ≡ n / 2 ^ (8 * l.i) % 256 = and_mask l.rest 8 ∙ ap (λ (x : ℕ). x % 256) l.invariant.2 in
     let place : 8 * l.i + 8 ≡ 8 * (l.i + 1) = omega arith in (
       omega arith,
@@ -55,16 +55,16 @@ loop-again c =
           ∙ ap (λ (x : ℕ). le_bytes x n ++ drop x buf₀) (sym (add-one l.i)),
     )
 
-same_length : tie.Need-same-length invariant-loop decreases-loop
-same_length c = c.before.loop.invariant.1
+shape_of-buf : tie.Need-shape_of-buf invariant-loop decreases-loop
+shape_of-buf c = c.loop-i.invariant.1
 
 returns : tie.Need-returns invariant-loop decreases-loop
 returns c =
-    let a = c.before.before.args in
-    let l = c.before.loop in
+    let a = c.args in
+    let l = c.loop-i in
     let all : l.i ≡ a.len = omega arith in
     l.invariant.3 ∙ ap (λ (x : ℕ). le_bytes x a.n ++ drop x a.buf.now) all
 
 pub le_store_spec : {M : Type 1} → statement M
 le_store_spec =
-    tie.close (tie.spec invariant-loop decreases-loop loop-holds cast-buf slice-write-buf add-i loop-less loop-again same_length returns)
+    tie.close (tie.spec invariant-loop decreases-loop loop-i-init overflow_cast-buf bounds-buf-i overflow_add-i loop-i-smaller loop-i-preserved shape_of-buf returns)

@@ -7,19 +7,19 @@ use Rattle.payload.specs.Payload.{number_of}
 use Rattle.payload.proofs.number.Statement.{statement}
 use Rattle.payload.proofs.number.Tie as tie
 
-be-number-requires : tie.Need-be-number-requires
-be-number-requires c κs = search rules
+be_number-requires : tie.Need-be_number-requires
+be_number-requires c κs = search rules
 
-le-number-requires : tie.Need-le-number-requires
-le-number-requires c κs = search rules
+le_number-requires : tie.Need-le_number-requires
+le_number-requires c κs = search rules
 
-returns : tie.Need-returns
-returns c =
-    c.be-number.ensures ∙ ap (λ (b : Bool). number_of b (take 8 c.before.before.before.args.bytes.now)) (sym c.before.if1.true)
+returns-then-big : tie.Need-returns-then-big
+returns-then-big c =
+    c.be_number.ensures ∙ ap (λ (b : Bool). number_of b (take 8 c.args.bytes.now)) (sym c.if-big.true)
 
-returns-2 : tie.Need-returns-2
-returns-2 c =
-    c.le-number.ensures ∙ ap (λ (b : Bool). number_of b (take 8 c.before.before.before.args.bytes.now)) (sym c.before.if1.false)
+returns-else-big : tie.Need-returns-else-big
+returns-else-big c =
+    c.le_number.ensures ∙ ap (λ (b : Bool). number_of b (take 8 c.args.bytes.now)) (sym c.if-big.false)
 
 pub number_spec : {M : Type 1} → statement M
-number_spec = tie.close (tie.spec be-number-requires le-number-requires returns returns-2)
+number_spec = tie.close (tie.spec be_number-requires le_number-requires returns-then-big returns-else-big)

@@ -9,39 +9,39 @@ use Rattle.payload.proofs.Stored.{stored_in_lem, stored_not}
 use Rattle.payload.proofs.store.Statement.{statement}
 use Rattle.payload.proofs.store.Tie as tie
 
-returns : tie.Need-returns
-returns c =
-    let a = c.before.before.args in
-    sym (stored_not a.big a.len a.n a.buf.now c.if1.true)
+returns-then-buf-len : tie.Need-returns-then-buf-len
+returns-then-buf-len c =
+    let a = c.args in
+    sym (stored_not a.big a.len a.n a.buf.now c.if-buf-len.true)
 
-be-store-requires : tie.Need-be-store-requires
-be-store-requires c κs = search rules
+be_store-requires : tie.Need-be_store-requires
+be_store-requires c κs = search rules
 
-le-store-requires : tie.Need-le-store-requires
-le-store-requires c κs = search rules
+le_store-requires : tie.Need-le_store-requires
+le_store-requires c κs = search rules
 
-same_length : tie.Need-same-length
-same_length c = search rules
+shape_of-buf-then-big : tie.Need-shape_of-buf-then-big
+shape_of-buf-then-big c = search rules
 
-returns-2 : tie.Need-returns-2
-returns-2 c =
+returns-then-big : tie.Need-returns-then-big
+returns-then-big c =
     let t = c.before.before.before.before in
-    let a = t.before.before.before.args in
-    c.before.before.be-store.ensures
-    ∙ ap (λ (b : Bool). bytes_of b a.len a.n ++ drop a.len a.buf.now) (sym t.if2.true)
-    ∙ sym (stored_in_lem a.big a.len a.n a.buf.now t.before.if1.false)
+    let a = t.args in
+    c.be_store.ensures
+    ∙ ap (λ (b : Bool). bytes_of b a.len a.n ++ drop a.len a.buf.now) (sym t.if-big.true)
+    ∙ sym (stored_in_lem a.big a.len a.n a.buf.now t.if-buf-len.false)
 
-same-length-2 : tie.Need-same-length-2
-same-length-2 c = search rules
+shape_of-buf-else-big : tie.Need-shape_of-buf-else-big
+shape_of-buf-else-big c = search rules
 
-returns-3 : tie.Need-returns-3
-returns-3 c =
+returns-else-big : tie.Need-returns-else-big
+returns-else-big c =
     let t = c.before.before.before.before in
-    let a = t.before.before.before.args in
-    c.before.before.le-store.ensures
-    ∙ ap (λ (b : Bool). bytes_of b a.len a.n ++ drop a.len a.buf.now) (sym t.if2.false)
-    ∙ sym (stored_in_lem a.big a.len a.n a.buf.now t.before.if1.false)
+    let a = t.args in
+    c.le_store.ensures
+    ∙ ap (λ (b : Bool). bytes_of b a.len a.n ++ drop a.len a.buf.now) (sym t.if-big.false)
+    ∙ sym (stored_in_lem a.big a.len a.n a.buf.now t.if-buf-len.false)
 
 pub store_spec : {M : Type 1} → statement M
 store_spec =
-    tie.close (tie.spec returns be-store-requires le-store-requires same_length returns-2 same-length-2 returns-3)
+    tie.close (tie.spec returns-then-buf-len be_store-requires le_store-requires shape_of-buf-then-big returns-then-big shape_of-buf-else-big returns-else-big)

@@ -4,7 +4,7 @@ use Rattle.plain_log.proofs.entry_numbers.Statement.{statement}
 use Rattle.plain_log.proofs.entry_numbers.Tie as tie
 
 returns : tie.Need-returns
-returns c = rw (c.flag2.ensures, c.before.before.before.before.flag.ensures)
+returns c = rw (c.flag-2.ensures, c.flag.ensures)
 
 pub entry_numbers_spec : {M : Type 1} → statement M
 entry_numbers_spec =

@@ -9,15 +9,15 @@ use Rattle.plain_log.specs.Night.{logged_outcome}
 use Rattle.plain_log.proofs.logged_word.Statement.{statement}
 use Rattle.plain_log.proofs.logged_word.Tie as tie
 
-cast-result : tie.Need-overflow-cast-result
-cast-result c =
+overflow_cast-result : tie.Need-overflow_cast-result
+overflow_cast-result c =
     let w = c.before in
-    record { fits = omega (arith, subst (λ (l : Logged). Within longest_record (logged_outcome l)) w.w.given.1 w.before.before.requires) }
+    record { fits = omega (arith, subst (λ (l : Logged). Within longest_record (logged_outcome l)) w.in-Bytes.is w.requires) }
 
-returns-2 : tie.Need-returns-2
-returns-2 c = rw c.before.before.w2.given.1 c.refusal-word.ensures
+returns-in-Refused : tie.Need-returns-in-Refused
+returns-in-Refused c = rw c.in-Refused.is c.refusal_word.ensures
 
 pub logged_word_spec : {M : Type 1} → statement M
 logged_word_spec =
     tie.close
-    (tie.spec (λ c. search rules) cast-result (λ c. search rules) (λ c κs. search rules) (λ c. search rules) returns-2)
+    (tie.spec (λ c. search rules) overflow_cast-result (λ c. search rules) (λ c κs. search rules) (λ c. search rules) returns-in-Refused)

@@ -6,17 +6,17 @@ use Rattle.plain_log.proofs.LogWords.{log_within}
 use Rattle.plain_log.proofs.rokemaipu_log_frame.Statement.{statement}
 use Rattle.plain_log.proofs.rokemaipu_log_frame.Tie as tie
 
-logged-word-requires : tie.Need-logged-word-requires
-logged-word-requires c κs =
+logged_word-requires : tie.Need-logged_word-requires
+logged_word-requires c κs =
     let w = c.before.before in
-    let a = w.before.before.before.before.args in
-    rw w.write-frame.ensures.0 (log_within (frame a.time a.channel a.extended a.id a.payload.now) a.out.now (omega arith))
+    let a = w.args in
+    rw w.write_frame-w.ensures.0 (log_within (frame a.time a.channel a.extended a.id a.payload.now) a.out.now (omega arith))
 
 returns : tie.Need-returns
 returns c =
     let w = c.before.before.before in
-    (rw w.write-frame.ensures.0 at c.logged-word.ensures, w.write-frame.ensures.1)
+    (rw w.write_frame-w.ensures.0 at c.logged_word.ensures, w.write_frame-w.ensures.1)
 
 pub rokemaipu_log_frame_spec : {M : Type 1} → statement M
 rokemaipu_log_frame_spec =
-    tie.close (tie.spec (λ c κs. search rules) logged-word-requires (λ c. search rules) returns)
+    tie.close (tie.spec (λ c κs. search rules) logged_word-requires (λ c. search rules) returns)

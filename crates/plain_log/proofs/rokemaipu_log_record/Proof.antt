@@ -24,54 +24,54 @@ Ends s at ns r after = (r ≡ found_word (found_at s at) (length ns)) × (after 
 answered : {f g : Found} (s : List ℕ) (at : ℕ) (ns : List ℕ) → f ≡ found_at s at → f ≡ g → Ends s at ns (found_word g (length ns)) (entry_left g ns)
 answered s at ns e h = (ap (λ (q : Found). found_word q (length ns)) (sym h ∙ e), ap (λ (q : Found). entry_left q ns) (sym h ∙ e))
 
-start : (c : tie.After-f) → tie.Start
+start : (c : tie.In-Record-2) → tie.Start
 start c = c.before.before.before.before.before
 
 -- a record, by the room for its numbers
-whole : (c : tie.After-f) (b : Bool) → leb entry_count (length (start c).args.numbers.now) ≡ b
+whole : (c : tie.In-Record-2) (b : Bool) → leb entry_count (length (start c).args.numbers.now) ≡ b
     → Ends (start c).args.s.now (start c).args.at (start c).args.numbers.now
     (outcome_word (cond b (answers 0) (refuses ShortBuffer)))
-    (cond b (entry_numbers c.f.given.0.0 ++ drop entry_count (start c).args.numbers.now) (start c).args.numbers.now)
+    (cond b (entry_numbers c.in-Record.e ++ drop entry_count (start c).args.numbers.now) (start c).args.numbers.now)
 unfolding start
 whole c b e =
     let a = (start c).args in
-    rw e at (answered a.s.now a.at a.numbers.now c.before.before.record-at.ensures c.f.given.1)
+    rw e at (answered a.s.now a.at a.numbers.now c.record_at-f.ensures c.in-Record.is)
 
-returns : tie.Need-returns
+returns-then-numbers-lt8 : tie.Need-returns-then-numbers-lt8
 unfolding start
-returns c =
-    let e = whole c.before.before.before false (lt-leb _ _ c.before.if1.true) in
-    (c.refusal-word.ensures ∙ e.0, e.1)
+returns-then-numbers-lt8 c =
+    let e = whole c.before.before.before false (lt-leb _ _ c.if-numbers-lt8.true) in
+    (c.refusal_word.ensures ∙ e.0, e.1)
 
-returns-2 : tie.Need-returns-2
+returns-else-numbers-lt8 : tie.Need-returns-else-numbers-lt8
 unfolding start
-returns-2 c =
+returns-else-numbers-lt8 c =
     let s = c.before.before in
     let n = s.before in
     let room = n.before.before in
     let f = room.before.before in
-    let e = whole f true (le-leb _ _ room.if1.false) in
-    (e.0, s.store_entry.ensures ∙ ap (λ (ns : List ℕ). ns ++ drop entry_count (start f).args.numbers.now) n.entry-numbers.ensures ∙ e.1)
+    let e = whole f true (le-leb _ _ room.if-numbers-lt8.false) in
+    (e.0, s.store_entry.ensures ∙ ap (λ (ns : List ℕ). ns ++ drop entry_count (start f).args.numbers.now) n.entry_numbers.ensures ∙ e.1)
 
-returns-3 : tie.Need-returns-3
-returns-3 c =
+returns-in-End : tie.Need-returns-in-End
+returns-in-End c =
     let r = c.before.before in
-    let a = r.before.before.before.args in
-    answered a.s.now a.at a.numbers.now r.record-at.ensures c.enum_told.given.1
+    let a = r.args in
+    answered a.s.now a.at a.numbers.now r.record_at-f.ensures c.in-End.is
 
-returns-4 : tie.Need-returns-4
-returns-4 c =
+returns-in-Cut : tie.Need-returns-in-Cut
+returns-in-Cut c =
     let r = c.before.before in
-    let a = r.before.before.before.args in
-    answered a.s.now a.at a.numbers.now r.record-at.ensures c.enum-told2.given.1
+    let a = r.args in
+    answered a.s.now a.at a.numbers.now r.record_at-f.ensures c.in-Cut.is
 
-returns-5 : tie.Need-returns-5
-returns-5 c =
+returns-in-Refused : tie.Need-returns-in-Refused
+returns-in-Refused c =
     let f = c.before.before in
     let r = f.before.before in
-    let a = r.before.before.before.args in
-    let e = answered a.s.now a.at a.numbers.now r.record-at.ensures f.f2.given.1 in
-    (c.refusal-word2.ensures ∙ e.0, e.1)
+    let a = r.args in
+    let e = answered a.s.now a.at a.numbers.now r.record_at-f.ensures f.in-Refused.is in
+    (c.refusal_word-in-Refused.ensures ∙ e.0, e.1)
 
 pub rokemaipu_log_record_spec : {M : Type 1} → statement M
 rokemaipu_log_record_spec =
@@ -80,7 +80,7 @@ rokemaipu_log_record_spec =
     (λ c κs. search rules)
     (λ c. search rules)
     (λ c κs. search rules)
-    returns
+    returns-then-numbers-lt8
     (λ c κs. search rules)
     (λ c κs. search rules)
     (λ c. search rules)
@@ -88,7 +88,7 @@ rokemaipu_log_record_spec =
     (λ c. search rules)
     (λ c κs. search rules)
     (λ c. search rules)
-    returns-2
-    returns-3
-    returns-4
-    returns-5)
+    returns-else-numbers-lt8
+    returns-in-End
+    returns-in-Cut
+    returns-in-Refused)

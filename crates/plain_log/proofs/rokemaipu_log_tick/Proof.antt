@@ -6,17 +6,17 @@ use Rattle.plain_log.proofs.LogWords.{log_within}
 use Rattle.plain_log.proofs.rokemaipu_log_tick.Statement.{statement}
 use Rattle.plain_log.proofs.rokemaipu_log_tick.Tie as tie
 
-logged-word-requires : tie.Need-logged-word-requires
-logged-word-requires c κs =
+logged_word-requires : tie.Need-logged_word-requires
+logged_word-requires c κs =
     let w = c.before.before in
-    let a = w.before.before.before.args in
-    rw w.write-tick.ensures.0 (log_within (tick a.time a.channel) a.out.now (omega arith))
+    let a = w.args in
+    rw w.write_tick-w.ensures.0 (log_within (tick a.time a.channel) a.out.now (omega arith))
 
 returns : tie.Need-returns
 returns c =
     let w = c.before.before.before in
-    (rw w.write-tick.ensures.0 at c.logged-word.ensures, w.write-tick.ensures.1)
+    (rw w.write_tick-w.ensures.0 at c.logged_word.ensures, w.write_tick-w.ensures.1)
 
 pub rokemaipu_log_tick_spec : {M : Type 1} → statement M
 rokemaipu_log_tick_spec =
-    tie.close (tie.spec (λ c κs. search rules) logged-word-requires (λ c. search rules) returns)
+    tie.close (tie.spec (λ c κs. search rules) logged_word-requires (λ c. search rules) returns)

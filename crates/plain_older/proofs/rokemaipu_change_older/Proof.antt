@@ -28,27 +28,27 @@ ends m x bs s y z e f g = (
   e.1 ∙ ap (λ (q : ℤ). bytes_after bs (change_on Older m x bs s q)) f,
 )
 
-start : (c : tie.After-change-on) → tie.Start
+start : (c : tie.After-change_on-j) → tie.Start
 start c = c.before.before.before
 
 -- by the variant that the change answered
-answered : {b : Judged} (c : tie.After-change-on) → c.change-on.result ≡ b
-    → Ends (start c).args.id (start c).args.extended (start c).args.payload.now (start c).args.start (start c).args.raw (outcome_word (changed_outcome b)) c.change-on.new.1.1.1.0
+answered : {b : Judged} (c : tie.After-change_on-j) → c.change_on-j.result ≡ b
+    → Ends (start c).args.id (start c).args.extended (start c).args.payload.now (start c).args.start (start c).args.raw (outcome_word (changed_outcome b)) c.change_on-j.new.1.1.1.0
 unfolding start
 answered c g =
     let a = (start c).args in
-    ends a.id a.extended a.payload.now a.start _ a.raw c.change-on.ensures (to_z-of_z (start c).ranges.raw) g
+    ends a.id a.extended a.payload.now a.start _ a.raw c.change_on-j.ensures (to_z-of_z (start c).ranges.raw) g
 
-returns : tie.Need-returns
+returns-in-Frame : tie.Need-returns-in-Frame
 unfolding start
-returns c = answered c.before.before.before.before c.enum_told.given.1
+returns-in-Frame c = answered c.before.before.before.before c.in-Frame.is
 
-returns-2 : tie.Need-returns-2
+returns-in-Refused : tie.Need-returns-in-Refused
 unfolding start
-returns-2 c =
+returns-in-Refused c =
     let j = c.before.before in
-    let e = answered j.before.before.before.before j.j.given.1 in
-    (c.refusal-word.ensures ∙ e.0, e.1)
+    let e = answered j.before.before.before.before j.in-Refused.is in
+    (c.refusal_word.ensures ∙ e.0, e.1)
 
 pub rokemaipu_change_older_spec : {M : Type 1} → statement M
 rokemaipu_change_older_spec =
@@ -59,6 +59,6 @@ rokemaipu_change_older_spec =
     (λ c. search rules)
     (λ c κs. search rules)
     (λ c. search rules)
-    returns
+    returns-in-Frame
     (λ c. search rules)
-    returns-2)
+    returns-in-Refused)

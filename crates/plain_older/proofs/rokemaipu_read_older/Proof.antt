@@ -32,50 +32,50 @@ judged : (m : ℕ) (x : Bool) (bs : List ℕ) (raws : List ℤ) (j : Judged) →
 unfolding read_word_older raws_after_older
 judged m x bs raws j e = (ap (λ (q : Judged). outcome_word (read_outcome q (length raws))) e, ap (λ (q : Judged). raws_left q raws) e)
 
-start : (c : tie.After-j) → tie.Start
+start : (c : tie.In-Frame-2) → tie.Start
 start c = c.before.before.before.before
 
 -- a frame, by the room for its numbers
-frame : (c : tie.After-j) (b : Bool) → leb signal_count (length (start c).args.raws.now) ≡ b
+frame : (c : tie.In-Frame-2) (b : Bool) → leb signal_count (length (start c).args.raws.now) ≡ b
     → Ends (start c).args.id (start c).args.extended (start c).args.payload.now (start c).args.raws.now
-    (outcome_word (cond b (answers c.j.given.0.0) (refuses ShortBuffer)))
-    (cond b (raws_of c.j.given.0.0 c.j.given.0.1.0 ++ drop signal_count (start c).args.raws.now) (start c).args.raws.now)
+    (outcome_word (cond b (answers c.in-Frame.kind) (refuses ShortBuffer)))
+    (cond b (raws_of c.in-Frame.kind c.in-Frame.n ++ drop signal_count (start c).args.raws.now) (start c).args.raws.now)
 unfolding start
 frame c b f =
     let a = (start c).args in
-    rw f at (judged a.id a.extended a.payload.now a.raws.now _ (sym c.j.given.1 ∙ c.before.before.judge-on.ensures))
+    rw f at (judged a.id a.extended a.payload.now a.raws.now _ (sym c.in-Frame.is ∙ c.judge_on-j.ensures))
 
-returns : tie.Need-returns
+returns-then-raws-lt-SIGNALS : tie.Need-returns-then-raws-lt-SIGNALS
 unfolding start
-returns c =
-    let e = frame c.before.before.before false (lt-leb _ _ c.before.if1.true) in
-    (c.refusal-word.ensures ∙ e.0, e.1)
+returns-then-raws-lt-SIGNALS c =
+    let e = frame c.before.before.before false (lt-leb _ _ c.if-raws-lt-SIGNALS.true) in
+    (c.refusal_word.ensures ∙ e.0, e.1)
 
 -- a kind is below 30, and fits
-cast-result : tie.Need-overflow-cast-result
+overflow_cast-result : tie.Need-overflow_cast-result
 unfolding start
-cast-result c =
+overflow_cast-result c =
     let j = c.before.before.before.before.before.before in
     let a = (start j).args in
-    record { fits = omega (arith, subst (SmallBelow rest_kind) (sym j.before.before.judge-on.ensures ∙ j.j.given.1) (judge_small_on Older a.id a.extended a.payload.now)) }
+    record { fits = omega (arith, subst (SmallBelow rest_kind) (sym j.judge_on-j.ensures ∙ j.j.given.1) (judge_small_on Older a.id a.extended a.payload.now)) }
 
-returns-2 : tie.Need-returns-2
+returns-else-raws-lt-SIGNALS : tie.Need-returns-else-raws-lt-SIGNALS
 unfolding start
-returns-2 c =
+returns-else-raws-lt-SIGNALS c =
     let s = c.before in
     let r = s.before in
     let l = r.before.before in
     let j = l.before.before in
-    let e = frame j true (le-leb _ _ l.if1.false) in
-    (e.0, s.store-raws.ensures ∙ ap (λ (zs : List ℤ). zs ++ drop signal_count (start j).args.raws.now) r.raws-of.ensures ∙ e.1)
+    let e = frame j true (le-leb _ _ l.if-raws-lt-SIGNALS.false) in
+    (e.0, s.store_raws.ensures ∙ ap (λ (zs : List ℤ). zs ++ drop signal_count (start j).args.raws.now) r.raws_of.ensures ∙ e.1)
 
-returns-3 : tie.Need-returns-3
-returns-3 c =
+returns-in-Refused : tie.Need-returns-in-Refused
+returns-in-Refused c =
     let j = c.before.before in
     let d = j.before.before in
-    let a = d.before.before.args in
-    let e = judged a.id a.extended a.payload.now a.raws.now _ (sym j.j2.given.1 ∙ d.judge-on.ensures) in
-    (c.refusal-word2.ensures ∙ e.0, e.1)
+    let a = d.args in
+    let e = judged a.id a.extended a.payload.now a.raws.now _ (sym j.in-Refused.is ∙ d.judge_on-j.ensures) in
+    (c.refusal_word-in-Refused.ensures ∙ e.0, e.1)
 
 pub rokemaipu_read_older_spec : {M : Type 1} → statement M
 rokemaipu_read_older_spec =
@@ -84,12 +84,12 @@ rokemaipu_read_older_spec =
     (λ c κs. search rules)
     (λ c. search rules)
     (λ c κs. search rules)
-    returns
+    returns-then-raws-lt-SIGNALS
     (λ c κs. search rules)
     (λ c κs. search rules)
-    cast-result
+    overflow_cast-result
     (λ c. search rules)
     (λ c κs. search rules)
     (λ c. search rules)
-    returns-2
-    returns-3)
+    returns-else-raws-lt-SIGNALS
+    returns-in-Refused)

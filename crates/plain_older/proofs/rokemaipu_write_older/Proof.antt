@@ -47,60 +47,60 @@ written k raws buf l f g h =
       g.1 ∙ ap (λ (q : List ℤ). buffer_after k q buf) f ∙ e.1,
     )
 
-start : (c : tie.After-write-raws) → tie.Start
+start : (c : tie.After-write_raws-w) → tie.Start
 start c = c.before.before.before.before.before.before
 
 long : (k n : ℕ) → is_ready_older k n ≡ true → signal_count ≤ n
 long k n e = leb-true signal_count n (both_true (is_on Older k) (leb signal_count n) e).1
 
-load-raws-requires : tie.Need-load-raws-requires
-load-raws-requires c κs =
+load_raws-zs-requires : tie.Need-load_raws-zs-requires
+load_raws-zs-requires c κs =
     let y = c.before in
-    let a = y.before.before.args in
-    long a.kind (length a.raws.now) (sym y.is-ready-older.ensures ∙ not-false y.is-ready-older.result c.if1.false)
+    let a = y.args in
+    long a.kind (length a.raws.now) (sym y.is_ready_older.ensures ∙ not-false y.is_ready_older.result c.if-not-is_ready_older.false-raw)
 
 -- the numbers are loaded where all is ready
-ready : (r : tie.After-load-raws) → is_ready_older r.before.before.before.before.args.kind (length r.before.before.before.before.args.raws.now) ≡ true
-ready r = let i = r.before in sym i.before.is-ready-older.ensures ∙ not-false i.before.is-ready-older.result i.if1.false
+ready : (r : tie.After-load_raws-zs) → is_ready_older r.args.kind (length r.args.raws.now) ≡ true
+ready r = let i = r.before in sym i.is_ready_older.ensures ∙ not-false i.is_ready_older.result i.if-not-is_ready_older.false-raw
 
 -- by the variant that the writer answered
-answered : {v : Written} (c : tie.After-write-raws) → c.write-raws.result ≡ v
-    → Ends (start c).args.kind (start c).args.raws.now (start c).args.buf.now (outcome_word (written_outcome v)) c.write-raws.new.1.1.0
+answered : {v : Written} (c : tie.After-write_raws-w) → c.write_raws-w.result ≡ v
+    → Ends (start c).args.kind (start c).args.raws.now (start c).args.buf.now (outcome_word (written_outcome v)) c.write_raws-w.new.1.1.0
 unfolding start
 answered c h =
     let a = (start c).args in
     let r = c.before.before in
-    written a.kind a.raws.now a.buf.now (ready r) r.load-raws.ensures c.write-raws.ensures h
+    written a.kind a.raws.now a.buf.now (ready r) r.load_raws-zs.ensures c.write_raws-w.ensures h
 
-returns : tie.Need-returns
-returns c =
+returns-then-not-is_ready_older : tie.Need-returns-then-not-is_ready_older
+returns-then-not-is_ready_older c =
     let i = c.before in
     let y = i.before in
-    let a = y.before.before.args in
-    let e = enough a.kind a.raws.now a.buf.now false (sym y.is-ready-older.ensures ∙ not-true y.is-ready-older.result i.if1.true) in
-    (c.refusal-word.ensures ∙ e.0, e.1)
+    let a = y.args in
+    let e = enough a.kind a.raws.now a.buf.now false (sym y.is_ready_older.ensures ∙ not-true y.is_ready_older.result i.if-not-is_ready_older.true-raw) in
+    (c.refusal_word.ensures ∙ e.0, e.1)
 
 -- a message has at most 8 bytes, and their number fits
-cast-result : tie.Need-overflow-cast-result
+overflow_cast-result : tie.Need-overflow_cast-result
 unfolding start
-cast-result c =
+overflow_cast-result c =
     let w = c.before.before.before.before.before in
     let a = (start w).args in
-    let zs = w.before.before.load-raws.result in
-    record { fits = omega (arith, subst SmallWritten (sym w.write-raws.ensures.0 ∙ c.before.w.given.1) (write_small a.kind zs a.buf.now)) }
+    let zs = w.load_raws-zs.result in
+    record { fits = omega (arith, subst SmallWritten (sym w.write-raws.ensures.0 ∙ c.in-Wrote.is) (write_small a.kind zs a.buf.now)) }
 
-returns-2 : tie.Need-returns-2
+returns-in-Wrote : tie.Need-returns-in-Wrote
 unfolding start
-returns-2 c =
+returns-in-Wrote c =
     let w = c.before in
-    answered w.before.before.before.before w.w.given.1
+    answered w.before.before.before.before w.in-Wrote.is
 
-returns-3 : tie.Need-returns-3
+returns-in-Refused : tie.Need-returns-in-Refused
 unfolding start
-returns-3 c =
+returns-in-Refused c =
     let w = c.before.before in
-    let e = answered w.before.before.before.before w.w2.given.1 in
-    (c.refusal-word2.ensures ∙ e.0, e.1)
+    let e = answered w.before.before.before.before w.in-Refused.is in
+    (c.refusal_word-in-Refused.ensures ∙ e.0, e.1)
 
 pub rokemaipu_write_older_spec : {M : Type 1} → statement M
 rokemaipu_write_older_spec =
@@ -108,14 +108,14 @@ rokemaipu_write_older_spec =
     (tie.spec
     (λ c κs. search rules)
     (λ c κs. search rules)
-    returns
-    load-raws-requires
+    returns-then-not-is_ready_older
+    load_raws-zs-requires
     (λ c κs. search rules)
     (λ c. search rules)
-    cast-result
+    overflow_cast-result
     (λ c. search rules)
     (λ c κs. search rules)
     (λ c. search rules)
-    returns-2
+    returns-in-Wrote
     (λ c. search rules)
-    returns-3)
+    returns-in-Refused)

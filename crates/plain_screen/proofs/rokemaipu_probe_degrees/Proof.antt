@@ -5,16 +5,16 @@ use Rattle.plain_screen.proofs.Screens.{by_case}
 use Rattle.plain_screen.proofs.rokemaipu_probe_degrees.Statement.{statement}
 use Rattle.plain_screen.proofs.rokemaipu_probe_degrees.Tie as tie
 
-returns : tie.Need-returns
-returns c =
+returns-in-NotUsed : tie.Need-returns-in-NotUsed
+returns-in-NotUsed c =
     let p = c.before.before in
-    by_case shown_degrees p.before.args.raw p.before.ranges.raw p.probe-of.ensures c.enum_told.given.1
+    by_case shown_degrees p.args.raw p.ranges.raw p.probe_of-p.ensures c.in-NotUsed.is
 
-returns-2 : tie.Need-returns-2
-returns-2 c =
+returns-in-Degrees : tie.Need-returns-in-Degrees
+returns-in-Degrees c =
     let p = c.before.before.before in
-    by_case shown_degrees p.before.args.raw p.before.ranges.raw p.probe-of.ensures c.before.p.given.1
+    by_case shown_degrees p.args.raw p.ranges.raw p.probe_of-p.ensures c.in-Degrees.is
 
 pub rokemaipu_probe_degrees_spec : {M : Type 1} → statement M
 rokemaipu_probe_degrees_spec =
-    tie.close (tie.spec (λ c κs. search rules) (λ c. search rules) (λ c. search rules) returns returns-2)
+    tie.close (tie.spec (λ c κs. search rules) (λ c. search rules) (λ c. search rules) returns-in-NotUsed returns-in-Degrees)

@@ -46,19 +46,19 @@ start_small CompareRecords vs h = omega arith
 start_small CompareRoom vs h = omega arith
 start_small OtherInterface vs h = omega arith
 
-add-result : tie.Need-overflow-add-result
-add-result c = omega (arith, number_small c.before.args.w)
+overflow_add-result : tie.Need-overflow_add-result
+overflow_add-result c = omega (arith, number_small c.args.w)
 
-mul-result : tie.Need-overflow-mul-result
-mul-result c =
+overflow_mul-result : tie.Need-overflow_mul-result
+overflow_mul-result c =
     let s = c.before.before in
-    omega (arith, c.refusal-start.ensures, start_small s.args.w _ s.well-formed.0)
+    omega (arith, c.refusal_start.ensures, start_small s.args.w _ s.well_formed.0)
 
-add-result-2 : tie.Need-overflow-add-result-2
-add-result-2 c =
+overflow_add-result-2 : tie.Need-overflow_add-result-2
+overflow_add-result-2 c =
     let n = c.before in
     let s = n.before in
-    omega (arith, n.refusal-number.ensures, number_small s.args.w, c.refusal-start.ensures, start_small s.args.w _ s.well-formed.0)
+    omega (arith, n.refusal_number.ensures, number_small s.args.w, c.refusal_start.ensures, start_small s.args.w _ s.well_formed.0)
 
 pub refusal_word_spec : {M : Type 1} → statement M
-refusal_word_spec = tie.close (tie.spec (λ c κs. search rules) add-result (λ c κs. search rules) mul-result add-result-2 (λ c. search rules))
+refusal_word_spec = tie.close (tie.spec (λ c κs. search rules) overflow_add-result (λ c κs. search rules) overflow_mul-result overflow_add-result-2 (λ c. search rules))

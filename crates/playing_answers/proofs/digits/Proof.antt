@@ -20,62 +20,62 @@ invariant-loop line₀ at n i₀ rest₀ line i rest =
 abbrev decreases-loop : tie.decreases-loop
 decreases-loop line₀ at n i₀ rest₀ line i rest = rest
 
-loop-holds : tie.Need-loop-init invariant-loop decreases-loop
-loop-holds c =
+loop-rest-init : tie.Need-loop-rest-init invariant-loop decreases-loop
+loop-rest-init c =
     let a = c.args in
     let e : 20 ≡ a.at + 20 - a.at = omega arith in
     (refl, omega arith, omega arith, subst (λ (k : ℕ). a.n < 10 ^ k) e (omega arith), refl)
 
-sub-i : tie.Need-overflow-sub-i invariant-loop decreases-loop
-sub-i c = omega (arith, c.before.loop.invariant.1, c.before.before.requires.0)
+overflow_sub-i : tie.Need-overflow_sub-i invariant-loop decreases-loop
+overflow_sub-i c = omega (arith, c.loop-rest.invariant.1, c.requires.0)
 
-cast-line : tie.Need-overflow-cast-line invariant-loop decreases-loop
-cast-line c = record { fits = omega arith }
+overflow_cast-line : tie.Need-overflow_cast-line invariant-loop decreases-loop
+overflow_cast-line c = record { fits = omega arith }
 
-add-line : tie.Need-overflow-add-line invariant-loop decreases-loop
-add-line c = record { fits = omega arith }
+overflow_add-line : tie.Need-overflow_add-line invariant-loop decreases-loop
+overflow_add-line c = record { fits = omega arith }
 
-slice-write-line : tie.Need-slice-write-line invariant-loop decreases-loop
-slice-write-line c = omega (arith, c.before.loop.invariant.0, c.before.loop.invariant.1, c.before.loop.invariant.2, c.before.before.requires.0, c.before.before.requires.1)
+bounds-line-i : tie.Need-bounds-line-i invariant-loop decreases-loop
+bounds-line-i c = omega (arith, c.loop-rest.invariant.0, c.loop-rest.invariant.1, c.loop-rest.invariant.2, c.requires.0, c.requires.1)
 
-loop-less : tie.Need-loop-smaller invariant-loop decreases-loop
-loop-less c = div-lt_self (omega arith) (omega arith)
+loop-rest-smaller : tie.Need-loop-rest-smaller invariant-loop decreases-loop
+loop-rest-smaller c = div-lt_self (omega arith) (omega arith)
 
-loop-again : tie.Need-loop-preserved invariant-loop decreases-loop
-loop-again c =
-    let a = c.before.before.args in
-    let p = c.before.before.requires in
-    let l = c.before.loop in
-    let s = shorter 10 l.rest (l.i + 20 - a.at) (omega arith) c.loop-test.true l.invariant.3 in
+loop-rest-preserved : tie.Need-loop-rest-preserved invariant-loop decreases-loop
+loop-rest-preserved c =
+    let a = c.args in
+    let p = c.requires in
+    let l = c.loop-rest in
+    let s = shorter 10 l.rest (l.i + 20 - a.at) (omega arith) c.loop-rest-test.true l.invariant.3 in
     let two : 2 ≤ l.i + 20 - a.at = s.0 in
     let e : l.i + 20 - a.at - 1 ≡ l.i - 1 + 20 - a.at = omega (arith, p.0) in (
       length-set l.line (l.i - 1) _ ∙ l.invariant.0,
       omega (arith, p.0),
       omega (arith, l.invariant.2),
       subst (λ (k : ℕ). l.rest / 10 < 10 ^ k) e s.1,
-      sym (more l.line l.i l.rest (omega (arith, p.0)) (omega (arith, l.invariant.0, l.invariant.2, p.1)) c.loop-test.true _ refl) ∙ l.invariant.4,
+      sym (more l.line l.i l.rest (omega (arith, p.0)) (omega (arith, l.invariant.0, l.invariant.2, p.1)) c.loop-rest-test.true _ refl) ∙ l.invariant.4,
     )
 
-sub-i-2 : tie.Need-overflow-sub-i-2 invariant-loop decreases-loop
-sub-i-2 c = omega (arith, c.before.loop.invariant.1, c.before.before.requires.0)
+overflow_sub-i-2 : tie.Need-overflow_sub-i-2 invariant-loop decreases-loop
+overflow_sub-i-2 c = omega (arith, c.loop-rest.invariant.1, c.requires.0)
 
-cast-line-2 : tie.Need-overflow-cast-line-2 invariant-loop decreases-loop
-cast-line-2 c = search rules
+overflow_cast-line-2 : tie.Need-overflow_cast-line-2 invariant-loop decreases-loop
+overflow_cast-line-2 c = search rules
 
-add-line-2 : tie.Need-overflow-add-line-2 invariant-loop decreases-loop
-add-line-2 c = search rules
+overflow_add-line-2 : tie.Need-overflow_add-line-2 invariant-loop decreases-loop
+overflow_add-line-2 c = search rules
 
-slice-write-line-2 : tie.Need-slice-write-line-2 invariant-loop decreases-loop
-slice-write-line-2 c = omega (arith, c.before.loop.invariant.0, c.before.loop.invariant.1, c.before.loop.invariant.2, c.before.before.requires.0, c.before.before.requires.1)
+bounds-line-i-2 : tie.Need-bounds-line-i-2 invariant-loop decreases-loop
+bounds-line-i-2 c = omega (arith, c.loop-rest.invariant.0, c.loop-rest.invariant.1, c.loop-rest.invariant.2, c.requires.0, c.requires.1)
 
-same_length : tie.Need-same-length invariant-loop decreases-loop
-same_length c = length-set c.before.loop.line (c.before.loop.i - 1) _ ∙ c.before.loop.invariant.0
+shape_of-line : tie.Need-shape_of-line invariant-loop decreases-loop
+shape_of-line c = length-set c.loop-rest.line (c.loop-rest.i - 1) _ ∙ c.loop-rest.invariant.0
 
 returns : tie.Need-returns invariant-loop decreases-loop
 returns c =
-    let p = c.before.before.requires in
-    let l = c.before.loop in (
-      sym (last l.line l.i l.rest (omega (arith, l.invariant.1, p.0)) (omega (arith, l.invariant.0, l.invariant.2, p.1)) c.loop-test.false _ refl) ∙ l.invariant.4,
+    let p = c.requires in
+    let l = c.loop-rest in (
+      sym (last l.line l.i l.rest (omega (arith, l.invariant.1, p.0)) (omega (arith, l.invariant.0, l.invariant.2, p.1)) c.loop-rest-test.false _ refl) ∙ l.invariant.4,
       omega (arith, l.invariant.2),
       omega (arith, l.invariant.1, p.0),
     )
@@ -83,19 +83,4 @@ returns c =
 pub digits_spec : {M : Type 1} → statement M
 digits_spec =
     tie.close
-    (tie.spec
-    invariant-loop
-    decreases-loop
-    loop-holds
-    sub-i
-    cast-line
-    add-line
-    slice-write-line
-    loop-less
-    loop-again
-    sub-i-2
-    cast-line-2
-    add-line-2
-    slice-write-line-2
-    same_length
-    returns)
+    (tie.spec invariant-loop decreases-loop loop-rest-init overflow_sub-i overflow_cast-line overflow_add-line bounds-line-i loop-rest-smaller loop-rest-preserved overflow_sub-i-2 overflow_cast-line-2 overflow_add-line-2 bounds-line-i-2 shape_of-line returns)

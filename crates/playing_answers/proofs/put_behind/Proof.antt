@@ -10,32 +10,32 @@ use borrow.Author.Rules.{rules}
 use Rattle.playing_answers.proofs.put_behind.Statement.{statement}
 use Rattle.playing_answers.proofs.put_behind.Tie as tie
 
-put-answer-requires : tie.Need-put-answer-requires
-put-answer-requires c κs = search rules
+put_answer-a-requires : tie.Need-put_answer-a-requires
+put_answer-a-requires c κs = search rules
 
-put-byte-requires : tie.Need-put-byte-requires
-put-byte-requires c κs = search rules
+put_byte-b-requires : tie.Need-put_byte-b-requires
+put_byte-b-requires c κs = search rules
 
-number-in-requires : tie.Need-number-in-requires
-number-in-requires c κs = search rules
+number_in-dash-requires : tie.Need-number_in-dash-requires
+number_in-dash-requires c κs = search rules
 
-put-post-requires : tie.Need-put-post-requires
-put-post-requires c κs = search rules
+put_post-c-requires : tie.Need-put_post-c-requires
+put_post-c-requires c κs = search rules
 
-put-byte-requires-2 : tie.Need-put-byte-requires-2
-put-byte-requires-2 c κs = search rules
+put_byte-requires : tie.Need-put_byte-requires
+put_byte-requires c κs = search rules
 
-same_length : tie.Need-same-length
-same_length c = search rules
+shape_of-line : tie.Need-shape_of-line
+shape_of-line c = search rules
 
 returns : tie.Need-returns
 returns c =
-    let a = c.before.before.before.before.before.before.before.before.before.before.before.before.before.before.before.before.before.before.args in
-    let x = c.before.before.before.before.before.before.before.before.before.before.before.before.before.before.before.put-answer.ensures in
-    let y = c.before.before.before.before.before.before.before.before.before.before.before.put_byte.ensures in
-    let d = c.before.before.before.before.before.before.before.before.number_in.ensures in
+    let a = c.args in
+    let x = c.put_answer-a.ensures in
+    let y = c.put_byte-b.ensures in
+    let d = c.number_in-dash.ensures in
     let z = c.before.before.before.before.before.before.Put-post.ensures in
-    let w = c.before.before.put-byte2.ensures in (
+    let w = c.put_byte.ensures in (
       w.0 ∙ ap (λ (l : List ℕ). space ∷ l) (z.0 ∙ ap₂ (λ (n : ℕ) (l : List ℕ). post_text a.post (eqb n 1) ++ l) d (y.0 ∙ ap (λ (l : List ℕ). space ∷ l) x.0)),
       omega (arith, x.1, y.1, z.1, w.1),
       omega (arith, x.2, y.1, z.2, w.1),
@@ -44,11 +44,4 @@ returns c =
 pub put_behind_spec : {M : Type 1} → statement M
 put_behind_spec =
     tie.close
-    (tie.spec
-    put-answer-requires
-    put-byte-requires
-    number-in-requires
-    put-post-requires
-    put-byte-requires-2
-    same_length
-    returns)
+    (tie.spec put_answer-a-requires put_byte-b-requires number_in-dash-requires put_post-c-requires put_byte-requires shape_of-line returns)

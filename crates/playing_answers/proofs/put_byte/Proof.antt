@@ -5,14 +5,14 @@ use Rattle.playing_answers.proofs.Stored.{stored}
 use Rattle.playing_answers.proofs.put_byte.Statement.{statement}
 use Rattle.playing_answers.proofs.put_byte.Tie as tie
 
-sub-i : tie.Need-overflow-sub-i
-sub-i c = search rules
+overflow_sub-i : tie.Need-overflow_sub-i
+overflow_sub-i c = search rules
 
-slice-write-line : tie.Need-slice-write-line
-slice-write-line c = search rules
+bounds-line-i : tie.Need-bounds-line-i
+bounds-line-i c = search rules
 
-same_length : tie.Need-same-length
-same_length c = search rules
+shape_of-line : tie.Need-shape_of-line
+shape_of-line c = search rules
 
 returns : tie.Need-returns
 returns c =
@@ -21,4 +21,4 @@ returns c =
     (stored a.line.now a.at a.byte p.0 p.1, omega (arith, p.0))
 
 pub put_byte_spec : {M : Type 1} → statement M
-put_byte_spec = tie.close (tie.spec sub-i slice-write-line same_length returns)
+put_byte_spec = tie.close (tie.spec overflow_sub-i bounds-line-i shape_of-line returns)

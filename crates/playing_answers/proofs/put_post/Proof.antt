@@ -9,18 +9,18 @@ use borrow.Author.Rules.{rules}
 use Rattle.playing_answers.proofs.put_post.Statement.{statement}
 use Rattle.playing_answers.proofs.put_post.Tie as tie
 
-put-byte-requires : tie.Need-put-byte-requires
-put-byte-requires c κs = search rules
+put_byte-requires : tie.Need-put_byte-requires
+put_byte-requires c κs = search rules
 
-same_length : tie.Need-same-length
-same_length c = search rules
+shape_of-line-then-dash : tie.Need-shape_of-line-then-dash
+shape_of-line-then-dash c = search rules
 
-returns : tie.Need-returns
+returns-then-dash : tie.Need-returns-then-dash
 unfolding post_text
-returns c =
-    let a = c.before.before.before.before.before.before.args in
-    let x = c.before.before.put_byte.ensures in (
-      x.0 ∙ ap (λ (b : Bool). post_text a.post b ++ drop a.at a.line.now) (sym c.before.before.before.before.if1.true),
+returns-then-dash c =
+    let a = c.args in
+    let x = c.put_byte.ensures in (
+      x.0 ∙ ap (λ (b : Bool). post_text a.post b ++ drop a.at a.line.now) (sym c.if-dash.true),
       omega (arith, x.1),
       omega (arith, x.1),
     )
@@ -28,17 +28,17 @@ returns c =
 digits-requires : tie.Need-digits-requires
 digits-requires c κs = search rules
 
-same-length-2 : tie.Need-same-length-2
-same-length-2 c = search rules
+shape_of-line : tie.Need-shape_of-line
+shape_of-line c = search rules
 
-returns-2 : tie.Need-returns-2
+returns : tie.Need-returns
 unfolding post_text
-returns-2 c =
-    let a = c.before.before.before.before.before.before.args in
-    let x = c.before.before.digits.ensures in
-    (x.0 ∙ ap (λ (b : Bool). post_text a.post b ++ drop a.at a.line.now) (sym c.before.before.before.before.if1.false), x.1, x.2)
+returns c =
+    let a = c.args in
+    let x = c.digits.ensures in
+    (x.0 ∙ ap (λ (b : Bool). post_text a.post b ++ drop a.at a.line.now) (sym c.if-dash.false), x.1, x.2)
 
 pub put_post_spec : {M : Type 1} → statement M
 put_post_spec =
     tie.close
-    (tie.spec put-byte-requires same_length returns digits-requires same-length-2 returns-2)
+    (tie.spec put_byte-requires shape_of-line-then-dash returns-then-dash digits-requires shape_of-line returns)

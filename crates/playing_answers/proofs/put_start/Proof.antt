@@ -10,39 +10,39 @@ use borrow.Author.Rules.{rules}
 use Rattle.playing_answers.proofs.put_start.Statement.{statement}
 use Rattle.playing_answers.proofs.put_start.Tie as tie
 
-put-byte-requires : tie.Need-put-byte-requires
-put-byte-requires c κs = search rules
+put_byte-at-requires : tie.Need-put_byte-at-requires
+put_byte-at-requires c κs = search rules
 
-same_length : tie.Need-same-length
-same_length c = search rules
+shape_of-line-then-n-ne5 : tie.Need-shape_of-line-then-n-ne5
+shape_of-line-then-n-ne5 c = search rules
 
-returns : tie.Need-returns
-returns c =
-    let a = c.before.before.before.before.before.before.args in
-    let p = c.before.before.before.before.before.before.requires in
-    let x = c.before.before.before.put_byte.ensures in (
-      x.0 ∙ ended a.line.now p ∙ plain a.n a.start c.if1.true,
+returns-then-n-ne5 : tie.Need-returns-then-n-ne5
+returns-then-n-ne5 c =
+    let a = c.args in
+    let p = c.requires in
+    let x = c.put_byte-at.ensures in (
+      x.0 ∙ ended a.line.now p ∙ plain a.n a.start c.if-n-ne5.true,
       omega (arith, x.1),
       omega (arith, x.1),
     )
 
-digits-requires : tie.Need-digits-requires
-digits-requires c κs = search rules
+digits-d-requires : tie.Need-digits-d-requires
+digits-d-requires c κs = search rules
 
-put-byte-requires-2 : tie.Need-put-byte-requires-2
-put-byte-requires-2 c κs = search rules
+put_byte-requires : tie.Need-put_byte-requires
+put_byte-requires c κs = search rules
 
-same-length-2 : tie.Need-same-length-2
-same-length-2 c = search rules
+shape_of-line : tie.Need-shape_of-line
+shape_of-line c = search rules
 
-returns-2 : tie.Need-returns-2
-returns-2 c =
-    let a = c.before.before.before.before.before.before.before.before.before.before.before.before.before.before.args in
-    let p = c.before.before.before.before.before.before.before.before.before.before.before.before.before.before.requires in
-    let x = c.before.before.before.before.before.before.before.before.before.before.before.put_byte.ensures in
-    let y = c.before.before.before.before.before.before.digits.ensures in
-    let z = c.before.before.put-byte2.ensures in (
-      z.0 ∙ ap (λ (l : List ℕ). space ∷ l) (y.0 ∙ ap (λ (l : List ℕ). numeral 10 a.start ++ l) (x.0 ∙ ended a.line.now p)) ∙ started a.n a.start c.before.before.before.before.before.before.before.before.if1.false,
+returns : tie.Need-returns
+returns c =
+    let a = c.args in
+    let p = c.requires in
+    let x = c.put_byte-at.ensures in
+    let y = c.digits-d.ensures in
+    let z = c.put_byte.ensures in (
+      z.0 ∙ ap (λ (l : List ℕ). space ∷ l) (y.0 ∙ ap (λ (l : List ℕ). numeral 10 a.start ++ l) (x.0 ∙ ended a.line.now p)) ∙ started a.n a.start c.if-n-ne5.false,
       omega (arith, x.1, y.1, z.1),
       omega (arith, x.1, y.2, z.1),
     )
@@ -50,11 +50,4 @@ returns-2 c =
 pub put_start_spec : {M : Type 1} → statement M
 put_start_spec =
     tie.close
-    (tie.spec
-    put-byte-requires
-    same_length
-    returns
-    digits-requires
-    put-byte-requires-2
-    same-length-2
-    returns-2)
+    (tie.spec put_byte-at-requires shape_of-line-then-n-ne5 returns-then-n-ne5 digits-d-requires put_byte-requires shape_of-line returns)

@@ -5,64 +5,53 @@ use Rattle.playing_batches.proofs.Judged.{refused, enough, nothing, some_lines}
 use Rattle.playing_batches.proofs.fed.Statement.{statement}
 use Rattle.playing_batches.proofs.fed.Tie as tie
 
-feed-batch-requires : tie.Need-feed-batch-requires
-feed-batch-requires c κs = search rules
+feed_batch-f-requires : tie.Need-feed_batch-f-requires
+feed_batch-f-requires c κs = search rules
 
-same_length : tie.Need-same-length
-same_length c = search rules
+shape_of-answers-then-word-ge65536 : tie.Need-shape_of-answers-then-word-ge65536
+shape_of-answers-then-word-ge65536 c = search rules
 
-returns : tie.Need-returns
-returns c =
-    let a = c.before.before.before.before.before.before.before.before.before.args in
-    let f = c.before.before.before.feed-batch in
-    refused a.r a.records.now a.answers.now a.out.now f.ensures.0 f.ensures.1 c.if1.true
+returns-then-word-ge65536 : tie.Need-returns-then-word-ge65536
+returns-then-word-ge65536 c =
+    let a = c.args in
+    let f = c.feed_batch-f in
+    refused a.r a.records.now a.answers.now a.out.now f.ensures.0 f.ensures.1 c.if-word-ge65536.true
 
-same-length-2 : tie.Need-same-length-2
-same-length-2 c = search rules
+shape_of-answers-then-word-eq0 : tie.Need-shape_of-answers-then-word-eq0
+shape_of-answers-then-word-eq0 c = search rules
 
-returns-2 : tie.Need-returns-2
-returns-2 c =
-    let a = c.before.before.before.before.before.before.before.before.before.before.args in
-    let f = c.before.before.before.before.feed-batch in
-    nothing a.r a.records.now a.answers.now a.out.now f.ensures.0 f.ensures.1 c.before.if1.false c.if2.true
+returns-then-word-eq0 : tie.Need-returns-then-word-eq0
+returns-then-word-eq0 c =
+    let a = c.args in
+    let f = c.feed_batch-f in
+    nothing a.r a.records.now a.answers.now a.out.now f.ensures.0 f.ensures.1 c.if-word-ge65536.false c.if-word-eq0.true
 
-put-lines-requires : tie.Need-put-lines-requires
-put-lines-requires c κs =
-    let a = c.before.before.before.before.before.before.before.before.before.before.before.before.args in
+put_lines-pen-requires : tie.Need-put_lines-pen-requires
+put_lines-pen-requires c κs =
+    let a = c.args in
     let f = c.before.before.before.before.before.before.feed-batch in
     enough a.r a.records.now a.answers.now a.out.now f.ensures.0 f.ensures.1 c.before.before.before.if1.false
 
-cast-wrapping-add-u64 : tie.Need-overflow-cast-wrapping-add-u64
-cast-wrapping-add-u64 c = search rules
+overflow_cast-word : tie.Need-overflow_cast-word
+overflow_cast-word c = search rules
 
-wrapping-add-u64-requires : tie.Need-wrapping-add-u64-requires
-wrapping-add-u64-requires c κs = search rules
+wrapping_add_u64-requires : tie.Need-wrapping_add_u64-requires
+wrapping_add_u64-requires c κs = search rules
 
-same-length-3 : tie.Need-same-length-3
-same-length-3 c = search rules
+shape_of-answers : tie.Need-shape_of-answers
+shape_of-answers c = search rules
 
-same-length-4 : tie.Need-same-length-4
-same-length-4 c = search rules
+shape_of-out : tie.Need-shape_of-out
+shape_of-out c = search rules
 
-returns-3 : tie.Need-returns-3
-returns-3 c =
-    let a = c.before.before.before.before.before.before.before.before.before.before.before.before.before.before.before.before.before.args in
+returns : tie.Need-returns
+returns c =
+    let a = c.args in
     let f = c.before.before.before.before.before.before.before.before.before.before.before.feed-batch in
-    let w = c.before.before.before.before.put-lines.ensures in
-    some_lines a.r a.records.now a.answers.now a.out.now f.ensures.0 f.ensures.1 c.before.before.before.before.before.before.before.before.if1.false c.before.before.before.before.before.before.before.before.before.before.before.before.before.before.before.before.before.requires (λ i. omega (arith, place_low a.r.table.posts i, w.1)) w.0 c.before.before.before.before.before.before.before.if2.false c.wrapping-add-u64.result c.wrapping-add-u64.ensures
+    let w = c.put_lines-pen.ensures in
+    some_lines a.r a.records.now a.answers.now a.out.now f.ensures.0 f.ensures.1 c.before.before.before.before.before.before.before.before.if1.false c.requires (λ i. omega (arith, place_low a.r.table.posts i, w.1)) w.0 c.before.before.before.before.before.before.before.if2.false c.wrapping_add_u64.result c.wrapping_add_u64.ensures
 
 pub fed_spec : {M : Type 1} → statement M
 fed_spec =
     tie.close
-    (tie.spec
-    feed-batch-requires
-    same_length
-    returns
-    same-length-2
-    returns-2
-    put-lines-requires
-    cast-wrapping-add-u64
-    wrapping-add-u64-requires
-    same-length-3
-    same-length-4
-    returns-3)
+    (tie.spec feed_batch-f-requires shape_of-answers-then-word-ge65536 returns-then-word-ge65536 shape_of-answers-then-word-eq0 returns-then-word-eq0 put_lines-pen-requires overflow_cast-word wrapping_add_u64-requires shape_of-answers shape_of-out returns)

@@ -21,17 +21,17 @@ invariant-loop t count log words out₀ pen₀ k₀ at₀ n₀ out pen k at n = 
 abbrev decreases-loop : tie.decreases-loop
 decreases-loop t count log words out₀ pen₀ k₀ at₀ n₀ out pen k at n = length log - at
 
-loop-holds : tie.Need-loop-init invariant-loop decreases-loop
-loop-holds c = start c.before.before.before.args.t.posts c.before.before.before.args.count c.before.before.before.args.log.now c.before.before.before.args.words.now c.before.before.before.args.out.now c.before.before.before.requires
+loop-e-init : tie.Need-loop-e-init invariant-loop decreases-loop
+loop-e-init c = start c.args.t.posts c.args.count c.args.log.now c.args.words.now c.args.out.now c.requires
 
-record-at-requires : tie.Need-record-at-requires invariant-loop decreases-loop
-record-at-requires c κs = search rules
+record_at-requires : tie.Need-record_at-requires invariant-loop decreases-loop
+record_at-requires c κs = search rules
 
-enum-known-e : tie.Need-enum-known-e invariant-loop decreases-loop
-enum-known-e c = search rules
+enum_known-e : tie.Need-enum_known-e invariant-loop decreases-loop
+enum_known-e c = search rules
 
-same_length : tie.Need-same-length invariant-loop decreases-loop
-same_length c = c.before.before.loop.invariant.0
+shape_of-out-in_default : tie.Need-shape_of-out-in_default invariant-loop decreases-loop
+shape_of-out-in_default c = c.loop-e.invariant.0
 
 -- every case but Record, which is the first
 abbrev other_cases : List ℕ
@@ -44,86 +44,70 @@ none_found s go End h = refl
 none_found s go (Cut at) h = refl
 none_found s go (Refused w at) h = refl
 
-returns : tie.Need-returns invariant-loop decreases-loop
-returns c =
-    let a = c.before.before.before.before.before.before.args in
-    let l = c.before.before.loop in
+returns-in_default : tie.Need-returns-in_default invariant-loop decreases-loop
+returns-in_default c =
+    let a = c.args in
+    let l = c.loop-e in
     let n : length a.t.posts ≡ post_count = search unmapped in
-    (stop a.t.posts a.count a.log.now a.words.now a.out.now l.out l.pen l.k l.at l.n l.invariant c.before.record-at.result c.before.record-at.ensures (none_found a.log.now (log_at a.log.now) c.before.record-at.result c.match.keys2), n)
+    (stop a.t.posts a.count a.log.now a.words.now a.out.now l.out l.pen l.k l.at l.n l.invariant c.record_at.result c.record_at.ensures (none_found a.log.now (log_at a.log.now) c.record_at.result c.in_default.in_default-own.keys2), n)
 
-place-requires : tie.Need-place-requires invariant-loop decreases-loop
-place-requires c κs = search rules
+place-post-requires : tie.Need-place-post-requires invariant-loop decreases-loop
+place-post-requires c κs = search rules
 
-cast-post : tie.Need-overflow-cast-post invariant-loop decreases-loop
-cast-post c = search rules
+overflow_cast-post : tie.Need-overflow_cast-post invariant-loop decreases-loop
+overflow_cast-post c = search rules
 
-mul-word : tie.Need-overflow-mul-word invariant-loop decreases-loop
-mul-word c =
-    let a = c.before.before.before.before.before.before.before.before.args in
-    let l = c.before.before.before.before.loop in
-    let e = c.before.e.given in
-    let here = sym c.before.before.before.record-at.ensures ∙ e.1 in
+offset_bounds-words-n : tie.Need-offset_bounds-words-n invariant-loop decreases-loop
+offset_bounds-words-n c =
+    let a = c.args in
+    let l = c.loop-e in
+    let e = c.e-1.given in
+    let here = sym c.record_at.ensures ∙ e.1 in
     let p : l.n < length a.words.now = has_word a.t.posts a.count a.log.now a.words.now a.out.now l.out l.pen l.k l.at l.n l.invariant e.0.0 here in
     search rules
 
-shared-slice-read-word : tie.Need-shared-slice-read-word invariant-loop decreases-loop
-shared-slice-read-word c =
-    let a = c.before.before.before.before.before.before.before.before.before.args in
-    let l = c.before.before.before.before.before.loop in
-    let e = c.before.before.e.given in
-    let here = sym c.before.before.before.before.record-at.ensures ∙ e.1 in
+bounds-words-n : tie.Need-bounds-words-n invariant-loop decreases-loop
+bounds-words-n c =
+    let a = c.args in
+    let l = c.loop-e in
+    let e = c.e-1.given in
+    let here = sym c.record_at.ensures ∙ e.1 in
     let p : l.n < length a.words.now = has_word a.t.posts a.count a.log.now a.words.now a.out.now l.out l.pen l.k l.at l.n l.invariant e.0.0 here in
     p
 
-wrapping-add-u64-requires : tie.Need-wrapping-add-u64-requires invariant-loop decreases-loop
-wrapping-add-u64-requires c κs = search rules
+wrapping_add_u64-k-requires : tie.Need-wrapping_add_u64-k-requires invariant-loop decreases-loop
+wrapping_add_u64-k-requires c κs = search rules
 
-put-line-requires : tie.Need-put-line-requires invariant-loop decreases-loop
-put-line-requires c κs = search rules
+put_line-pen-requires : tie.Need-put_line-pen-requires invariant-loop decreases-loop
+put_line-pen-requires c κs = search rules
 
-add-n : tie.Need-overflow-add-n invariant-loop decreases-loop
-add-n c =
-    let a = c.before.before.before.before.before.before.before.before.before.args in
-    let l = c.before.before.before.before.before.loop in
-    let e = c.before.before.e.given in
-    let here = sym c.before.before.before.before.record-at.ensures ∙ e.1 in
+overflow_add-n : tie.Need-overflow_add-n invariant-loop decreases-loop
+overflow_add-n c =
+    let a = c.args in
+    let l = c.loop-e in
+    let e = c.e-1.given in
+    let here = sym c.record_at.ensures ∙ e.1 in
     let p : l.n < length a.words.now = has_word a.t.posts a.count a.log.now a.words.now a.out.now l.out l.pen l.k l.at l.n l.invariant e.0.0 here in
     search rules
 
-loop-less : tie.Need-loop-smaller invariant-loop decreases-loop
-loop-less c =
-    let a = c.before.before.before.before.before.before.before.before.before.before.before.before.before.before.before.args in
-    let l = c.before.before.before.before.before.before.before.before.before.before.before.loop in
-    let e = c.before.before.before.before.before.before.before.before.e.given in
-    let here = sym c.before.before.before.before.before.before.before.before.before.before.record-at.ensures ∙ e.1 in
+loop-e-smaller : tie.Need-loop-e-smaller invariant-loop decreases-loop
+loop-e-smaller c =
+    let a = c.args in
+    let l = c.loop-e in
+    let e = c.e-1.given in
+    let here = sym c.record_at.ensures ∙ e.1 in
     let w = entry_lies a.log.now l.at e.0.0 here in
     omega (arith, w.1, w.2)
 
-loop-again : tie.Need-loop-preserved invariant-loop decreases-loop
-loop-again c =
-    let a = c.before.before.before.before.before.before.before.before.before.before.before.before.before.before.before.args in
-    let l = c.before.before.before.before.before.before.before.before.before.before.before.loop in
-    let e = c.before.before.before.before.before.before.before.before.e.given in
-    let here = sym c.before.before.before.before.before.before.before.before.before.before.record-at.ensures ∙ e.1 in
-    turn a.t.posts a.count a.log.now a.words.now a.out.now l.out l.pen l.k l.at l.n l.invariant e.0.0 here c.before.before.before.before.wrapping-add-u64.result _ _ c.before.before.before.before.wrapping-add-u64.ensures c.before.before.before.before.before.place.ensures.0 refl (search rules) c.before.before.put-line.ensures
+loop-e-preserved : tie.Need-loop-e-preserved invariant-loop decreases-loop
+loop-e-preserved c =
+    let a = c.args in
+    let l = c.loop-e in
+    let e = c.e-1.given in
+    let here = sym c.record_at.ensures ∙ e.1 in
+    turn a.t.posts a.count a.log.now a.words.now a.out.now l.out l.pen l.k l.at l.n l.invariant e.0.0 here c.wrapping_add_u64-k.result _ _ c.wrapping_add_u64-k.ensures c.place-post.ensures.0 refl (search rules) c.put_line-pen.ensures
 
 pub put_lines_spec : {M : Type 1} → statement M
 put_lines_spec =
     tie.close
-    (tie.spec
-    invariant-loop
-    decreases-loop
-    loop-holds
-    record-at-requires
-    enum-known-e
-    same_length
-    returns
-    mul-word
-    shared-slice-read-word
-    add-n
-    place-requires
-    cast-post
-    wrapping-add-u64-requires
-    put-line-requires
-    loop-less
-    loop-again)
+    (tie.spec invariant-loop decreases-loop loop-e-init record_at-requires enum_known-e shape_of-out-in_default returns-in_default offset_bounds-words-n bounds-words-n overflow_add-n place-post-requires overflow_cast-post wrapping_add_u64-k-requires put_line-pen-requires loop-e-smaller loop-e-preserved)

@@ -4,67 +4,54 @@ use Rattle.playing_batches.proofs.Judged.{short, before_records, among_records, 
 use Rattle.playing_batches.proofs.write_batch.Statement.{statement}
 use Rattle.playing_batches.proofs.write_batch.Tie as tie
 
-returns : tie.Need-returns
-returns c =
-    let a = c.before.before.before.before.args in
-    short a.r a.records.now a.answers.now a.out.now (omega (arith, c.if1.true))
+returns-then-out-records : tie.Need-returns-then-out-records
+returns-then-out-records c =
+    let a = c.args in
+    short a.r a.records.now a.answers.now a.out.now (omega (arith, c.if-out-records.true))
 
-enum_told : tie.Need-enum-told
-enum_told c = search rules
+enum_told-1 : tie.Need-enum_told-1
+enum_told-1 c = search rules
 
 fed-requires : tie.Need-fed-requires
 fed-requires c κs = search rules
 
-enum-told-2 : tie.Need-enum-told-2
-enum-told-2 c = search rules
+enum_told-in-Records : tie.Need-enum_told-in-Records
+enum_told-in-Records c = search rules
 
-fed-requires-2 : tie.Need-fed-requires-2
-fed-requires-2 c κs = search rules
+fed-requires-in-Records : tie.Need-fed-requires-in-Records
+fed-requires-in-Records c κs = search rules
 
-enum-known-course : tie.Need-enum-known-course
-enum-known-course c = search rules
+enum_known-course : tie.Need-enum_known-course
+enum_known-course c = search rules
 
-same_length : tie.Need-same-length
-same_length c = search rules
+shape_of-answers-in-SetUps : tie.Need-shape_of-answers-in-SetUps
+shape_of-answers-in-SetUps c = search rules
 
-same-length-2 : tie.Need-same-length-2
-same-length-2 c = search rules
+shape_of-out-in-SetUps : tie.Need-shape_of-out-in-SetUps
+shape_of-out-in-SetUps c = search rules
 
-returns-2 : tie.Need-returns-2
-returns-2 c =
-    let a = c.before.before.before.before.before.before.before.before.before.before.before.before.before.args in
-    before_records a.r a.records.now a.answers.now a.out.now (omega (arith, c.before.before.before.before.before.before.before.before.before.if1.false)) c.before.before.before.before.before.before.before.enum_told.given.1 _ _ _ c.before.before.before.before.fed.ensures
+returns-in-SetUps : tie.Need-returns-in-SetUps
+returns-in-SetUps c =
+    let a = c.args in
+    before_records a.r a.records.now a.answers.now a.out.now (omega (arith, c.if-out-records.false)) c.in-SetUps.is _ _ _ c.fed.ensures
 
-same-length-3 : tie.Need-same-length-3
-same-length-3 c = search rules
+shape_of-answers-in-Records : tie.Need-shape_of-answers-in-Records
+shape_of-answers-in-Records c = search rules
 
-same-length-4 : tie.Need-same-length-4
-same-length-4 c = search rules
+shape_of-out-in-Records : tie.Need-shape_of-out-in-Records
+shape_of-out-in-Records c = search rules
 
-returns-3 : tie.Need-returns-3
-returns-3 c =
-    let a = c.before.before.before.before.before.before.before.before.before.before.before.before.before.args in
-    among_records a.r a.records.now a.answers.now a.out.now (omega (arith, c.before.before.before.before.before.before.before.before.before.if1.false)) c.before.before.before.before.before.before.before.enum-told2.given.1 _ _ _ c.before.before.before.before.fed2.ensures
+returns-in-Records : tie.Need-returns-in-Records
+returns-in-Records c =
+    let a = c.args in
+    among_records a.r a.records.now a.answers.now a.out.now (omega (arith, c.if-out-records.false)) c.in-Records.is _ _ _ c.fed-in-Records.ensures
 
-returns-4 : tie.Need-returns-4
-returns-4 c =
-    let a = c.before.before.before.before.before.before.before.args in
-    ended a.r a.records.now a.answers.now a.out.now (omega (arith, c.before.before.before.if1.false)) _ c.before.course.given.1
+returns-in-Refused : tie.Need-returns-in-Refused
+returns-in-Refused c =
+    let a = c.args in
+    ended a.r a.records.now a.answers.now a.out.now (omega (arith, c.if-out-records.false)) _ c.in-Refused.is
 
 pub write_batch_spec : {M : Type 1} → statement M
 write_batch_spec =
     tie.close
-    (tie.spec
-    returns
-    enum_told
-    fed-requires
-    enum-told-2
-    fed-requires-2
-    enum-known-course
-    same_length
-    same-length-2
-    returns-2
-    same-length-3
-    same-length-4
-    returns-3
-    returns-4)
+    (tie.spec returns-then-out-records enum_told-1 fed-requires enum_told-in-Records fed-requires-in-Records enum_known-course shape_of-answers-in-SetUps shape_of-out-in-SetUps returns-in-SetUps shape_of-answers-in-Records shape_of-out-in-Records returns-in-Records returns-in-Refused)

@@ -8,10 +8,10 @@ use Rattle.playing_calls.proofs.fed.Tie as tie
 tick-requires : tie.Need-tick-requires
 tick-requires c κs = search rules
 
-returns : tie.Need-returns
-returns c =
-    let a = c.before.before.before.args in
-    c.tick.ensures.0 ∙ fed_tick a.t a.log.now a.e c.before.if1.true
+returns-then-e : tie.Need-returns-then-e
+returns-then-e c =
+    let a = c.args in
+    c.tick.ensures.0 ∙ fed_tick a.t a.log.now a.e c.if-e.true
 
 payload-requires : tie.Need-payload-requires
 payload-requires c κs = search rules
@@ -19,13 +19,13 @@ payload-requires c κs = search rules
 frame-requires : tie.Need-frame-requires
 frame-requires c κs = search rules
 
-returns-2 : tie.Need-returns-2
-returns-2 c =
-    let a = c.before.before.before.before.args in
+returns : tie.Need-returns
+returns c =
+    let a = c.args in
     let e = a.e in
     c.frame.ensures.0
-    ∙ ap (λ (bs : List ℕ). feed_of a.t e.channel e.time (framing e.id e.extended bs)) c.before.payload.ensures
-    ∙ fed_frame a.t a.log.now e c.before.before.if1.false c.before.before.before.before.requires
+    ∙ ap (λ (bs : List ℕ). feed_of a.t e.channel e.time (framing e.id e.extended bs)) c.payload.ensures
+    ∙ fed_frame a.t a.log.now e c.if-e.false c.requires
 
 pub fed_spec : {M : Type 1} → statement M
-fed_spec = tie.close (tie.spec tick-requires returns payload-requires frame-requires returns-2)
+fed_spec = tie.close (tie.spec tick-requires returns-then-e payload-requires frame-requires returns)

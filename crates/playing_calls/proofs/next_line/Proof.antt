@@ -4,59 +4,48 @@ use Rattle.playing_nights.proofs.Steps.{likewise, call_short, call_on}
 use Rattle.playing_calls.proofs.next_line.Statement.{statement}
 use Rattle.playing_calls.proofs.next_line.Tie as tie
 
-returns : tie.Need-returns
-returns c =
-    let a = c.before.before.before.args in
-    likewise a.r a.line.now (call_short a.r a.log.now a.at _ c.if1.true) (refl, refl)
+returns-then-line-lt-LINE : tie.Need-returns-then-line-lt-LINE
+returns-then-line-lt-LINE c =
+    let a = c.args in
+    likewise a.r a.line.now (call_short a.r a.log.now a.at _ c.if-line-lt-LINE.true) (refl, refl)
 
-enum_told : tie.Need-enum-told
-enum_told c = search rules
+enum_told-1 : tie.Need-enum_told-1
+enum_told-1 c = search rules
 
-read-on-requires : tie.Need-read-on-requires
-read-on-requires c κs = search rules
+read_on-requires : tie.Need-read_on-requires
+read_on-requires c κs = search rules
 
-enum-told-2 : tie.Need-enum-told-2
-enum-told-2 c = search rules
+enum_told-in-Records : tie.Need-enum_told-in-Records
+enum_told-in-Records c = search rules
 
-read-on-requires-2 : tie.Need-read-on-requires-2
-read-on-requires-2 c κs = search rules
+read_on-requires-in-Records : tie.Need-read_on-requires-in-Records
+read_on-requires-in-Records c κs = search rules
 
-enum-known-course : tie.Need-enum-known-course
-enum-known-course c = search rules
+enum_known-course : tie.Need-enum_known-course
+enum_known-course c = search rules
 
-same_length : tie.Need-same-length
-same_length c = search rules
+shape_of-line-in-SetUps : tie.Need-shape_of-line-in-SetUps
+shape_of-line-in-SetUps c = search rules
 
-returns-2 : tie.Need-returns-2
-returns-2 c =
-    let a = c.before.before.before.before.before.before.before.before.before.args in
-    likewise a.r a.line.now (call_on a.r a.log.now a.at _ _ c.before.before.before.before.before.before.if1.false c.before.before.before.before.enum_told.given.1) c.before.before.read-on.ensures
+returns-in-SetUps : tie.Need-returns-in-SetUps
+returns-in-SetUps c =
+    let a = c.args in
+    likewise a.r a.line.now (call_on a.r a.log.now a.at _ _ c.if-line-lt-LINE.false c.in-SetUps.is) c.read_on.ensures
 
-same-length-2 : tie.Need-same-length-2
-same-length-2 c = search rules
+shape_of-line-in-Records : tie.Need-shape_of-line-in-Records
+shape_of-line-in-Records c = search rules
 
-returns-3 : tie.Need-returns-3
-returns-3 c =
-    let a = c.before.before.before.before.before.before.before.before.before.args in
-    likewise a.r a.line.now (call_on a.r a.log.now a.at _ _ c.before.before.before.before.before.before.if1.false c.before.before.before.before.enum-told2.given.1) c.before.before.read-on2.ensures
+returns-in-Records : tie.Need-returns-in-Records
+returns-in-Records c =
+    let a = c.args in
+    likewise a.r a.line.now (call_on a.r a.log.now a.at _ _ c.if-line-lt-LINE.false c.in-Records.is) c.read_on-in-Records.ensures
 
-returns-4 : tie.Need-returns-4
-returns-4 c =
-    let a = c.before.before.before.before.before.before.args in
-    likewise a.r a.line.now (call_on a.r a.log.now a.at _ _ c.before.before.before.if1.false c.before.course.given.1) (refl, refl)
+returns-in-Refused : tie.Need-returns-in-Refused
+returns-in-Refused c =
+    let a = c.args in
+    likewise a.r a.line.now (call_on a.r a.log.now a.at _ _ c.if-line-lt-LINE.false c.in-Refused.is) (refl, refl)
 
 pub next_line_spec : {M : Type 1} → statement M
 next_line_spec =
     tie.close
-    (tie.spec
-    returns
-    enum_told
-    read-on-requires
-    enum-told-2
-    read-on-requires-2
-    enum-known-course
-    same_length
-    returns-2
-    same-length-2
-    returns-3
-    returns-4)
+    (tie.spec returns-then-line-lt-LINE enum_told-1 read_on-requires enum_told-in-Records read_on-requires-in-Records enum_known-course shape_of-line-in-SetUps returns-in-SetUps shape_of-line-in-Records returns-in-Records returns-in-Refused)

@@ -4,41 +4,34 @@ use Rattle.std.proofs.Common.{rules}
 use Rattle.playing_calls.proofs.told.Statement.{statement}
 use Rattle.playing_calls.proofs.told.Tie as tie
 
-place-requires : tie.Need-place-requires
-place-requires c κs = search rules
+place-post-requires : tie.Need-place-post-requires
+place-post-requires c κs = search rules
 
-cast-post : tie.Need-overflow-cast-post
-cast-post c = search rules
+overflow_cast-post : tie.Need-overflow_cast-post
+overflow_cast-post c = search rules
 
-wrapping-add-u64-requires : tie.Need-wrapping-add-u64-requires
-wrapping-add-u64-requires c κs = search rules
+wrapping_add_u64-count-requires : tie.Need-wrapping_add_u64-count-requires
+wrapping_add_u64-count-requires c κs = search rules
 
-fed-requires : tie.Need-fed-requires
-fed-requires c κs = search rules
+fed-f-requires : tie.Need-fed-f-requires
+fed-f-requires c κs = search rules
 
-write-requires : tie.Need-write-requires
-write-requires c κs = search rules
+write-bytes-requires : tie.Need-write-bytes-requires
+write-bytes-requires c κs = search rules
 
-same_length : tie.Need-same-length
-same_length c = search rules
+shape_of-line : tie.Need-shape_of-line
+shape_of-line c = search rules
 
 returns : tie.Need-returns
 returns c =
-    let a = c.before.before.before.before.before.before.before.before.before.before.args in
+    let a = c.args in
     line_told a.r a.log.now a.e a.line.now
-    c.before.before.before.before.before.fed.ensures
-    c.before.before.before.before.before.before.wrapping-add-u64.ensures
-    c.before.before.before.before.before.before.before.place.ensures.0
-    c.before.before.write.ensures
+    c.fed-f.ensures
+    c.wrapping_add_u64-count.ensures
+    c.place-post.ensures.0
+    c.write-bytes.ensures
 
 pub told_spec : {M : Type 1} → statement M
 told_spec =
     tie.close
-    (tie.spec
-    place-requires
-    cast-post
-    wrapping-add-u64-requires
-    fed-requires
-    write-requires
-    same_length
-    returns)
+    (tie.spec place-post-requires overflow_cast-post wrapping_add_u64-count-requires fed-f-requires write-bytes-requires shape_of-line returns)

@@ -5,18 +5,18 @@ use Rattle.playing_line.proofs.Laid.{whole_line}
 use Rattle.playing_calls.proofs.write.Statement.{statement}
 use Rattle.playing_calls.proofs.write.Tie as tie
 
-words-requires : tie.Need-words-requires
-words-requires c κs = search rules
+words-p-requires : tie.Need-words-p-requires
+words-p-requires c κs = search rules
 
-same_length : tie.Need-same-length
-same_length c = search rules
+shape_of-out : tie.Need-shape_of-out
+shape_of-out c = search rules
 
 returns : tie.Need-returns
 returns c =
-    let a = c.before.before.before.before.before.args in
-    let w = c.before.before.words.ensures in
-    let p = c.before.before.before.before.before.requires in
+    let a = c.args in
+    let w = c.words-p.ensures in
+    let p = c.requires in
     whole_line a.count a.post a.a a.out.now (omega (arith, line_short a.count a.post a.a (search rules) (omega (arith, p.1)) w.1, p.0)) w.0
 
 pub write_spec : {M : Type 1} → statement M
-write_spec = tie.close (tie.spec words-requires same_length returns)
+write_spec = tie.close (tie.spec words-p-requires shape_of-out returns)

@@ -6,8 +6,8 @@ use borrow.Author.Rules.{rules}
 use Rattle.playing_line.proofs.answer_word.Statement.{statement}
 use Rattle.playing_line.proofs.answer_word.Tie as tie
 
-enum-known-a : tie.Need-enum-known-a
-enum-known-a c = search rules
+enum_known-a : tie.Need-enum_known-a
+enum_known-a c = search rules
 
 slice-aggregate-named : tie.Need-slice-aggregate-named
 slice-aggregate-named c = search rules
@@ -15,50 +15,39 @@ slice-aggregate-named c = search rules
 named-requires : tie.Need-named-requires
 named-requires c κs = search rules
 
-enum-known-a-2 : tie.Need-enum-known-a-2
-enum-known-a-2 c = search rules
+enum_known-a-in-Refused-1 : tie.Need-enum_known-a-in-Refused-1
+enum_known-a-in-Refused-1 c = search rules
 
-refusal-number-requires : tie.Need-refusal-number-requires
-refusal-number-requires c κs = search rules
+refusal_number-requires : tie.Need-refusal_number-requires
+refusal_number-requires c κs = search rules
 
-refusal-start-requires : tie.Need-refusal-start-requires
-refusal-start-requires c κs = search rules
+refusal_start-requires : tie.Need-refusal_start-requires
+refusal_start-requires c κs = search rules
 
 refused-requires : tie.Need-refused-requires
 refused-requires c κs = search rules
 
-same_length : tie.Need-same-length
-same_length c = search rules
+shape_of-out-in-Findings : tie.Need-shape_of-out-in-Findings
+shape_of-out-in-Findings c = search rules
 
-returns : tie.Need-returns
-returns c =
-    let a = c.before.before.before.before.before.before.before.before.before.args in
-    let e = sym c.before.before.before.before.before.before.a.given.1 in
-    (like a.out.now a.pen (ap answer_words e) c.before.before.named.ensures, subst InWords e (search rules))
+returns-in-Findings : tie.Need-returns-in-Findings
+returns-in-Findings c =
+    let a = c.args in
+    let e = sym c.in-Findings.is in
+    (like a.out.now a.pen (ap answer_words e) c.named.ensures, subst InWords e (search rules))
 
-same-length-2 : tie.Need-same-length-2
-same-length-2 c = search rules
+shape_of-out-in-Refused : tie.Need-shape_of-out-in-Refused
+shape_of-out-in-Refused c = search rules
 
-returns-2 : tie.Need-returns-2
-returns-2 c =
-    let a = c.before.before.before.before.before.before.before.before.before.before.args in
-    let e = sym c.before.before.before.before.before.before.before.a2.given.1 in
-    let n = c.before.before.before.before.refusal-number.ensures in
-    let s = c.before.before.before.refusal-start.ensures in
-    (like a.out.now a.pen (ap₂ refused_words n s ∙ ap answer_words e) c.before.before.refused.ensures, subst InWords e (search rules, search rules))
+returns-in-Refused : tie.Need-returns-in-Refused
+returns-in-Refused c =
+    let a = c.args in
+    let e = sym c.in-Refused.is in
+    let n = c.refusal_number.ensures in
+    let s = c.refusal_start.ensures in
+    (like a.out.now a.pen (ap₂ refused_words n s ∙ ap answer_words e) c.refused.ensures, subst InWords e (search rules, search rules))
 
 pub answer_word_spec : {M : Type 1} → statement M
 answer_word_spec =
     tie.close
-    (tie.spec
-    enum-known-a
-    slice-aggregate-named
-    named-requires
-    enum-known-a-2
-    refusal-number-requires
-    refusal-start-requires
-    refused-requires
-    same_length
-    returns
-    same-length-2
-    returns-2)
+    (tie.spec enum_known-a named-requires enum_known-a-in-Refused-1 refusal_number-requires refusal_start-requires refused-requires shape_of-out-in-Findings returns-in-Findings shape_of-out-in-Refused returns-in-Refused)

@@ -7,19 +7,19 @@ use borrow.Author.Rules.{rules}
 use Rattle.playing_line.proofs.head.Statement.{statement}
 use Rattle.playing_line.proofs.head.Tie as tie
 
-put-decimal-requires : tie.Need-put-decimal-requires
-put-decimal-requires c κs = search rules
+put_decimal-p-requires : tie.Need-put_decimal-p-requires
+put_decimal-p-requires c κs = search rules
 
-post-word-requires : tie.Need-post-word-requires
-post-word-requires c κs = search rules
+post_word-requires : tie.Need-post_word-requires
+post_word-requires c κs = search rules
 
-same_length : tie.Need-same-length
-same_length c = search rules
+shape_of-out : tie.Need-shape_of-out
+shape_of-out c = search rules
 
 returns : tie.Need-returns
 returns c =
-    let a = c.before.before.before.before.before.before.before.before.before.args in
-    then a.out.now new_pen (numeral 10 a.count ∷ []) (post_words a.post a.dash) (one _ _ _ c.before.before.before.before.before.before.put-decimal.ensures) c.before.before.post-word.ensures
+    let a = c.args in
+    then a.out.now new_pen (numeral 10 a.count ∷ []) (post_words a.post a.dash) (one _ _ _ c.put_decimal-p.ensures) c.post_word.ensures
 
 pub head_spec : {M : Type 1} → statement M
-head_spec = tie.close (tie.spec put-decimal-requires post-word-requires same_length returns)
+head_spec = tie.close (tie.spec put_decimal-p-requires post_word-requires shape_of-out returns)

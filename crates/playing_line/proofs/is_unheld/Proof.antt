@@ -7,21 +7,21 @@ use borrow.Author.Rules.{rules}
 use Rattle.playing_line.proofs.is_unheld.Statement.{statement}
 use Rattle.playing_line.proofs.is_unheld.Tie as tie
 
-enum_told : tie.Need-enum-told
-enum_told c = search rules
+enum_told-1 : tie.Need-enum_told-1
+enum_told-1 c = search rules
 
-enum-known-a : tie.Need-enum-known-a
-enum-known-a c = search rules
+enum_known-a : tie.Need-enum_known-a
+enum_known-a c = search rules
 
-refusal-number-requires : tie.Need-refusal-number-requires
-refusal-number-requires c κs = search rules
+refusal_number-requires : tie.Need-refusal_number-requires
+refusal_number-requires c κs = search rules
 
-returns : tie.Need-returns
-returns c = search rules
+returns-in-Findings : tie.Need-returns-in-Findings
+returns-in-Findings c = search rules
 
-returns-2 : tie.Need-returns-2
-returns-2 c = ap (λ (n : ℕ). eqb n 1) c.refusal-number.ensures ∙ sym (ap unheld c.before.before.a.given.1)
+returns-in-Refused : tie.Need-returns-in-Refused
+returns-in-Refused c = ap (λ (n : ℕ). eqb n 1) c.refusal_number.ensures ∙ sym (ap unheld c.in-Refused.is)
 
 pub is_unheld_spec : {M : Type 1} → statement M
 is_unheld_spec =
-    tie.close (tie.spec enum_told enum-known-a refusal-number-requires returns returns-2)
+    tie.close (tie.spec enum_told-1 enum_known-a refusal_number-requires returns-in-Findings returns-in-Refused)

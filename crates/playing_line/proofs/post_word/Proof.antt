@@ -12,13 +12,13 @@ slice-aggregate-put c = search rules
 put-requires : tie.Need-put-requires
 put-requires c κs = search rules
 
-same_length : tie.Need-same-length
-same_length c = search rules
+shape_of-out-then-dash : tie.Need-shape_of-out-then-dash
+shape_of-out-then-dash c = search rules
 
-returns : tie.Need-returns
-returns c =
-    let a = c.before.before.before.before.before.before.before.args in
-    like a.out.now a.pen (ap (post_words a.post) (sym c.before.before.before.before.before.if1.true)) (one a.out.now a.pen _ c.before.before.put.ensures)
+returns-then-dash : tie.Need-returns-then-dash
+returns-then-dash c =
+    let a = c.args in
+    like a.out.now a.pen (ap (post_words a.post) (sym c.if-dash.true)) (one a.out.now a.pen _ c.put.ensures)
 
 slice-aggregate-named : tie.Need-slice-aggregate-named
 slice-aggregate-named c = search rules
@@ -26,23 +26,15 @@ slice-aggregate-named c = search rules
 named-requires : tie.Need-named-requires
 named-requires c κs = search rules
 
-same-length-2 : tie.Need-same-length-2
-same-length-2 c = search rules
+shape_of-out : tie.Need-shape_of-out
+shape_of-out c = search rules
 
-returns-2 : tie.Need-returns-2
-returns-2 c =
-    let a = c.before.before.before.before.before.before.before.args in
-    like a.out.now a.pen (ap (post_words a.post) (sym c.before.before.before.before.before.if1.false)) c.before.before.named.ensures
+returns : tie.Need-returns
+returns c =
+    let a = c.args in
+    like a.out.now a.pen (ap (post_words a.post) (sym c.if-dash.false)) c.named.ensures
 
 pub post_word_spec : {M : Type 1} → statement M
 post_word_spec =
     tie.close
-    (tie.spec
-    slice-aggregate-put
-    put-requires
-    same_length
-    returns
-    slice-aggregate-named
-    named-requires
-    same-length-2
-    returns-2)
+    (tie.spec put-requires shape_of-out-then-dash returns-then-dash named-requires shape_of-out returns)

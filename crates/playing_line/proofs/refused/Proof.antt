@@ -29,41 +29,33 @@ started n s h = ap (behind n s) (sym (eq-eqb n 5 h))
 slice-aggregate-named : tie.Need-slice-aggregate-named
 slice-aggregate-named c = search rules
 
-named-requires : tie.Need-named-requires
-named-requires c κs = search rules
+named-p-requires : tie.Need-named-p-requires
+named-p-requires c κs = search rules
 
-same_length : tie.Need-same-length
-same_length c = search rules
+shape_of-out-then-n-ne5 : tie.Need-shape_of-out-then-n-ne5
+shape_of-out-then-n-ne5 c = search rules
 
-returns : tie.Need-returns
-returns c =
-    let a = c.before.before.before.before.before.before.before.args in
-    like a.out.now a.pen (plain a.n a.start c.if1.true) c.before.before.before.named.ensures
+returns-then-n-ne5 : tie.Need-returns-then-n-ne5
+returns-then-n-ne5 c =
+    let a = c.args in
+    like a.out.now a.pen (plain a.n a.start c.if-n-ne5.true) c.named-p.ensures
 
 slice-aggregate-named-2 : tie.Need-slice-aggregate-named-2
 slice-aggregate-named-2 c = search rules
 
-named-requires-2 : tie.Need-named-requires-2
-named-requires-2 c κs = search rules
+named-requires : tie.Need-named-requires
+named-requires c κs = search rules
 
-same-length-2 : tie.Need-same-length-2
-same-length-2 c = search rules
+shape_of-out : tie.Need-shape_of-out
+shape_of-out c = search rules
 
-returns-2 : tie.Need-returns-2
-returns-2 c =
-    let a = c.before.before.before.before.before.before.before.before.before.before.before.before.args in
-    like a.out.now a.pen (started a.n a.start c.before.before.before.before.before.if1.false)
-    (then a.out.now a.pen (name a.n) (named_words (space ∷ []) a.start) c.before.before.before.before.before.before.before.before.named.ensures c.before.before.named2.ensures)
+returns : tie.Need-returns
+returns c =
+    let a = c.args in
+    like a.out.now a.pen (started a.n a.start c.if-n-ne5.false)
+    (then a.out.now a.pen (name a.n) (named_words (space ∷ []) a.start) c.named-p.ensures c.named.ensures)
 
 pub refused_spec : {M : Type 1} → statement M
 refused_spec =
     tie.close
-    (tie.spec
-    slice-aggregate-named
-    named-requires
-    same_length
-    returns
-    slice-aggregate-named-2
-    named-requires-2
-    same-length-2
-    returns-2)
+    (tie.spec named-p-requires shape_of-out-then-n-ne5 returns-then-n-ne5 named-requires shape_of-out returns)

@@ -11,39 +11,33 @@ use borrow.Author.Rules.{rules}
 use Rattle.playing_line.proofs.words.Statement.{statement}
 use Rattle.playing_line.proofs.words.Tie as tie
 
-is-unheld-requires : tie.Need-is-unheld-requires
-is-unheld-requires c κs = search rules
+is_unheld-dash-requires : tie.Need-is_unheld-dash-requires
+is_unheld-dash-requires c κs = search rules
 
-head-requires : tie.Need-head-requires
-head-requires c κs = search rules
+head-p-requires : tie.Need-head-p-requires
+head-p-requires c κs = search rules
 
-answer-word-requires : tie.Need-answer-word-requires
-answer-word-requires c κs = search rules
+answer_word-q-requires : tie.Need-answer_word-q-requires
+answer_word-q-requires c κs = search rules
 
-line-end-requires : tie.Need-line-end-requires
-line-end-requires c κs = search rules
+line_end-requires : tie.Need-line_end-requires
+line_end-requires c κs = search rules
 
-same_length : tie.Need-same-length
-same_length c = search rules
+shape_of-out : tie.Need-shape_of-out
+shape_of-out c = search rules
 
 returns : tie.Need-returns
 returns c =
-    let a = c.before.before.before.before.before.before.before.before.before.before.before.before.before.before.args in
+    let a = c.args in
     let h : Bool → List (List ℕ) = λ b. (numeral 10 a.count ∷ []) ++ post_words a.post b in
-    let w = c.before.before.before.before.before.before.answer_word.ensures in
-    let d = c.before.before.before.before.before.before.before.before.before.before.before.before.is-unheld in (
+    let w = c.answer_word-q.ensures in
+    let d = c.is_unheld-dash in (
       like a.out.now new_pen (ap (λ (b : Bool). h b ++ (answer_words a.a ++ end_words)) d.ensures)
-          (then a.out.now new_pen (h d.result) (answer_words a.a ++ end_words) c.before.before.before.before.before.before.before.before.before.before.head.ensures (then _ _ (answer_words a.a) end_words w.0 c.before.before.line-end.ensures)),
+          (then a.out.now new_pen (h d.result) (answer_words a.a ++ end_words) c.head-p.ensures (then _ _ (answer_words a.a) end_words w.0 c.line_end.ensures)),
       w.1,
     )
 
 pub words_spec : {M : Type 1} → statement M
 words_spec =
     tie.close
-    (tie.spec
-    is-unheld-requires
-    head-requires
-    answer-word-requires
-    line-end-requires
-    same_length
-    returns)
+    (tie.spec is_unheld-dash-requires head-p-requires answer_word-q-requires line_end-requires shape_of-out returns)

@@ -5,34 +5,34 @@ use borrow.Author.Rules.{rules}
 use Rattle.playing_setups.proofs.set_up.Statement.{statement}
 use Rattle.playing_setups.proofs.set_up.Tie as tie
 
-enum_told : tie.Need-enum-told
-enum_told c = search rules
+enum_told-1 : tie.Need-enum_told-1
+enum_told-1 c = search rules
 
 settle-requires : tie.Need-settle-requires
 settle-requires c κs = search rules
 
-enum-told-2 : tie.Need-enum-told-2
-enum-told-2 c = search rules
+enum_told-in-Records : tie.Need-enum_told-in-Records
+enum_told-in-Records c = search rules
 
-enum-known-course : tie.Need-enum-known-course
-enum-known-course c = search rules
+enum_known-course : tie.Need-enum_known-course
+enum_known-course c = search rules
 
-returns : tie.Need-returns
-returns c =
-    let a = c.before.before.before.args in
-    c.settle.ensures ∙ set_up_on_lem a.r a.post a.channel a.limits _ c.before.enum_told.given.1
+returns-in-SetUps : tie.Need-returns-in-SetUps
+returns-in-SetUps c =
+    let a = c.args in
+    c.settle.ensures ∙ set_up_on_lem a.r a.post a.channel a.limits _ c.in-SetUps.is
 
-returns-2 : tie.Need-returns-2
-returns-2 c =
-    let a = c.before.before.args in
-    set_up_on_lem a.r a.post a.channel a.limits _ c.enum-told2.given.1
+returns-in-Records : tie.Need-returns-in-Records
+returns-in-Records c =
+    let a = c.args in
+    set_up_on_lem a.r a.post a.channel a.limits _ c.in-Records.is
 
-returns-3 : tie.Need-returns-3
-returns-3 c =
-    let a = c.before.before.before.args in
-    set_up_on_lem a.r a.post a.channel a.limits _ c.before.course.given.1
+returns-in-Refused : tie.Need-returns-in-Refused
+returns-in-Refused c =
+    let a = c.args in
+    set_up_on_lem a.r a.post a.channel a.limits _ c.in-Refused.is
 
 pub set_up_spec : {M : Type 1} → statement M
 set_up_spec =
     tie.close
-    (tie.spec enum_told settle-requires enum-told-2 enum-known-course returns returns-2 returns-3)
+    (tie.spec enum_told-1 settle-requires enum_told-in-Records enum_known-course returns-in-SetUps returns-in-Records returns-in-Refused)

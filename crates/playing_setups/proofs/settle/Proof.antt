@@ -4,25 +4,25 @@ use borrow.Author.Rules.{rules}
 use Rattle.playing_setups.proofs.settle.Statement.{statement}
 use Rattle.playing_setups.proofs.settle.Tie as tie
 
-set-up-plain-requires : tie.Need-set-up-plain-requires
-set-up-plain-requires c κs = search rules
+set_up_plain-s-requires : tie.Need-set_up_plain-s-requires
+set_up_plain-s-requires c κs = search rules
 
-enum_told : tie.Need-enum-told
-enum_told c = search rules
+enum_told-1 : tie.Need-enum_told-1
+enum_told-1 c = search rules
 
-enum-known-answer : tie.Need-enum-known-answer
-enum-known-answer c = search rules
+enum_known-answer : tie.Need-enum_known-answer
+enum_known-answer c = search rules
 
-returns : tie.Need-returns
-returns c =
-    let s = c.before.before.before.set-up-plain in
-    settled_by c.before.before.before.before.args.r.count s.result _ _ s.ensures.0 c.enum_told.given.1
+returns-in-Done : tie.Need-returns-in-Done
+returns-in-Done c =
+    let s = c.set_up_plain-s in
+    settled_by c.args.r.count s.result _ _ s.ensures.0 c.in-Done.is
 
-returns-2 : tie.Need-returns-2
-returns-2 c =
-    let s = c.before.before.before.before.set-up-plain in
-    settled_by c.before.before.before.before.before.args.r.count s.result _ _ s.ensures.0 c.before.answer.given.1
+returns-in-Refused : tie.Need-returns-in-Refused
+returns-in-Refused c =
+    let s = c.set_up_plain-s in
+    settled_by c.args.r.count s.result _ _ s.ensures.0 c.in-Refused.is
 
 pub settle_spec : {M : Type 1} → statement M
 settle_spec =
-    tie.close (tie.spec set-up-plain-requires enum_told enum-known-answer returns returns-2)
+    tie.close (tie.spec set_up_plain-s-requires enum_told-1 enum_known-answer returns-in-Done returns-in-Refused)

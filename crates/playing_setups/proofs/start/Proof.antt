@@ -6,11 +6,11 @@ use borrow.Author.Rules.{rules}
 use Rattle.playing_setups.proofs.start.Statement.{statement}
 use Rattle.playing_setups.proofs.start.Tie as tie
 
-empty-requires : tie.Need-empty-requires
-empty-requires c κs = search rules
+empty-table-requires : tie.Need-empty-table-requires
+empty-table-requires c κs = search rules
 
 returns : tie.Need-returns
-returns c = ap (λ (t : Table). record { table = t; count = 0; course = SetUps }) c.empty.ensures.0
+returns c = ap (λ (t : Table). record { table = t; count = 0; course = SetUps }) c.empty-table.ensures.0
 
 pub start_spec : {M : Type 1} → statement M
-start_spec = tie.close (tie.spec empty-requires returns)
+start_spec = tie.close (tie.spec empty-table-requires returns)

@@ -4,14 +4,14 @@ use borrow.Author.Tests.{eq-eqb, ne_eqb}
 use Rattle.playing_words.proofs.course_of.Statement.{statement}
 use Rattle.playing_words.proofs.course_of.Tie as tie
 
+returns-then-n-eq0 : tie.Need-returns-then-n-eq0
+returns-then-n-eq0 c = rw (eq-eqb _ 0 c.if-n-eq0.true)
+
+returns-then-n-eq1 : tie.Need-returns-then-n-eq1
+returns-then-n-eq1 c = rw (ne_eqb _ 0 c.if-n-eq0.false, eq-eqb _ 1 c.if-n-eq1.true)
+
 returns : tie.Need-returns
-returns c = rw (eq-eqb _ 0 c.if1.true)
-
-returns-2 : tie.Need-returns-2
-returns-2 c = rw (ne_eqb _ 0 c.before.if1.false, eq-eqb _ 1 c.if2.true)
-
-returns-3 : tie.Need-returns-3
-returns-3 c = rw (ne_eqb _ 0 c.before.before.if1.false, ne_eqb _ 1 c.before.if2.false, c.refusal-at.ensures)
+returns c = rw (ne_eqb _ 0 c.if-n-eq0.false, ne_eqb _ 1 c.if-n-eq1.false, c.refusal_at.ensures)
 
 pub course_of_spec : {M : Type 1} → statement M
-course_of_spec = tie.close (tie.spec returns returns-2 (λ c κs. search rules) returns-3)
+course_of_spec = tie.close (tie.spec returns-then-n-eq0 returns-then-n-eq1 (λ c κs. search rules) returns)

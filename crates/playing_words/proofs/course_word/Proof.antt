@@ -3,10 +3,10 @@ use borrow.Author.Rules.{rules}
 use Rattle.playing_words.proofs.course_word.Statement.{statement}
 use Rattle.playing_words.proofs.course_word.Tie as tie
 
-returns-3 : tie.Need-returns-3
-returns-3 c = rw c.before.before.c.given.1 c.refusal-word.ensures
+returns-in-Refused : tie.Need-returns-in-Refused
+returns-in-Refused c = rw c.in-Refused.is c.refusal_word.ensures
 
 pub course_word_spec : {M : Type 1} → statement M
 course_word_spec =
     tie.close
-    (tie.spec (λ c. search rules) (λ c. search rules) (λ c. search rules) (λ c κs. search rules) (λ c. search rules) (λ c. search rules) (λ c. search rules) returns-3)
+    (tie.spec (λ c. search rules) (λ c. search rules) (λ c. search rules) (λ c κs. search rules) (λ c. search rules) (λ c. search rules) (λ c. search rules) returns-in-Refused)

@@ -9,28 +9,28 @@ use Rattle.playing_words.proofs.Cases.{line_by_lem}
 use Rattle.playing_words.proofs.line_of.Statement.{statement}
 use Rattle.playing_words.proofs.line_of.Tie as tie
 
-returns : tie.Need-returns
+returns-then-next-lt1 : tie.Need-returns-then-next-lt1
 unfolding line_by line_left next_after
-returns c =
-    let a = c.before.before.before.before.before.args in
-    rw (lt-ltb (length a.next.now) 1 (omega arith), c.refusal-word.ensures) (refl, refl, refl)
+returns-then-next-lt1 c =
+    let a = c.args in
+    rw (lt-ltb (length a.next.now) 1 (omega arith), c.refusal_word.ensures) (refl, refl, refl)
 
-returns-2 : tie.Need-returns-2
-returns-2 c =
+returns : tie.Need-returns
+returns c =
     let t = c.before.before in
     let n = t.before.before.before.before in
-    let a = n.before.before.before.before.before.before.before.args in
-    line_by_lem a.r a.log.now a.at a.line.now a.next.now (omega arith) n.before.before.replay-of.ensures n.next-line.ensures t.told.ensures
+    let a = n.args in
+    line_by_lem a.r a.log.now a.at a.line.now a.next.now (omega arith) n.replay_of.ensures n.next_line-x.ensures t.told.ensures
 
 pub line_of_spec : {M : Type 1} → statement M
 line_of_spec =
     tie.close
     (tie.spec
     (λ c κs. search rules)
-    returns
+    returns-then-next-lt1
     (λ c κs. search rules)
     (λ c κs. search rules)
     (λ c κs. search rules)
     (λ c. search rules)
     (λ c. search rules)
-    returns-2)
+    returns)

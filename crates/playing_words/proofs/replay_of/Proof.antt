@@ -4,7 +4,7 @@ use Rattle.playing_words.proofs.replay_of.Statement.{statement}
 use Rattle.playing_words.proofs.replay_of.Tie as tie
 
 returns : tie.Need-returns
-returns c = rw c.course-of.ensures
+returns c = rw c.course_of-course.ensures
 
 pub replay_of_spec : {M : Type 1} → statement M
 replay_of_spec = tie.close (tie.spec (λ c κs. search rules) returns)

@@ -8,29 +8,29 @@ use Rattle.post.proofs.frame.Tie as tie
 stamp-requires : tie.Need-stamp-requires
 stamp-requires c κs = search rules
 
-aged-requires : tie.Need-aged-requires
-aged-requires c κs = search rules
+aged-g-requires : tie.Need-aged-g-requires
+aged-g-requires c κs = search rules
 
-any-findings-requires : tie.Need-any-findings-requires
-any-findings-requires c κs = search rules
+any_findings-requires : tie.Need-any_findings-requires
+any_findings-requires c κs = search rules
 
-message-findings-requires : tie.Need-message-findings-requires
-message-findings-requires c κs = search rules
+message_findings-requires : tie.Need-message_findings-requires
+message_findings-requires c κs = search rules
 
-add-findings : tie.Need-overflow-add-findings
-add-findings c = search rules
+overflow_add-findings : tie.Need-overflow_add-findings
+overflow_add-findings c = search rules
 
-slot-at-requires : tie.Need-slot-at-requires
-slot-at-requires c κs = search rules
+slot_at-slot-requires : tie.Need-slot_at-slot-requires
+slot_at-slot-requires c κs = search rules
 
-with-frame-requires : tie.Need-with-frame-requires
-with-frame-requires c κs = search rules
+with_frame-f-requires : tie.Need-with_frame-f-requires
+with_frame-f-requires c κs = search rules
 
-with-counts-requires : tie.Need-with-counts-requires
-with-counts-requires c κs = search rules
+with_counts-counted-requires : tie.Need-with_counts-counted-requires
+with_counts-counted-requires c κs = search rules
 
-place-by-requires : tie.Need-place-by-requires
-place-by-requires c κs = search rules
+place_by-requires : tie.Need-place_by-requires
+place_by-requires c κs = search rules
 
 returns : tie.Need-returns
 unfolding after_frame aged_to
@@ -40,30 +40,20 @@ returns c =
     let slot = framed.before in
     let found = slot.before in
     let stamped = found.before.before.before in
-    let a = stamped.before.args in
+    let a = stamped.args in
     frame_both a.h a.time a.kind a.raw
     (rw (
-      c.place-by.ensures,
-      counts.with-counts.ensures,
-      framed.with-frame.ensures,
-      slot.slot_at.ensures,
-      found.before.any-findings.ensures.0,
-      found.message-findings.ensures.0,
-      found.before.before.aged.ensures,
+      c.place_by.ensures,
+      counts.with_counts-counted.ensures,
+      framed.with_frame-f.ensures,
+      slot.slot_at-slot.ensures,
+      found.any_findings.ensures.0,
+      found.message_findings.ensures.0,
+      found.aged-g.ensures,
       stamped.stamp.ensures,
     ))
 
 pub frame_spec : {M : Type 1} → statement M
 frame_spec =
     tie.close
-    (tie.spec
-    stamp-requires
-    aged-requires
-    any-findings-requires
-    message-findings-requires
-    add-findings
-    slot-at-requires
-    with-frame-requires
-    with-counts-requires
-    place-by-requires
-    returns)
+    (tie.spec stamp-requires aged-g-requires any_findings-requires message_findings-requires overflow_add-findings slot_at-slot-requires with_frame-f-requires with_counts-counted-requires place_by-requires returns)

@@ -3,14 +3,14 @@ use borrow.Author.Rules.{rules}
 use Rattle.post.proofs.new_post.Statement.{statement}
 use Rattle.post.proofs.new_post.Tie as tie
 
-no-slot-requires : tie.Need-no-slot-requires
-no-slot-requires c κs = search rules
+no_slot-none-requires : tie.Need-no_slot-none-requires
+no_slot-none-requires c κs = search rules
 
-no-session-requires : tie.Need-no-session-requires
-no-session-requires c κs = search rules
+no_session-session-requires : tie.Need-no_session-session-requires
+no_session-session-requires c κs = search rules
 
 returns : tie.Need-returns
-returns c = rw (c.no-session.ensures, c.before.no_slot.ensures)
+returns c = rw (c.no_session-session.ensures, c.no_slot-none.ensures)
 
 pub new_post_spec : {M : Type 1} → statement M
-new_post_spec = tie.close (tie.spec no-slot-requires no-session-requires returns)
+new_post_spec = tie.close (tie.spec no_slot-none-requires no_session-session-requires returns)

@@ -8,17 +8,17 @@ use Rattle.post.proofs.tick.Tie as tie
 stamp-requires : tie.Need-stamp-requires
 stamp-requires c κs = search rules
 
-aged-requires : tie.Need-aged-requires
-aged-requires c κs = search rules
+aged-g-requires : tie.Need-aged-g-requires
+aged-g-requires c κs = search rules
 
-no-slot-requires : tie.Need-no-slot-requires
-no-slot-requires c κs = search rules
+no_slot-slot-requires : tie.Need-no_slot-slot-requires
+no_slot-slot-requires c κs = search rules
 
-any-findings-requires : tie.Need-any-findings-requires
-any-findings-requires c κs = search rules
+any_findings-findings-requires : tie.Need-any_findings-findings-requires
+any_findings-findings-requires c κs = search rules
 
-with-counts-requires : tie.Need-with-counts-requires
-with-counts-requires c κs = search rules
+with_counts-counted-requires : tie.Need-with_counts-counted-requires
+with_counts-counted-requires c κs = search rules
 
 returns : tie.Need-returns
 unfolding after_tick
@@ -26,11 +26,11 @@ returns c =
     let slot = c.before in
     let found = slot.before in
     let stamped = found.before.before in
-    let a = stamped.before.args in
+    let a = stamped.args in
     tick_both a.h a.time
-    (rw (c.with-counts.ensures, slot.no_slot.ensures, found.any-findings.ensures.0, found.before.aged.ensures, stamped.stamp.ensures))
+    (rw (c.with_counts-counted.ensures, slot.no_slot-slot.ensures, found.any_findings-findings.ensures.0, found.aged-g.ensures, stamped.stamp.ensures))
 
 pub tick_spec : {M : Type 1} → statement M
 tick_spec =
     tie.close
-    (tie.spec stamp-requires aged-requires any-findings-requires no-slot-requires with-counts-requires returns)
+    (tie.spec stamp-requires aged-g-requires any_findings-findings-requires no_slot-slot-requires with_counts-counted-requires returns)

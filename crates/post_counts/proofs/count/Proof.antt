@@ -11,76 +11,58 @@ invariant-loop findings counts q₀ bits₀ k₀ q bits k = (k ≤ count_count) 
 abbrev decreases-loop : tie.decreases-loop
 decreases-loop findings counts q₀ bits₀ k₀ q bits k = count_count - k
 
-array-read-wrapping-add-u32 : tie.Need-array-read-wrapping-add-u32 invariant-loop decreases-loop
-array-read-wrapping-add-u32 c = search rules
+bounds-counts-0 : tie.Need-bounds-counts-0 invariant-loop decreases-loop
+bounds-counts-0 c = search rules
 
-wrapping-add-u32-requires : tie.Need-wrapping-add-u32-requires invariant-loop decreases-loop
-wrapping-add-u32-requires c κs = search rules
+wrapping_add_u32-requires : tie.Need-wrapping_add_u32-requires invariant-loop decreases-loop
+wrapping_add_u32-requires c κs = search rules
 
-array-write-q : tie.Need-array-write-q invariant-loop decreases-loop
-array-write-q c = search rules
+bounds-q-0 : tie.Need-bounds-q-0 invariant-loop decreases-loop
+bounds-q-0 c = search rules
+
+returns-then-findings-eq0 : tie.Need-returns-then-findings-eq0 invariant-loop decreases-loop
+returns-then-findings-eq0 c =
+    let cs = c.args.t1 in
+    rw c.wrapping_add_u32.ensures (nothing_found cs (search rules) ∙ ap (λ (n : ℕ). counted n cs) (sym c.if-findings-eq0.true))
+
+overflow_mul-bits : tie.Need-overflow_mul-bits invariant-loop decreases-loop
+overflow_mul-bits c = search rules
+
+overflow_add-bits : tie.Need-overflow_add-bits invariant-loop decreases-loop
+overflow_add-bits c = search rules
+
+loop-k-init : tie.Need-loop-k-init invariant-loop decreases-loop
+loop-k-init c = search rules
+
+offset_bounds-counts-k : tie.Need-offset_bounds-counts-k invariant-loop decreases-loop
+offset_bounds-counts-k c = search rules
+
+bounds-counts-k : tie.Need-bounds-counts-k invariant-loop decreases-loop
+bounds-counts-k c = search rules
+
+with_bit-requires : tie.Need-with_bit-requires invariant-loop decreases-loop
+with_bit-requires c κs = search rules
+
+offset_bounds-q-k : tie.Need-offset_bounds-q-k invariant-loop decreases-loop
+offset_bounds-q-k c = search rules
+
+bounds-q-k : tie.Need-bounds-q-k invariant-loop decreases-loop
+bounds-q-k c = search rules
+
+overflow_add-k : tie.Need-overflow_add-k invariant-loop decreases-loop
+overflow_add-k c = search rules
+
+loop-k-smaller : tie.Need-loop-k-smaller invariant-loop decreases-loop
+loop-k-smaller c = search rules
+
+loop-k-preserved : tie.Need-loop-k-preserved invariant-loop decreases-loop
+loop-k-preserved c = let a = c.before.before in (search rules, rw (a.loop-k.invariant.1, c.with_bit.ensures, a.loop-k.invariant.2) (bits_next a.loop-k.k _ _ (search rules)), rw (halves_next, a.loop-k.invariant.2))
 
 returns : tie.Need-returns invariant-loop decreases-loop
-returns c =
-    let cs = c.before.before.args.t1 in
-    rw c.wrapping-add-u32.ensures (nothing_found cs (search rules) ∙ ap (λ (n : ℕ). counted n cs) (sym c.before.if1.true))
-
-mul-bits : tie.Need-overflow-mul-bits invariant-loop decreases-loop
-mul-bits c = search rules
-
-add-bits : tie.Need-overflow-add-bits invariant-loop decreases-loop
-add-bits c = search rules
-
-loop-holds : tie.Need-loop-init invariant-loop decreases-loop
-loop-holds c = search rules
-
-mul-with-bit : tie.Need-overflow-mul-with-bit invariant-loop decreases-loop
-mul-with-bit c = search rules
-
-array-read-with-bit : tie.Need-array-read-with-bit invariant-loop decreases-loop
-array-read-with-bit c = search rules
-
-with-bit-requires : tie.Need-with-bit-requires invariant-loop decreases-loop
-with-bit-requires c κs = search rules
-
-mul-q : tie.Need-overflow-mul-q invariant-loop decreases-loop
-mul-q c = search rules
-
-array-write-q-2 : tie.Need-array-write-q-2 invariant-loop decreases-loop
-array-write-q-2 c = search rules
-
-add-k : tie.Need-overflow-add-k invariant-loop decreases-loop
-add-k c = search rules
-
-loop-less : tie.Need-loop-smaller invariant-loop decreases-loop
-loop-less c = search rules
-
-loop-again : tie.Need-loop-preserved invariant-loop decreases-loop
-loop-again c = let a = c.before.before in (search rules, rw (a.loop.invariant.1, c.with-bit.ensures, a.loop.invariant.2) (bits_next a.loop.k _ _ (search rules)), rw (halves_next, a.loop.invariant.2))
-
-returns-2 : tie.Need-returns-2 invariant-loop decreases-loop
 unfolding counted
-returns-2 c = let a = c.before in a.loop.invariant.1 ∙ bits_all a.loop.k _ _ (search rules)
+returns c = let a = c.before in a.loop-k.invariant.1 ∙ bits_all a.loop-k.k _ _ (search rules)
 
 pub count_spec : {M : Type 1} → statement M
 count_spec =
     tie.close
-    (tie.spec
-    invariant-loop
-    decreases-loop
-    array-read-wrapping-add-u32
-    wrapping-add-u32-requires
-    array-write-q
-    returns
-    mul-bits
-    add-bits
-    loop-holds
-    mul-with-bit
-    array-read-with-bit
-    with-bit-requires
-    mul-q
-    array-write-q-2
-    add-k
-    loop-less
-    loop-again
-    returns-2)
+    (tie.spec invariant-loop decreases-loop bounds-counts-0 wrapping_add_u32-requires bounds-q-0 returns-then-findings-eq0 overflow_mul-bits overflow_add-bits loop-k-init offset_bounds-counts-k bounds-counts-k with_bit-requires offset_bounds-q-k bounds-q-k overflow_add-k loop-k-smaller loop-k-preserved returns)

@@ -4,29 +4,29 @@ use borrow.Author.Rules.{rules}
 use Rattle.post_findings.proofs.carrying_after.Statement.{statement}
 use Rattle.post_findings.proofs.carrying_after.Tie as tie
 
-cast-is-set : tie.Need-overflow-cast-is-set
-cast-is-set c = search rules
+overflow_cast-l : tie.Need-overflow_cast-l
+overflow_cast-l c = search rules
 
-is-set-requires : tie.Need-is-set-requires
-is-set-requires c κs = search rules
+is_set-requires : tie.Need-is_set-requires
+is_set-requires c κs = search rules
 
-cast-command-by : tie.Need-overflow-cast-command-by
-cast-command-by c = search rules
+overflow_cast-l-then-is_set : tie.Need-overflow_cast-l-then-is_set
+overflow_cast-l-then-is_set c = search rules
 
-command-by-requires : tie.Need-command-by-requires
-command-by-requires c κs = search rules
+command_by-f-requires : tie.Need-command_by-f-requires
+command_by-f-requires c κs = search rules
 
 carrying-requires : tie.Need-carrying-requires
 carrying-requires c κs = search rules
 
-returns : tie.Need-returns
-returns c =
+returns-then-is_set : tie.Need-returns-then-is_set
+returns-then-is_set c =
     let known = c.before.before.before in
-    rw (sym known.before.is_set.ensures ∙ known.if1.true, ← c.before.command-by.ensures) c.carrying.ensures
+    rw (sym known.is_set.ensures ∙ known.if-is_set.true, ← c.command_by-f.ensures) c.carrying.ensures
 
-returns-2 : tie.Need-returns-2
-returns-2 c = rw (sym c.before.is_set.ensures ∙ c.if1.false)
+returns : tie.Need-returns
+returns c = rw (sym c.is_set.ensures ∙ c.if-is_set.false)
 
 pub carrying_after_spec : {M : Type 1} → statement M
 carrying_after_spec =
-    tie.close (tie.spec cast-is-set is-set-requires cast-command-by command-by-requires carrying-requires returns returns-2)
+    tie.close (tie.spec overflow_cast-l is_set-requires overflow_cast-l-then-is_set command_by-f-requires carrying-requires returns-then-is_set returns)

@@ -5,26 +5,26 @@ use Rattle.rules.specs.After.{carrying_in}
 use Rattle.post_findings.proofs.carrying_session.Statement.{statement}
 use Rattle.post_findings.proofs.carrying_session.Tie as tie
 
-element-copy-out-l : tie.Need-element-copy-out-l
-element-copy-out-l c = search rules
+bounds-s-1 : tie.Need-bounds-s-1
+bounds-s-1 c = search rules
 
-is-set-requires : tie.Need-is-set-requires
-is-set-requires c κs = search rules
+is_set-requires : tie.Need-is_set-requires
+is_set-requires c κs = search rules
 
-carrying-after-requires : tie.Need-carrying-after-requires
-carrying-after-requires c κs = search rules
+carrying_after-requires : tie.Need-carrying_after-requires
+carrying_after-requires c κs = search rules
 
-returns : tie.Need-returns
+returns-then-is_set : tie.Need-returns-then-is_set
 unfolding carrying_in
-returns c =
+returns-then-is_set c =
     let opened = c.before in
-    rw (sym opened.before.is_set.ensures ∙ opened.if1.true) c.carrying-after.ensures
+    rw (sym opened.is_set.ensures ∙ opened.if-is_set.true) c.carrying_after.ensures
 
-returns-2 : tie.Need-returns-2
+returns-else-is_set : tie.Need-returns-else-is_set
 unfolding carrying_in
-returns-2 c = rw (sym c.before.is_set.ensures ∙ c.if1.false)
+returns-else-is_set c = rw (sym c.is_set.ensures ∙ c.if-is_set.false)
 
 pub carrying_session_spec : {M : Type 1} → statement M
 carrying_session_spec =
     tie.close
-    (tie.spec element-copy-out-l is-set-requires carrying-after-requires returns returns-2)
+    (tie.spec bounds-s-1 is_set-requires carrying_after-requires returns-then-is_set returns-else-is_set)

@@ -5,30 +5,30 @@ use Rattle.post_findings.proofs.Capping.{limit_known}
 use Rattle.post_findings.proofs.charge_limit.Statement.{statement}
 use Rattle.post_findings.proofs.charge_limit.Tie as tie
 
-cast-is-set : tie.Need-overflow-cast-is-set
-cast-is-set c = search rules
+overflow_cast-l : tie.Need-overflow_cast-l
+overflow_cast-l c = search rules
 
-is-set-requires : tie.Need-is-set-requires
-is-set-requires c κs = search rules
+is_set-requires : tie.Need-is_set-requires
+is_set-requires c κs = search rules
 
-cast-limits-by : tie.Need-overflow-cast-limits-by
-cast-limits-by c = search rules
+overflow_cast-l-then-is_set : tie.Need-overflow_cast-l-then-is_set
+overflow_cast-l-then-is_set c = search rules
 
-limits-by-requires : tie.Need-limits-by-requires
-limits-by-requires c κs = search rules
+limits_by-requires : tie.Need-limits_by-requires
+limits_by-requires c κs = search rules
 
 cap-requires : tie.Need-cap-requires
 cap-requires c κs = search rules
 
-returns : tie.Need-returns
-returns c =
+returns-then-is_set : tie.Need-returns-then-is_set
+returns-then-is_set c =
     let known = c.before.before.before in
-    let a = known.before.before.before.args in
-    limit_known (λ q. q.charge) a.most a.l (sym known.before.is_set.ensures ∙ known.if1.true) c.before.limits-by.ensures c.cap.ensures
+    let a = known.args in
+    limit_known (λ q. q.charge) a.most a.l (sym known.is_set.ensures ∙ known.if-is_set.true) c.limits_by.ensures c.cap.ensures
 
-returns-2 : tie.Need-returns-2
-returns-2 c = rw (sym c.before.is_set.ensures ∙ c.if1.false)
+returns-else-is_set : tie.Need-returns-else-is_set
+returns-else-is_set c = rw (sym c.is_set.ensures ∙ c.if-is_set.false)
 
 pub charge_limit_spec : {M : Type 1} → statement M
 charge_limit_spec =
-    tie.close (tie.spec cast-is-set is-set-requires cast-limits-by limits-by-requires cap-requires returns returns-2)
+    tie.close (tie.spec overflow_cast-l is_set-requires overflow_cast-l-then-is_set limits_by-requires cap-requires returns-then-is_set returns-else-is_set)

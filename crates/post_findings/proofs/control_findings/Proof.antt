@@ -5,17 +5,17 @@ use Rattle.rules.specs.After.{control_findings}
 use Rattle.post_findings.proofs.control_findings.Statement.{statement}
 use Rattle.post_findings.proofs.control_findings.Tie as tie
 
-is-set-requires : tie.Need-is-set-requires
-is-set-requires c κs = search rules
+is_set-requires : tie.Need-is_set-requires
+is_set-requires c κs = search rules
 
-negated-requires : tie.Need-negated-requires
-negated-requires c κs = search rules
+negated-closed-requires : tie.Need-negated-closed-requires
+negated-closed-requires c κs = search rules
 
-voltage-limit-requires : tie.Need-voltage-limit-requires
-voltage-limit-requires c κs = search rules
+voltage_limit-requires : tie.Need-voltage_limit-requires
+voltage_limit-requires c κs = search rules
 
-cast-above : tie.Need-overflow-cast-above
-cast-above c = search rules
+overflow_cast-above : tie.Need-overflow_cast-above
+overflow_cast-above c = search rules
 
 close-requires : tie.Need-close-requires
 close-requires c κs = search rules
@@ -35,8 +35,8 @@ both-requires-2 c κs = search rules
 flag-requires-2 : tie.Need-flag-requires-2
 flag-requires-2 c κs = search rules
 
-add-result : tie.Need-overflow-add-result
-add-result c = search rules
+overflow_add-result : tie.Need-overflow_add-result
+overflow_add-result c = search rules
 
 powered-requires-2 : tie.Need-powered-requires-2
 powered-requires-2 c κs = search rules
@@ -50,23 +50,23 @@ both-requires-3 c κs = search rules
 flag-requires-3 : tie.Need-flag-requires-3
 flag-requires-3 c κs = search rules
 
-add-result-2 : tie.Need-overflow-add-result-2
-add-result-2 c = search rules
+overflow_add-result-2 : tie.Need-overflow_add-result-2
+overflow_add-result-2 c = search rules
 
-lowers-badly-requires : tie.Need-lowers-badly-requires
-lowers-badly-requires c κs = search rules
+lowers_badly-requires : tie.Need-lowers_badly-requires
+lowers_badly-requires c κs = search rules
 
 flag-requires-4 : tie.Need-flag-requires-4
 flag-requires-4 c κs = search rules
 
-add-result-3 : tie.Need-overflow-add-result-3
-add-result-3 c = search rules
+overflow_add-result-3 : tie.Need-overflow_add-result-3
+overflow_add-result-3 c = search rules
 
 off-requires : tie.Need-off-requires
 off-requires c κs = search rules
 
-negated-requires-2 : tie.Need-negated-requires-2
-negated-requires-2 c κs = search rules
+negated-requires : tie.Need-negated-requires
+negated-requires c κs = search rules
 
 both-requires-4 : tie.Need-both-requires-4
 both-requires-4 c κs = search rules
@@ -74,8 +74,8 @@ both-requires-4 c κs = search rules
 flag-requires-5 : tie.Need-flag-requires-5
 flag-requires-5 c κs = search rules
 
-add-result-4 : tie.Need-overflow-add-result-4
-add-result-4 c = search rules
+overflow_add-result-4 : tie.Need-overflow_add-result-4
+overflow_add-result-4 c = search rules
 
 powered-requires-3 : tie.Need-powered-requires-3
 powered-requires-3 c κs = search rules
@@ -89,8 +89,8 @@ both-requires-5 c κs = search rules
 flag-requires-6 : tie.Need-flag-requires-6
 flag-requires-6 c κs = search rules
 
-add-result-5 : tie.Need-overflow-add-result-5
-add-result-5 c = search rules
+overflow_add-result-5 : tie.Need-overflow_add-result-5
+overflow_add-result-5 c = search rules
 
 returns : tie.Need-returns
 unfolding control_findings
@@ -103,64 +103,34 @@ returns c =
     let v = f1.before.before.before.before in (
       search (
         rules,
-        v.before.before.before.is_set.ensures,
-        v.before.before.negated.ensures,
-        v.voltage-limit.ensures,
-        f1.before.before.close.ensures,
-        f1.before.both.ensures,
+        v.is_set.ensures,
+        v.negated-closed.ensures,
+        v.voltage_limit.ensures,
+        f1.close.ensures,
+        f1.both.ensures,
         f1.flag.ensures.0,
-        f2.before.before.powered.ensures,
-        f2.before.both2.ensures,
-        f2.flag2.ensures.0,
-        f3.before.before.before.powered2.ensures,
-        f3.before.before.unready.ensures,
-        f3.before.both3.ensures,
-        f3.flag3.ensures.0,
-        f4.before.lowers-badly.ensures,
-        f4.flag4.ensures.0,
-        f5.before.before.before.off.ensures,
-        f5.before.before.negated2.ensures,
-        f5.before.both4.ensures,
-        f5.flag5.ensures.0,
-        c.before.before.before.powered3.ensures,
-        c.before.before.stopped.ensures,
-        c.before.both5.ensures,
-        c.flag6.ensures.0,
+        f2.powered.ensures,
+        f2.both-2.ensures,
+        f2.flag-2.ensures.0,
+        f3.powered-2.ensures,
+        f3.unready.ensures,
+        f3.both-3.ensures,
+        f3.flag-3.ensures.0,
+        f4.lowers_badly.ensures,
+        f4.flag-4.ensures.0,
+        f5.off.ensures,
+        f5.negated.ensures,
+        f5.both-4.ensures,
+        f5.flag-5.ensures.0,
+        c.powered-3.ensures,
+        c.stopped.ensures,
+        c.both-5.ensures,
+        c.flag-6.ensures.0,
       ),
-      omega (arith, f1.flag.ensures.1, f2.flag2.ensures.1, f3.flag3.ensures.1, f4.flag4.ensures.1, f5.flag5.ensures.1, c.flag6.ensures.1),
+      omega (arith, f1.flag.ensures.1, f2.flag-2.ensures.1, f3.flag-3.ensures.1, f4.flag-4.ensures.1, f5.flag-5.ensures.1, c.flag-6.ensures.1),
     )
 
 pub control_findings_spec : {M : Type 1} → statement M
 control_findings_spec =
     tie.close
-    (tie.spec
-    is-set-requires
-    negated-requires
-    voltage-limit-requires
-    cast-above
-    close-requires
-    both-requires
-    flag-requires
-    powered-requires
-    both-requires-2
-    flag-requires-2
-    add-result
-    powered-requires-2
-    unready-requires
-    both-requires-3
-    flag-requires-3
-    add-result-2
-    lowers-badly-requires
-    flag-requires-4
-    add-result-3
-    off-requires
-    negated-requires-2
-    both-requires-4
-    flag-requires-5
-    add-result-4
-    powered-requires-3
-    stopped-requires
-    both-requires-5
-    flag-requires-6
-    add-result-5
-    returns)
+    (tie.spec is_set-requires negated-closed-requires voltage_limit-requires overflow_cast-above close-requires both-requires flag-requires powered-requires both-requires-2 flag-requires-2 overflow_add-result powered-requires-2 unready-requires both-requires-3 flag-requires-3 overflow_add-result-2 lowers_badly-requires flag-requires-4 overflow_add-result-3 off-requires negated-requires both-requires-4 flag-requires-5 overflow_add-result-4 powered-requires-3 stopped-requires both-requires-5 flag-requires-6 overflow_add-result-5 returns)

@@ -5,8 +5,8 @@ use Rattle.rules.specs.After.{finished_findings}
 use Rattle.post_findings.proofs.finished_findings.Statement.{statement}
 use Rattle.post_findings.proofs.finished_findings.Tie as tie
 
-is-set-requires : tie.Need-is-set-requires
-is-set-requires c κs = search rules
+is_set-requires : tie.Need-is_set-requires
+is_set-requires c κs = search rules
 
 negated-requires : tie.Need-negated-requires
 negated-requires c κs = search rules
@@ -20,4 +20,4 @@ returns c = (cc, omega arith)
 
 pub finished_findings_spec : {M : Type 1} → statement M
 finished_findings_spec =
-    tie.close (tie.spec is-set-requires negated-requires flag-requires returns)
+    tie.close (tie.spec is_set-requires negated-requires flag-requires returns)

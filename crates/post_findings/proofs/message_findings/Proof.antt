@@ -6,45 +6,45 @@ use Rattle.rules.specs.After.{message_findings}
 use Rattle.post_findings.proofs.message_findings.Statement.{statement}
 use Rattle.post_findings.proofs.message_findings.Tie as tie
 
-returns : tie.Need-returns
+returns-in-Status : tie.Need-returns-in-Status
 unfolding message_findings
-returns c =
+returns-in-Status c =
     let e = c.before.before in
-    (rw (sym e.before.before.role-of.ensures ∙ e.enum_told.given.1, ← c.before.status-by.ensures) c.status-findings.ensures.0, omega arith)
+    (rw (sym e.role_of.ensures ∙ e.in-Status.is, ← c.status_by.ensures) c.status_findings.ensures.0, omega arith)
 
-returns-2 : tie.Need-returns-2
+returns-in-Opening : tie.Need-returns-in-Opening
 unfolding message_findings
-returns-2 c =
+returns-in-Opening c =
     let e = c.before.before in
-    (rw (sym e.before.before.role-of.ensures ∙ e.enum-told2.given.1, ← c.before.opening-by.ensures) c.opening-findings.ensures.0, omega arith)
+    (rw (sym e.role_of.ensures ∙ e.in-Opening.is, ← c.opening_by.ensures) c.opening_findings.ensures.0, omega arith)
 
-returns-3 : tie.Need-returns-3
+returns-in-Command : tie.Need-returns-in-Command
 unfolding message_findings
-returns-3 c =
+returns-in-Command c =
     let e = c.before.before in
-    (rw (sym e.before.before.role-of.ensures ∙ e.enum-told3.given.1, ← c.before.command-by.ensures) c.control-findings.ensures.0, omega arith)
+    (rw (sym e.role_of.ensures ∙ e.in-Command.is, ← c.command_by.ensures) c.control_findings.ensures.0, omega arith)
 
-returns-4 : tie.Need-returns-4
+returns-in-Finished : tie.Need-returns-in-Finished
 unfolding message_findings
-returns-4 c =
+returns-in-Finished c =
     let e = c.before in
-    (rw (sym e.before.before.role-of.ensures ∙ e.enum-told4.given.1) c.finished-findings.ensures.0, omega arith)
+    (rw (sym e.role_of.ensures ∙ e.in-Finished.is) c.finished_findings.ensures.0, omega arith)
 
-returns-5 : tie.Need-returns-5
+returns-in-Limits : tie.Need-returns-in-Limits
 unfolding message_findings
-returns-5 c = (rw (sym c.before.before.role-of.ensures ∙ c.enum-told5.given.1), omega arith)
+returns-in-Limits c = (rw (sym c.role_of.ensures ∙ c.in-Limits.is), omega arith)
 
-returns-6 : tie.Need-returns-6
+returns-in-Controller : tie.Need-returns-in-Controller
 unfolding message_findings
-returns-6 c = (rw (sym c.before.before.role-of.ensures ∙ c.enum-told6.given.1), omega arith)
+returns-in-Controller c = (rw (sym c.role_of.ensures ∙ c.in-Controller.is), omega arith)
 
-returns-7 : tie.Need-returns-7
+returns-in-Stop : tie.Need-returns-in-Stop
 unfolding message_findings
-returns-7 c = (rw (sym c.before.before.role-of.ensures ∙ c.enum-told7.given.1), omega arith)
+returns-in-Stop c = (rw (sym c.role_of.ensures ∙ c.in-Stop.is), omega arith)
 
-returns-8 : tie.Need-returns-8
+returns-in-Other : tie.Need-returns-in-Other
 unfolding message_findings
-returns-8 c = (rw (sym c.before.before.role-of.ensures ∙ c.enum-told8.given.1), omega arith)
+returns-in-Other c = (rw (sym c.role_of.ensures ∙ c.in-Other.is), omega arith)
 
 pub message_findings_spec : {M : Type 1} → statement M
 message_findings_spec =
@@ -66,11 +66,11 @@ message_findings_spec =
     (λ c. search rules)
     (λ c. search rules)
     (λ c. search rules)
-    returns
-    returns-2
-    returns-3
-    returns-4
-    returns-5
-    returns-6
-    returns-7
-    returns-8)
+    returns-in-Status
+    returns-in-Opening
+    returns-in-Command
+    returns-in-Finished
+    returns-in-Limits
+    returns-in-Controller
+    returns-in-Stop
+    returns-in-Other)

@@ -5,14 +5,14 @@ use Rattle.rules.specs.After.{opening_findings}
 use Rattle.post_findings.proofs.opening_findings.Statement.{statement}
 use Rattle.post_findings.proofs.opening_findings.Tie as tie
 
-is-set-requires : tie.Need-is-set-requires
-is-set-requires c κs = search rules
+is_set-requires : tie.Need-is_set-requires
+is_set-requires c κs = search rules
 
-session-in-requires : tie.Need-session-in-requires
-session-in-requires c κs = search rules
+session_in-requires : tie.Need-session_in-requires
+session_in-requires c κs = search rules
 
-do-differ-requires : tie.Need-do-differ-requires
-do-differ-requires c κs = search rules
+do_differ-requires : tie.Need-do_differ-requires
+do_differ-requires c κs = search rules
 
 both-requires : tie.Need-both-requires
 both-requires c κs = search rules
@@ -27,10 +27,4 @@ returns c = (cc, omega arith)
 pub opening_findings_spec : {M : Type 1} → statement M
 opening_findings_spec =
     tie.close
-    (tie.spec
-    is-set-requires
-    session-in-requires
-    do-differ-requires
-    both-requires
-    flag-requires
-    returns)
+    (tie.spec is_set-requires session_in-requires do_differ-requires both-requires flag-requires returns)

@@ -5,20 +5,20 @@ use Rattle.rules.specs.After.{status_findings}
 use Rattle.post_findings.proofs.status_findings.Statement.{statement}
 use Rattle.post_findings.proofs.status_findings.Tie as tie
 
-charge-limit-requires : tie.Need-charge-limit-requires
-charge-limit-requires c κs = search rules
+charge_limit-charge-requires : tie.Need-charge_limit-charge-requires
+charge_limit-charge-requires c κs = search rules
 
-discharge-limit-requires : tie.Need-discharge-limit-requires
-discharge-limit-requires c κs = search rules
+discharge_limit-discharge-requires : tie.Need-discharge_limit-discharge-requires
+discharge_limit-discharge-requires c κs = search rules
 
-sensor-of-requires : tie.Need-sensor-of-requires
-sensor-of-requires c κs = search rules
+sensor_of-sensor-requires : tie.Need-sensor_of-sensor-requires
+sensor_of-sensor-requires c κs = search rules
 
-is-set-requires : tie.Need-is-set-requires
-is-set-requires c κs = search rules
+is_set-requires : tie.Need-is_set-requires
+is_set-requires c κs = search rules
 
-is-outside-requires : tie.Need-is-outside-requires
-is-outside-requires c κs = search rules
+is_outside-requires : tie.Need-is_outside-requires
+is_outside-requires c κs = search rules
 
 both-requires : tie.Need-both-requires
 both-requires c κs = search rules
@@ -26,11 +26,11 @@ both-requires c κs = search rules
 flag-requires : tie.Need-flag-requires
 flag-requires c κs = search rules
 
-carrying-session-requires : tie.Need-carrying-session-requires
-carrying-session-requires c κs = search rules
+carrying_session-requires : tie.Need-carrying_session-requires
+carrying_session-requires c κs = search rules
 
-insulates-badly-requires : tie.Need-insulates-badly-requires
-insulates-badly-requires c κs = search rules
+insulates_badly-requires : tie.Need-insulates_badly-requires
+insulates_badly-requires c κs = search rules
 
 both-requires-2 : tie.Need-both-requires-2
 both-requires-2 c κs = search rules
@@ -38,8 +38,8 @@ both-requires-2 c κs = search rules
 flag-requires-2 : tie.Need-flag-requires-2
 flag-requires-2 c κs = search rules
 
-add-result : tie.Need-overflow-add-result
-add-result c = search rules
+overflow_add-result : tie.Need-overflow_add-result
+overflow_add-result c = search rules
 
 returns : tie.Need-returns
 unfolding status_findings
@@ -51,17 +51,17 @@ returns c =
     let d = k.before in (
       search (
         rules,
-        c.flag2.ensures.0,
-        c.before.both2.ensures,
-        l.insulates-badly.ensures,
-        l.before.carrying-session.ensures,
+        c.flag-2.ensures.0,
+        c.both-2.ensures,
+        l.insulates_badly.ensures,
+        l.carrying_session.ensures,
         g.flag.ensures.0,
-        g.before.both.ensures,
-        o.is-outside.ensures,
-        o.before.before.is_set.ensures,
-        k.sensor-of.ensures,
-        d.discharge-limit.ensures,
-        d.before.charge-limit.ensures,
+        g.both.ensures,
+        o.is_outside.ensures,
+        o.is_set.ensures,
+        k.sensor_of-sensor.ensures,
+        d.discharge_limit-discharge.ensures,
+        d.charge_limit-charge.ensures,
       ),
       omega arith,
     )
@@ -69,17 +69,4 @@ returns c =
 pub status_findings_spec : {M : Type 1} → statement M
 status_findings_spec =
     tie.close
-    (tie.spec
-    charge-limit-requires
-    discharge-limit-requires
-    sensor-of-requires
-    is-set-requires
-    is-outside-requires
-    both-requires
-    flag-requires
-    carrying-session-requires
-    insulates-badly-requires
-    both-requires-2
-    flag-requires-2
-    add-result
-    returns)
+    (tie.spec charge_limit-charge-requires discharge_limit-discharge-requires sensor_of-sensor-requires is_set-requires is_outside-requires both-requires flag-requires carrying_session-requires insulates_badly-requires both-requires-2 flag-requires-2 overflow_add-result returns)

@@ -5,29 +5,29 @@ use Rattle.rules.specs.After.{stopped_in}
 use Rattle.post_findings.proofs.stopped.Statement.{statement}
 use Rattle.post_findings.proofs.stopped.Tie as tie
 
-element-copy-out-l : tie.Need-element-copy-out-l
-element-copy-out-l c = search rules
+bounds-s-2 : tie.Need-bounds-s-2
+bounds-s-2 c = search rules
 
-is-set-requires : tie.Need-is-set-requires
-is-set-requires c κs = search rules
+is_set-requires : tie.Need-is_set-requires
+is_set-requires c κs = search rules
 
-cast-is-set : tie.Need-overflow-cast-is-set
-cast-is-set c = search rules
+overflow_cast-l : tie.Need-overflow_cast-l
+overflow_cast-l c = search rules
 
-is-set-requires-2 : tie.Need-is-set-requires-2
-is-set-requires-2 c κs = search rules
+is_set-requires-then-is_set : tie.Need-is_set-requires-then-is_set
+is_set-requires-then-is_set c κs = search rules
 
-returns : tie.Need-returns
+returns-then-is_set : tie.Need-returns-then-is_set
 unfolding stopped_in
-returns c =
+returns-then-is_set c =
     let opened = c.before.before in
-    rw (sym opened.before.is_set.ensures ∙ opened.if1.true) c.is-set2.ensures
+    rw (sym opened.is_set.ensures ∙ opened.if-is_set.true) c.is_set-then-is_set.ensures
 
-returns-2 : tie.Need-returns-2
+returns-else-is_set : tie.Need-returns-else-is_set
 unfolding stopped_in
-returns-2 c = rw (sym c.before.is_set.ensures ∙ c.if1.false)
+returns-else-is_set c = rw (sym c.is_set.ensures ∙ c.if-is_set.false)
 
 pub stopped_spec : {M : Type 1} → statement M
 stopped_spec =
     tie.close
-    (tie.spec element-copy-out-l is-set-requires cast-is-set is-set-requires-2 returns returns-2)
+    (tie.spec bounds-s-2 is_set-requires overflow_cast-l is_set-requires-then-is_set returns-then-is_set returns-else-is_set)

@@ -5,26 +5,26 @@ use Rattle.rules.specs.After.{unready_in}
 use Rattle.post_findings.proofs.unready.Statement.{statement}
 use Rattle.post_findings.proofs.unready.Tie as tie
 
-element-copy-out-st : tie.Need-element-copy-out-st
-element-copy-out-st c = search rules
+bounds-s-0 : tie.Need-bounds-s-0
+bounds-s-0 c = search rules
 
-is-set-requires : tie.Need-is-set-requires
-is-set-requires c κs = search rules
+is_set-requires : tie.Need-is_set-requires
+is_set-requires c κs = search rules
 
-unready-after-requires : tie.Need-unready-after-requires
-unready-after-requires c κs = search rules
+unready_after-requires : tie.Need-unready_after-requires
+unready_after-requires c κs = search rules
 
-returns : tie.Need-returns
+returns-then-is_set : tie.Need-returns-then-is_set
 unfolding unready_in
-returns c =
+returns-then-is_set c =
     let opened = c.before in
-    rw (sym opened.before.is_set.ensures ∙ opened.if1.true) c.unready-after.ensures
+    rw (sym opened.is_set.ensures ∙ opened.if-is_set.true) c.unready_after.ensures
 
-returns-2 : tie.Need-returns-2
+returns-else-is_set : tie.Need-returns-else-is_set
 unfolding unready_in
-returns-2 c = rw (sym c.before.is_set.ensures ∙ c.if1.false)
+returns-else-is_set c = rw (sym c.is_set.ensures ∙ c.if-is_set.false)
 
 pub unready_spec : {M : Type 1} → statement M
 unready_spec =
     tie.close
-    (tie.spec element-copy-out-st is-set-requires unready-after-requires returns returns-2)
+    (tie.spec bounds-s-0 is_set-requires unready_after-requires returns-then-is_set returns-else-is_set)

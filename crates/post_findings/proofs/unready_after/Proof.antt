@@ -4,17 +4,17 @@ use borrow.Author.Rules.{rules}
 use Rattle.post_findings.proofs.unready_after.Statement.{statement}
 use Rattle.post_findings.proofs.unready_after.Tie as tie
 
-cast-is-set : tie.Need-overflow-cast-is-set
-cast-is-set c = search rules
+overflow_cast-l : tie.Need-overflow_cast-l
+overflow_cast-l c = search rules
 
-is-set-requires : tie.Need-is-set-requires
-is-set-requires c κs = search rules
+is_set-requires : tie.Need-is_set-requires
+is_set-requires c κs = search rules
 
-cast-status-by : tie.Need-overflow-cast-status-by
-cast-status-by c = search rules
+overflow_cast-l-then-is_set : tie.Need-overflow_cast-l-then-is_set
+overflow_cast-l-then-is_set c = search rules
 
-status-by-requires : tie.Need-status-by-requires
-status-by-requires c κs = search rules
+status_by-x-requires : tie.Need-status_by-x-requires
+status_by-x-requires c κs = search rules
 
 allowed-requires : tie.Need-allowed-requires
 allowed-requires c κs = search rules
@@ -22,23 +22,15 @@ allowed-requires c κs = search rules
 negated-requires : tie.Need-negated-requires
 negated-requires c κs = search rules
 
-returns : tie.Need-returns
-returns c =
+returns-then-is_set : tie.Need-returns-then-is_set
+returns-then-is_set c =
     let known = c.before.before.before.before in
-    rw (sym known.before.is_set.ensures ∙ known.if1.true, c.negated.ensures, c.before.allowed.ensures, c.before.before.status-by.ensures)
+    rw (sym known.is_set.ensures ∙ known.if-is_set.true, c.negated.ensures, c.allowed.ensures, c.status_by-x.ensures)
 
-returns-2 : tie.Need-returns-2
-returns-2 c = rw (sym c.before.is_set.ensures ∙ c.if1.false)
+returns : tie.Need-returns
+returns c = rw (sym c.is_set.ensures ∙ c.if-is_set.false)
 
 pub unready_after_spec : {M : Type 1} → statement M
 unready_after_spec =
     tie.close
-    (tie.spec
-    cast-is-set
-    is-set-requires
-    cast-status-by
-    status-by-requires
-    allowed-requires
-    negated-requires
-    returns
-    returns-2)
+    (tie.spec overflow_cast-l is_set-requires overflow_cast-l-then-is_set status_by-x-requires allowed-requires negated-requires returns-then-is_set returns)

@@ -4,11 +4,11 @@ use borrow.Author.Rules.{rules}
 use Rattle.post_record.proofs.dated.Statement.{statement}
 use Rattle.post_record.proofs.dated.Tie as tie
 
-cast-is-set : tie.Need-overflow-cast-is-set
-cast-is-set c = search rules
+overflow_cast-l : tie.Need-overflow_cast-l
+overflow_cast-l c = search rules
 
-is-set-requires : tie.Need-is-set-requires
-is-set-requires c κs = search rules
+is_set-requires : tie.Need-is_set-requires
+is_set-requires c κs = search rules
 
 received-requires : tie.Need-received-requires
 received-requires c κs = search rules
@@ -16,22 +16,22 @@ received-requires c κs = search rules
 age-requires : tie.Need-age-requires
 age-requires c κs = search rules
 
-cast-dated-at : tie.Need-overflow-cast-dated-at
-cast-dated-at c = search rules
+overflow_cast-l-then-is_set : tie.Need-overflow_cast-l-then-is_set
+overflow_cast-l-then-is_set c = search rules
 
-dated-at-requires : tie.Need-dated-at-requires
-dated-at-requires c κs = search rules
+dated_at-requires : tie.Need-dated_at-requires
+dated_at-requires c κs = search rules
 
-returns : tie.Need-returns
-returns c =
+returns-then-is_set : tie.Need-returns-then-is_set
+returns-then-is_set c =
     let aged = c.before in
     let known = aged.before.before.before in
-    rw (sym known.before.is_set.ensures ∙ known.if1.true, c.dated-at.ensures, aged.before.age.ensures, aged.before.before.received.ensures)
+    rw (sym known.is_set.ensures ∙ known.if-is_set.true, c.dated_at.ensures, aged.age.ensures, aged.received.ensures)
 
-returns-2 : tie.Need-returns-2
-returns-2 c = rw (sym c.before.is_set.ensures ∙ c.if1.false)
+returns-else-is_set : tie.Need-returns-else-is_set
+returns-else-is_set c = rw (sym c.is_set.ensures ∙ c.if-is_set.false)
 
 pub dated_spec : {M : Type 1} → statement M
 dated_spec =
     tie.close
-    (tie.spec cast-is-set is-set-requires received-requires age-requires cast-dated-at dated-at-requires returns returns-2)
+    (tie.spec overflow_cast-l is_set-requires received-requires age-requires overflow_cast-l-then-is_set dated_at-requires returns-then-is_set returns-else-is_set)

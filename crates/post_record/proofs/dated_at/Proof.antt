@@ -9,31 +9,31 @@ use Rattle.rules.specs.Record.{dated_at}
 use Rattle.post_record.proofs.dated_at.Statement.{statement}
 use Rattle.post_record.proofs.dated_at.Tie as tie
 
-is-on-requires : tie.Need-is-on-requires
-is-on-requires c κs = search rules
+is_on-requires : tie.Need-is_on-requires
+is_on-requires c κs = search rules
 
-message-of-requires : tie.Need-message-of-requires
-message-of-requires c κs = search rules
+message_of-requires : tie.Need-message_of-requires
+message_of-requires c κs = search rules
 
-message-of-requires-2 : tie.Need-message-of-requires-2
-message-of-requires-2 c κs = search rules
+message_of-requires-else-is_on : tie.Need-message_of-requires-else-is_on
+message_of-requires-else-is_on c κs = search rules
 
-returns : tie.Need-returns
+returns-then-is_on : tie.Need-returns-then-is_on
 unfolding dated_at
-returns c =
-    let a = c.before.before.before.args in
-    ap (dated.At a.time a.ms) c.message-of.ensures
+returns-then-is_on c =
+    let a = c.args in
+    ap (dated.At a.time a.ms) c.message_of.ensures
     ∙ sym (ap (λ (b : Bool). cond b (dated.At a.time a.ms (message_of a.kind a.raw)) (dated.OlderAt a.time a.ms (older.message_of a.kind a.raw)))
-    (sym c.before.before.is-on.ensures ∙ c.before.if1.true))
+    (sym c.is_on.ensures ∙ c.if-is_on.true))
 
-returns-2 : tie.Need-returns-2
+returns-else-is_on : tie.Need-returns-else-is_on
 unfolding dated_at
-returns-2 c =
-    let a = c.before.before.before.args in
-    ap (dated.OlderAt a.time a.ms) c.message-of2.ensures
+returns-else-is_on c =
+    let a = c.args in
+    ap (dated.OlderAt a.time a.ms) c.message_of-else-is_on.ensures
     ∙ sym (ap (λ (b : Bool). cond b (dated.At a.time a.ms (message_of a.kind a.raw)) (dated.OlderAt a.time a.ms (older.message_of a.kind a.raw)))
-    (sym c.before.before.is-on.ensures ∙ c.before.if1.false))
+    (sym c.is_on.ensures ∙ c.if-is_on.false))
 
 pub dated_at_spec : {M : Type 1} → statement M
 dated_at_spec =
-    tie.close (tie.spec is-on-requires message-of-requires message-of-requires-2 returns returns-2)
+    tie.close (tie.spec is_on-requires message_of-requires message_of-requires-else-is_on returns-then-is_on returns-else-is_on)

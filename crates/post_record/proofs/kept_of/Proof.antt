@@ -5,46 +5,37 @@ use borrow.Author.Rules.{rules}
 use Rattle.post_record.proofs.kept_of.Statement.{statement}
 use Rattle.post_record.proofs.kept_of.Tie as tie
 
-is-set-requires : tie.Need-is-set-requires
-is-set-requires c κs = search rules
+is_set-requires : tie.Need-is_set-requires
+is_set-requires c κs = search rules
+
+returns-then-not-is_set : tie.Need-returns-then-not-is_set
+returns-then-not-is_set c = rw (sym c.is_set.ensures ∙ not-true _ c.if-not-is_set.true-raw)
+
+bounds-s-0 : tie.Need-bounds-s-0
+bounds-s-0 c = search rules
+
+bounds-s-1 : tie.Need-bounds-s-1
+bounds-s-1 c = search rules
+
+bounds-s-2 : tie.Need-bounds-s-2
+bounds-s-2 c = search rules
+
+dated-status-requires : tie.Need-dated-status-requires
+dated-status-requires c κs = search rules
+
+dated-control-requires : tie.Need-dated-control-requires
+dated-control-requires c κs = search rules
+
+dated-stop-requires : tie.Need-dated-stop-requires
+dated-stop-requires c κs = search rules
 
 returns : tie.Need-returns
-returns c = rw (sym c.before.is_set.ensures ∙ not-true _ c.if1.true)
-
-element-copy-out-st : tie.Need-element-copy-out-st
-element-copy-out-st c = search rules
-
-element-copy-out-ct : tie.Need-element-copy-out-ct
-element-copy-out-ct c = search rules
-
-element-copy-out-em : tie.Need-element-copy-out-em
-element-copy-out-em c = search rules
-
-dated-requires : tie.Need-dated-requires
-dated-requires c κs = search rules
-
-dated-requires-2 : tie.Need-dated-requires-2
-dated-requires-2 c κs = search rules
-
-dated-requires-3 : tie.Need-dated-requires-3
-dated-requires-3 c κs = search rules
-
-returns-2 : tie.Need-returns-2
-returns-2 c =
+returns c =
     let d = c.before.before in
     let o = d.before.before.before.before in
-    rw (sym o.before.is_set.ensures ∙ not-false _ o.if1.false, d.dated.ensures, c.before.dated2.ensures, c.dated3.ensures)
+    rw (sym o.is_set.ensures ∙ not-false _ o.if-not-is_set.false-raw, d.dated-status.ensures, c.dated-control.ensures, c.dated-stop.ensures)
 
 pub kept_of_spec : {M : Type 1} → statement M
 kept_of_spec =
     tie.close
-    (tie.spec
-    is-set-requires
-    returns
-    element-copy-out-st
-    element-copy-out-ct
-    element-copy-out-em
-    dated-requires
-    dated-requires-2
-    dated-requires-3
-    returns-2)
+    (tie.spec is_set-requires returns-then-not-is_set bounds-s-0 bounds-s-1 bounds-s-2 dated-status-requires dated-control-requires dated-stop-requires returns)

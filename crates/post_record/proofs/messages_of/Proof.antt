@@ -27,53 +27,41 @@ invariant-loop now slots latest₀ k₀ latest k = (k ≤ place_count) × (lates
 abbrev decreases-loop : tie.decreases-loop
 decreases-loop now slots latest₀ k₀ latest k = place_count - k
 
-loop-holds : tie.Need-loop-init invariant-loop decreases-loop
-loop-holds c = search rules
+loop-k-init : tie.Need-loop-k-init invariant-loop decreases-loop
+loop-k-init c = search rules
 
-mul-l : tie.Need-overflow-mul-l invariant-loop decreases-loop
-mul-l c = search rules
+offset_bounds-slots-k : tie.Need-offset_bounds-slots-k invariant-loop decreases-loop
+offset_bounds-slots-k c = search rules
 
-array-copy-out-l : tie.Need-array-copy-out-l invariant-loop decreases-loop
-array-copy-out-l c = search rules
+bounds-slots-k : tie.Need-bounds-slots-k invariant-loop decreases-loop
+bounds-slots-k c = search rules
 
 dated-requires : tie.Need-dated-requires invariant-loop decreases-loop
 dated-requires c κs = search rules
 
-mul-latest : tie.Need-overflow-mul-latest invariant-loop decreases-loop
-mul-latest c = search rules
+offset_bounds-latest-k : tie.Need-offset_bounds-latest-k invariant-loop decreases-loop
+offset_bounds-latest-k c = search rules
 
-array-set-from-latest : tie.Need-array-set-from-latest invariant-loop decreases-loop
-array-set-from-latest c = search rules
+bounds-latest-k : tie.Need-bounds-latest-k invariant-loop decreases-loop
+bounds-latest-k c = search rules
 
-add-k : tie.Need-overflow-add-k invariant-loop decreases-loop
-add-k c = search rules
+overflow_add-k : tie.Need-overflow_add-k invariant-loop decreases-loop
+overflow_add-k c = search rules
 
-loop-less : tie.Need-loop-smaller invariant-loop decreases-loop
-loop-less c = search rules
+loop-k-smaller : tie.Need-loop-k-smaller invariant-loop decreases-loop
+loop-k-smaller c = search rules
 
-loop-again : tie.Need-loop-preserved invariant-loop decreases-loop
-loop-again c =
+loop-k-preserved : tie.Need-loop-k-preserved invariant-loop decreases-loop
+loop-k-preserved c =
     let a = c.before.before.before in
-    (search rules, rw (a.loop.invariant.1, c.dated.ensures) (filled_next (shown_in a.before.args.now a.before.args.t2) nothing a.loop.k place_count))
+    (search rules, rw (a.loop-k.invariant.1, c.dated.ensures) (filled_next (shown_in a.args.now a.args.t2) nothing a.loop-k.k place_count))
 
 returns : tie.Need-returns invariant-loop decreases-loop
 returns c =
     let a = c.before in
-    rw a.loop.invariant.1 (filled_all (shown_in a.before.args.now a.before.args.t2) nothing a.loop.k place_count (search rules))
+    rw a.loop-k.invariant.1 (filled_all (shown_in a.args.now a.args.t2) nothing a.loop-k.k place_count (search rules))
 
 pub messages_of_spec : {M : Type 1} → statement M
 messages_of_spec =
     tie.close
-    (tie.spec
-    invariant-loop
-    decreases-loop
-    loop-holds
-    mul-l
-    array-copy-out-l
-    dated-requires
-    mul-latest
-    array-set-from-latest
-    add-k
-    loop-less
-    loop-again
-    returns)
+    (tie.spec invariant-loop decreases-loop loop-k-init offset_bounds-slots-k bounds-slots-k dated-requires offset_bounds-latest-k bounds-latest-k overflow_add-k loop-k-smaller loop-k-preserved returns)

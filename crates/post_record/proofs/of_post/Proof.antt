@@ -5,26 +5,26 @@ use Rattle.rules.proofs.Right.{record_both}
 use Rattle.post_record.proofs.of_post.Statement.{statement}
 use Rattle.post_record.proofs.of_post.Tie as tie
 
-messages-of-requires : tie.Need-messages-of-requires
-messages-of-requires c κs = search rules
+messages_of-latest-requires : tie.Need-messages_of-latest-requires
+messages_of-latest-requires c κs = search rules
 
-limits-in-requires : tie.Need-limits-in-requires
-limits-in-requires c κs = search rules
+limits_in-limits-requires : tie.Need-limits_in-limits-requires
+limits_in-limits-requires c κs = search rules
 
-part-requires : tie.Need-part-requires
-part-requires c κs = search rules
+part-session-requires : tie.Need-part-session-requires
+part-session-requires c κs = search rules
 
-kept-of-requires : tie.Need-kept-of-requires
-kept-of-requires c κs = search rules
+kept_of-kept-requires : tie.Need-kept_of-kept-requires
+kept_of-kept-requires c κs = search rules
 
-last-time-requires : tie.Need-last-time-requires
-last-time-requires c κs = search rules
+last_time-last-requires : tie.Need-last_time-last-requires
+last_time-last-requires c κs = search rules
 
-tallies-of-requires : tie.Need-tallies-of-requires
-tallies-of-requires c κs = search rules
+tallies_of-tallies-requires : tie.Need-tallies_of-tallies-requires
+tallies_of-tallies-requires c κs = search rules
 
-array-read-t17 : tie.Need-array-read-t17
-array-read-t17 c = search rules
+bounds-counts-0 : tie.Need-bounds-counts-0
+bounds-counts-0 c = search rules
 
 returns : tie.Need-returns
 unfolding post_record
@@ -34,9 +34,9 @@ returns c =
     let part = kept.before in
     let l = part.before.before in
     let m = l.before.before in
-    record_both m.before.before.before.args.p
-    (rw (c.tallies-of.ensures, last.last-time.ensures, kept.kept_of.ensures, part.part.ensures, l.limits-in.ensures, m.messages-of.ensures))
+    record_both m.args.p
+    (rw (c.tallies_of-tallies.ensures, last.last_time-last.ensures, kept.kept_of-kept.ensures, part.part-session.ensures, l.limits_in-limits.ensures, m.messages_of-latest.ensures))
 
 pub of_post_spec : {M : Type 1} → statement M
 of_post_spec =
-    tie.close (tie.spec messages-of-requires limits-in-requires part-requires kept-of-requires last-time-requires tallies-of-requires array-read-t17 returns)
+    tie.close (tie.spec messages_of-latest-requires limits_in-limits-requires part-session-requires kept_of-kept-requires last_time-last-requires tallies_of-tallies-requires bounds-counts-0 returns)

@@ -5,14 +5,14 @@ use borrow.Author.Rules.{rules}
 use Rattle.post_record.proofs.part.Statement.{statement}
 use Rattle.post_record.proofs.part.Tie as tie
 
-is-set-requires : tie.Need-is-set-requires
-is-set-requires c κs = search rules
+is_set-requires : tie.Need-is_set-requires
+is_set-requires c κs = search rules
 
-returns : tie.Need-returns
-returns c = rw (sym c.before.is_set.ensures ∙ not-true _ c.if1.true)
+returns-then-not-is_set : tie.Need-returns-then-not-is_set
+returns-then-not-is_set c = rw (sym c.is_set.ensures ∙ not-true _ c.if-not-is_set.true-raw)
 
-session-in-requires : tie.Need-session-in-requires
-session-in-requires c κs = search rules
+session_in-n-requires : tie.Need-session_in-n-requires
+session_in-n-requires c κs = search rules
 
 received-requires : tie.Need-received-requires
 received-requires c κs = search rules
@@ -20,18 +20,18 @@ received-requires c κs = search rules
 age-requires : tie.Need-age-requires
 age-requires c κs = search rules
 
-returns-2 : tie.Need-returns-2
-returns-2 c =
+returns : tie.Need-returns
+returns c =
     let n = c.before.before in
     let o = n.before in
     rw (
-      sym o.before.is_set.ensures ∙ not-false _ o.if1.false,
-      n.session-in.ensures,
-      c.before.received.ensures,
+      sym o.is_set.ensures ∙ not-false _ o.if-not-is_set.false-raw,
+      n.session_in-n.ensures,
+      c.received.ensures,
       c.age.ensures,
     )
 
 pub part_spec : {M : Type 1} → statement M
 part_spec =
     tie.close
-    (tie.spec is-set-requires returns session-in-requires received-requires age-requires returns-2)
+    (tie.spec is_set-requires returns-then-not-is_set session_in-n-requires received-requires age-requires returns)

@@ -20,49 +20,37 @@ invariant-loop counts tallies₀ k₀ tallies k = (k ≤ finding_count) × (tall
 abbrev decreases-loop : tie.decreases-loop
 decreases-loop counts tallies₀ k₀ tallies k = finding_count - k
 
-loop-holds : tie.Need-loop-init invariant-loop decreases-loop
-loop-holds c = search rules
+loop-k-init : tie.Need-loop-k-init invariant-loop decreases-loop
+loop-k-init c = search rules
 
-add-tallies : tie.Need-overflow-add-tallies invariant-loop decreases-loop
-add-tallies c = search rules
+overflow_add-tallies : tie.Need-overflow_add-tallies invariant-loop decreases-loop
+overflow_add-tallies c = search rules
 
-mul-tallies : tie.Need-overflow-mul-tallies invariant-loop decreases-loop
-mul-tallies c = search rules
+offset_bounds-counts-k : tie.Need-offset_bounds-counts-k invariant-loop decreases-loop
+offset_bounds-counts-k c = search rules
 
-array-read-tallies : tie.Need-array-read-tallies invariant-loop decreases-loop
-array-read-tallies c = search rules
+bounds-counts-k : tie.Need-bounds-counts-k invariant-loop decreases-loop
+bounds-counts-k c = search rules
 
-mul-tallies-2 : tie.Need-overflow-mul-tallies-2 invariant-loop decreases-loop
-mul-tallies-2 c = search rules
+offset_bounds-tallies-k : tie.Need-offset_bounds-tallies-k invariant-loop decreases-loop
+offset_bounds-tallies-k c = search rules
 
-array-write-tallies : tie.Need-array-write-tallies invariant-loop decreases-loop
-array-write-tallies c = search rules
+bounds-tallies-k : tie.Need-bounds-tallies-k invariant-loop decreases-loop
+bounds-tallies-k c = search rules
 
-add-k : tie.Need-overflow-add-k invariant-loop decreases-loop
-add-k c = search rules
+overflow_add-k : tie.Need-overflow_add-k invariant-loop decreases-loop
+overflow_add-k c = search rules
 
-loop-less : tie.Need-loop-smaller invariant-loop decreases-loop
-loop-less c = search rules
+loop-k-smaller : tie.Need-loop-k-smaller invariant-loop decreases-loop
+loop-k-smaller c = search rules
 
-loop-again : tie.Need-loop-preserved invariant-loop decreases-loop
-loop-again c = let a = c.before in (search rules, rw a.loop.invariant.1 (filled_next (tally_at a.before.args.t1) 0 a.loop.k finding_count))
+loop-k-preserved : tie.Need-loop-k-preserved invariant-loop decreases-loop
+loop-k-preserved c = let a = c.before in (search rules, rw a.loop-k.invariant.1 (filled_next (tally_at a.args.t1) 0 a.loop-k.k finding_count))
 
 returns : tie.Need-returns invariant-loop decreases-loop
-returns c = let a = c.before in rw a.loop.invariant.1 (filled_all (tally_at a.before.args.t1) 0 a.loop.k finding_count (search rules))
+returns c = let a = c.before in rw a.loop-k.invariant.1 (filled_all (tally_at a.args.t1) 0 a.loop-k.k finding_count (search rules))
 
 pub tallies_of_spec : {M : Type 1} → statement M
 tallies_of_spec =
     tie.close
-    (tie.spec
-    invariant-loop
-    decreases-loop
-    loop-holds
-    add-tallies
-    mul-tallies
-    array-read-tallies
-    mul-tallies-2
-    array-write-tallies
-    add-k
-    loop-less
-    loop-again
-    returns)
+    (tie.spec invariant-loop decreases-loop loop-k-init overflow_add-tallies offset_bounds-counts-k bounds-counts-k offset_bounds-tallies-k bounds-tallies-k overflow_add-k loop-k-smaller loop-k-preserved returns)

@@ -16,8 +16,8 @@ late-requires c κs = search rules
 flag-requires-2 : tie.Need-flag-requires-2
 flag-requires-2 c κs = search rules
 
-add-result : tie.Need-overflow-add-result
-add-result c = search rules
+overflow_add-result : tie.Need-overflow_add-result
+overflow_add-result c = search rules
 
 returns : tie.Need-returns
 unfolding any_findings
@@ -26,4 +26,4 @@ returns c = (cc, omega arith)
 pub any_findings_spec : {M : Type 1} → statement M
 any_findings_spec =
     tie.close
-    (tie.spec silent-requires flag-requires late-requires flag-requires-2 add-result returns)
+    (tie.spec silent-requires flag-requires late-requires flag-requires-2 overflow_add-result returns)

@@ -3,11 +3,11 @@ use Rattle.std.proofs.Common.{rules}
 use Rattle.post_times.proofs.is_earlier.Statement.{statement}
 use Rattle.post_times.proofs.is_earlier.Tie as tie
 
-ms-later-requires : tie.Need-ms-later-requires
-ms-later-requires c κs = search rules
+ms_later-requires : tie.Need-ms_later-requires
+ms_later-requires c κs = search rules
 
 returns : tie.Need-returns
-returns c = rw c.ms-later.ensures
+returns c = rw c.ms_later.ensures
 
 pub is_earlier_spec : {M : Type 1} → statement M
-is_earlier_spec = tie.close (tie.spec ms-later-requires returns)
+is_earlier_spec = tie.close (tie.spec ms_later-requires returns)

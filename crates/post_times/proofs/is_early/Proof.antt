@@ -3,23 +3,23 @@ use Rattle.std.proofs.Common.{sym, ◌∙◌, rules}
 use Rattle.post_times.proofs.is_early.Statement.{statement}
 use Rattle.post_times.proofs.is_early.Tie as tie
 
-cast-is-set : tie.Need-overflow-cast-is-set
-cast-is-set c = search rules
+overflow_cast-h : tie.Need-overflow_cast-h
+overflow_cast-h c = search rules
 
-is-set-requires : tie.Need-is-set-requires
-is-set-requires c κs = search rules
+is_set-requires : tie.Need-is_set-requires
+is_set-requires c κs = search rules
 
-is-earlier-requires : tie.Need-is-earlier-requires
-is-earlier-requires c κs = search rules
+is_earlier-requires : tie.Need-is_earlier-requires
+is_earlier-requires c κs = search rules
 
-returns : tie.Need-returns
-returns c =
+returns-then-is_set : tie.Need-returns-then-is_set
+returns-then-is_set c =
     let heard = c.before in
-    rw (sym heard.before.is_set.ensures ∙ heard.if1.true) c.is-earlier.ensures
+    rw (sym heard.is_set.ensures ∙ heard.if-is_set.true) c.is_earlier.ensures
 
-returns-2 : tie.Need-returns-2
-returns-2 c = rw (sym c.before.is_set.ensures ∙ c.if1.false)
+returns-else-is_set : tie.Need-returns-else-is_set
+returns-else-is_set c = rw (sym c.is_set.ensures ∙ c.if-is_set.false)
 
 pub is_early_spec : {M : Type 1} → statement M
 is_early_spec =
-    tie.close (tie.spec cast-is-set is-set-requires is-earlier-requires returns returns-2)
+    tie.close (tie.spec overflow_cast-h is_set-requires is_earlier-requires returns-then-is_set returns-else-is_set)

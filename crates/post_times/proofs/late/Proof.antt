@@ -4,24 +4,24 @@ use Rattle.rules.specs.After.{late_after}
 use Rattle.post_times.proofs.late.Statement.{statement}
 use Rattle.post_times.proofs.late.Tie as tie
 
-cast-is-set : tie.Need-overflow-cast-is-set
-cast-is-set c = search rules
+overflow_cast-l : tie.Need-overflow_cast-l
+overflow_cast-l c = search rules
 
-is-set-requires : tie.Need-is-set-requires
-is-set-requires c κs = search rules
+is_set-requires : tie.Need-is_set-requires
+is_set-requires c κs = search rules
 
-ms-between-requires : tie.Need-ms-between-requires
-ms-between-requires c κs = search rules
+ms_between-requires : tie.Need-ms_between-requires
+ms_between-requires c κs = search rules
 
-returns : tie.Need-returns
+returns-then-is_set : tie.Need-returns-then-is_set
 unfolding late_after
-returns c =
+returns-then-is_set c =
     let known = c.before in
-    rw (sym known.before.is_set.ensures ∙ known.if1.true, c.ms-between.ensures)
+    rw (sym known.is_set.ensures ∙ known.if-is_set.true, c.ms_between.ensures)
 
-returns-2 : tie.Need-returns-2
+returns-else-is_set : tie.Need-returns-else-is_set
 unfolding late_after
-returns-2 c = rw (sym c.before.is_set.ensures ∙ c.if1.false)
+returns-else-is_set c = rw (sym c.is_set.ensures ∙ c.if-is_set.false)
 
 pub late_spec : {M : Type 1} → statement M
-late_spec = tie.close (tie.spec cast-is-set is-set-requires ms-between-requires returns returns-2)
+late_spec = tie.close (tie.spec overflow_cast-l is_set-requires ms_between-requires returns-then-is_set returns-else-is_set)

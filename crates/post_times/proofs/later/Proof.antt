@@ -3,24 +3,24 @@ use Rattle.std.proofs.Common.{sym, ◌∙◌, arith, rules}
 use Rattle.post_times.proofs.later.Statement.{statement}
 use Rattle.post_times.proofs.later.Tie as tie
 
-cast-is-set : tie.Need-overflow-cast-is-set
-cast-is-set c = search rules
+overflow_cast-st : tie.Need-overflow_cast-st
+overflow_cast-st c = search rules
 
-is-set-requires : tie.Need-is-set-requires
-is-set-requires c κs = search rules
+is_set-requires : tie.Need-is_set-requires
+is_set-requires c κs = search rules
+
+returns-then-since-st : tie.Need-returns-then-since-st
+returns-then-since-st c =
+    let known = c.before.before in
+    rw (sym known.is_set.ensures ∙ known.if-is_set.true) (omega arith)
+
+returns-then-is_set : tie.Need-returns-then-is_set
+returns-then-is_set c =
+    let known = c.before.before in
+    rw (sym known.is_set.ensures ∙ known.if-is_set.true) (omega arith)
 
 returns : tie.Need-returns
-returns c =
-    let known = c.before.before in
-    rw (sym known.before.is_set.ensures ∙ known.if1.true) (omega arith)
-
-returns-2 : tie.Need-returns-2
-returns-2 c =
-    let known = c.before.before in
-    rw (sym known.before.is_set.ensures ∙ known.if1.true) (omega arith)
-
-returns-3 : tie.Need-returns-3
-returns-3 c = rw (sym c.before.is_set.ensures ∙ c.if1.false)
+returns c = rw (sym c.is_set.ensures ∙ c.if-is_set.false)
 
 pub later_spec : {M : Type 1} → statement M
-later_spec = tie.close (tie.spec cast-is-set is-set-requires returns returns-2 returns-3)
+later_spec = tie.close (tie.spec overflow_cast-st is_set-requires returns-then-since-st returns-then-is_set returns)

@@ -4,35 +4,29 @@ use Rattle.rules.specs.After.{silent_in}
 use Rattle.post_times.proofs.silent.Statement.{statement}
 use Rattle.post_times.proofs.silent.Tie as tie
 
-element-copy-out-st : tie.Need-element-copy-out-st
-element-copy-out-st c = search rules
+bounds-s-0 : tie.Need-bounds-s-0
+bounds-s-0 c = search rules
 
-is-set-requires : tie.Need-is-set-requires
-is-set-requires c κs = search rules
+is_set-requires : tie.Need-is_set-requires
+is_set-requires c κs = search rules
 
 later-requires : tie.Need-later-requires
 later-requires c κs = search rules
 
-ms-between-requires : tie.Need-ms-between-requires
-ms-between-requires c κs = search rules
+ms_between-requires : tie.Need-ms_between-requires
+ms_between-requires c κs = search rules
 
-returns : tie.Need-returns
+returns-then-is_set : tie.Need-returns-then-is_set
 unfolding silent_in
-returns c =
+returns-then-is_set c =
     let opened = c.before.before in
-    rw (sym opened.before.is_set.ensures ∙ opened.if1.true, c.ms-between.ensures, c.before.later.ensures)
+    rw (sym opened.is_set.ensures ∙ opened.if-is_set.true, c.ms_between.ensures, c.later.ensures)
 
-returns-2 : tie.Need-returns-2
+returns-else-is_set : tie.Need-returns-else-is_set
 unfolding silent_in
-returns-2 c = rw (sym c.before.is_set.ensures ∙ c.if1.false)
+returns-else-is_set c = rw (sym c.is_set.ensures ∙ c.if-is_set.false)
 
 pub silent_spec : {M : Type 1} → statement M
 silent_spec =
     tie.close
-    (tie.spec
-    element-copy-out-st
-    is-set-requires
-    later-requires
-    ms-between-requires
-    returns
-    returns-2)
+    (tie.spec bounds-s-0 is_set-requires later-requires ms_between-requires returns-then-is_set returns-else-is_set)

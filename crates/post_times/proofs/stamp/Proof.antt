@@ -4,24 +4,20 @@ use Rattle.rules.specs.After.{stamp_in}
 use Rattle.post_times.proofs.stamp.Statement.{statement}
 use Rattle.post_times.proofs.stamp.Tie as tie
 
-ms-later-requires : tie.Need-ms-later-requires
-ms-later-requires c κs = search rules
+ms_later-requires : tie.Need-ms_later-requires
+ms_later-requires c κs = search rules
 
-cast-wrapping-add-u64 : tie.Need-overflow-cast-wrapping-add-u64
-cast-wrapping-add-u64 c = search rules
+overflow_cast-ms_later : tie.Need-overflow_cast-ms_later
+overflow_cast-ms_later c = search rules
 
-wrapping-add-u64-requires : tie.Need-wrapping-add-u64-requires
-wrapping-add-u64-requires c κs = search rules
+wrapping_add_u64-requires : tie.Need-wrapping_add_u64-requires
+wrapping_add_u64-requires c κs = search rules
 
 returns : tie.Need-returns
 unfolding stamp_in
-returns c = rw (c.wrapping-add-u64.ensures, c.before.ms-later.ensures)
+returns c = rw (c.wrapping_add_u64.ensures, c.ms_later.ensures)
 
 pub stamp_spec : {M : Type 1} → statement M
 stamp_spec =
     tie.close
-    (tie.spec
-    ms-later-requires
-    cast-wrapping-add-u64
-    wrapping-add-u64-requires
-    returns)
+    (tie.spec ms_later-requires overflow_cast-ms_later wrapping_add_u64-requires returns)

@@ -5,239 +5,181 @@ use Rattle.refusals.specs.Refusals.{number_of}
 use Rattle.refusals.proofs.refusal_number.Statement.{statement}
 use Rattle.refusals.proofs.refusal_number.Tie as tie
 
-enum_told : tie.Need-enum-told
-enum_told c = search rules
+enum_told-1 : tie.Need-enum_told-1
+enum_told-1 c = search rules
 
-enum-told-2 : tie.Need-enum-told-2
-enum-told-2 c = search rules
+enum_told-in-Earlier : tie.Need-enum_told-in-Earlier
+enum_told-in-Earlier c = search rules
 
-enum-told-3 : tie.Need-enum-told-3
-enum-told-3 c = search rules
+enum_told-in-UnknownIdentifier : tie.Need-enum_told-in-UnknownIdentifier
+enum_told-in-UnknownIdentifier c = search rules
 
-enum-told-4 : tie.Need-enum-told-4
-enum-told-4 c = search rules
+enum_told-in-TooShort : tie.Need-enum_told-in-TooShort
+enum_told-in-TooShort c = search rules
 
-enum-told-5 : tie.Need-enum-told-5
-enum-told-5 c = search rules
+enum_told-in-NoLabel : tie.Need-enum_told-in-NoLabel
+enum_told-in-NoLabel c = search rules
 
-enum-told-6 : tie.Need-enum-told-6
-enum-told-6 c = search rules
+enum_told-in-UncoveredBit : tie.Need-enum_told-in-UncoveredBit
+enum_told-in-UncoveredBit c = search rules
 
-enum-told-7 : tie.Need-enum-told-7
-enum-told-7 c = search rules
+enum_told-in-NoRawNumber : tie.Need-enum_told-in-NoRawNumber
+enum_told-in-NoRawNumber c = search rules
 
-enum-told-8 : tie.Need-enum-told-8
-enum-told-8 c = search rules
+enum_told-in-ShortBuffer : tie.Need-enum_told-in-ShortBuffer
+enum_told-in-ShortBuffer c = search rules
 
-enum-told-9 : tie.Need-enum-told-9
-enum-told-9 c = search rules
+enum_told-in-NoSuchPost : tie.Need-enum_told-in-NoSuchPost
+enum_told-in-NoSuchPost c = search rules
 
-enum-told-10 : tie.Need-enum-told-10
-enum-told-10 c = search rules
+enum_told-in-NoSuchChannel : tie.Need-enum_told-in-NoSuchChannel
+enum_told-in-NoSuchChannel c = search rules
 
-enum-told-11 : tie.Need-enum-told-11
-enum-told-11 c = search rules
+enum_told-in-ChannelTaken : tie.Need-enum_told-in-ChannelTaken
+enum_told-in-ChannelTaken c = search rules
 
-enum-told-12 : tie.Need-enum-told-12
-enum-told-12 c = search rules
+enum_told-in-LimitOutside : tie.Need-enum_told-in-LimitOutside
+enum_told-in-LimitOutside c = search rules
 
-enum-told-13 : tie.Need-enum-told-13
-enum-told-13 c = search rules
+enum_told-in-NoSignal : tie.Need-enum_told-in-NoSignal
+enum_told-in-NoSignal c = search rules
 
-enum-told-14 : tie.Need-enum-told-14
-enum-told-14 c = search rules
+enum_told-in-NotSetUp : tie.Need-enum_told-in-NotSetUp
+enum_told-in-NotSetUp c = search rules
 
-enum-told-15 : tie.Need-enum-told-15
-enum-told-15 c = search rules
+enum_told-in-TooLong : tie.Need-enum_told-in-TooLong
+enum_told-in-TooLong c = search rules
 
-enum-told-16 : tie.Need-enum-told-16
-enum-told-16 c = search rules
+enum_told-in-IllNumber : tie.Need-enum_told-in-IllNumber
+enum_told-in-IllNumber c = search rules
 
-enum-told-17 : tie.Need-enum-told-17
-enum-told-17 c = search rules
+enum_told-in-LogChannel : tie.Need-enum_told-in-LogChannel
+enum_told-in-LogChannel c = search rules
 
-enum-told-18 : tie.Need-enum-told-18
-enum-told-18 c = search rules
+enum_told-in-LogStandard : tie.Need-enum_told-in-LogStandard
+enum_told-in-LogStandard c = search rules
 
-enum-told-19 : tie.Need-enum-told-19
-enum-told-19 c = search rules
+enum_told-in-LogExtended : tie.Need-enum_told-in-LogExtended
+enum_told-in-LogExtended c = search rules
 
-enum-told-20 : tie.Need-enum-told-20
-enum-told-20 c = search rules
+enum_told-in-LogLength : tie.Need-enum_told-in-LogLength
+enum_told-in-LogLength c = search rules
 
-enum-told-21 : tie.Need-enum-told-21
-enum-told-21 c = search rules
+enum_told-in-LogTick : tie.Need-enum_told-in-LogTick
+enum_told-in-LogTick c = search rules
 
-enum-told-22 : tie.Need-enum-told-22
-enum-told-22 c = search rules
+enum_told-in-BatchBytes : tie.Need-enum_told-in-BatchBytes
+enum_told-in-BatchBytes c = search rules
 
-enum-told-23 : tie.Need-enum-told-23
-enum-told-23 c = search rules
+enum_told-in-BatchRecord : tie.Need-enum_told-in-BatchRecord
+enum_told-in-BatchRecord c = search rules
 
-enum-told-24 : tie.Need-enum-told-24
-enum-told-24 c = search rules
+enum_told-in-BatchAnswers : tie.Need-enum_told-in-BatchAnswers
+enum_told-in-BatchAnswers c = search rules
 
-enum-told-25 : tie.Need-enum-told-25
-enum-told-25 c = search rules
+enum_told-in-CountFull : tie.Need-enum_told-in-CountFull
+enum_told-in-CountFull c = search rules
 
-enum-told-26 : tie.Need-enum-told-26
-enum-told-26 c = search rules
+enum_told-in-CompareLog : tie.Need-enum_told-in-CompareLog
+enum_told-in-CompareLog c = search rules
 
-enum-told-27 : tie.Need-enum-told-27
-enum-told-27 c = search rules
+enum_told-in-CompareRecords : tie.Need-enum_told-in-CompareRecords
+enum_told-in-CompareRecords c = search rules
 
-enum-told-28 : tie.Need-enum-told-28
-enum-told-28 c = search rules
+enum_told-in-CompareRoom : tie.Need-enum_told-in-CompareRoom
+enum_told-in-CompareRoom c = search rules
 
-enum-told-29 : tie.Need-enum-told-29
-enum-told-29 c = search rules
+enum_told-in-OtherInterface : tie.Need-enum_told-in-OtherInterface
+enum_told-in-OtherInterface c = search rules
 
-returns : tie.Need-returns
-returns c = sym (ap number_of c.enum_told.given.1)
+returns-in-ChannelFree : tie.Need-returns-in-ChannelFree
+returns-in-ChannelFree c = sym (ap number_of c.in-ChannelFree.is)
 
-returns-2 : tie.Need-returns-2
-returns-2 c = sym (ap number_of c.enum-told2.given.1)
+returns-in-Earlier : tie.Need-returns-in-Earlier
+returns-in-Earlier c = sym (ap number_of c.in-Earlier.is)
 
-returns-3 : tie.Need-returns-3
-returns-3 c = sym (ap number_of c.enum-told3.given.1)
+returns-in-UnknownIdentifier : tie.Need-returns-in-UnknownIdentifier
+returns-in-UnknownIdentifier c = sym (ap number_of c.in-UnknownIdentifier.is)
 
-returns-4 : tie.Need-returns-4
-returns-4 c = sym (ap number_of c.enum-told4.given.1)
+returns-in-TooShort : tie.Need-returns-in-TooShort
+returns-in-TooShort c = sym (ap number_of c.in-TooShort.is)
 
-returns-5 : tie.Need-returns-5
-returns-5 c = sym (ap number_of c.enum-told5.given.1)
+returns-in-NoLabel : tie.Need-returns-in-NoLabel
+returns-in-NoLabel c = sym (ap number_of c.in-NoLabel.is)
 
-returns-6 : tie.Need-returns-6
-returns-6 c = sym (ap number_of c.enum-told6.given.1)
+returns-in-UncoveredBit : tie.Need-returns-in-UncoveredBit
+returns-in-UncoveredBit c = sym (ap number_of c.in-UncoveredBit.is)
 
-returns-7 : tie.Need-returns-7
-returns-7 c = sym (ap number_of c.enum-told7.given.1)
+returns-in-NoRawNumber : tie.Need-returns-in-NoRawNumber
+returns-in-NoRawNumber c = sym (ap number_of c.in-NoRawNumber.is)
 
-returns-8 : tie.Need-returns-8
-returns-8 c = sym (ap number_of c.enum-told8.given.1)
+returns-in-ShortBuffer : tie.Need-returns-in-ShortBuffer
+returns-in-ShortBuffer c = sym (ap number_of c.in-ShortBuffer.is)
 
-returns-9 : tie.Need-returns-9
-returns-9 c = sym (ap number_of c.enum-told9.given.1)
+returns-in-NoSuchPost : tie.Need-returns-in-NoSuchPost
+returns-in-NoSuchPost c = sym (ap number_of c.in-NoSuchPost.is)
 
-returns-10 : tie.Need-returns-10
-returns-10 c = sym (ap number_of c.enum-told10.given.1)
+returns-in-NoSuchChannel : tie.Need-returns-in-NoSuchChannel
+returns-in-NoSuchChannel c = sym (ap number_of c.in-NoSuchChannel.is)
 
-returns-11 : tie.Need-returns-11
-returns-11 c = sym (ap number_of c.enum-told11.given.1)
+returns-in-ChannelTaken : tie.Need-returns-in-ChannelTaken
+returns-in-ChannelTaken c = sym (ap number_of c.in-ChannelTaken.is)
 
-returns-12 : tie.Need-returns-12
-returns-12 c = sym (ap number_of c.enum-told12.given.1)
+returns-in-LimitOutside : tie.Need-returns-in-LimitOutside
+returns-in-LimitOutside c = sym (ap number_of c.in-LimitOutside.is)
 
-returns-13 : tie.Need-returns-13
-returns-13 c = sym (ap number_of c.enum-told13.given.1)
+returns-in-NoSignal : tie.Need-returns-in-NoSignal
+returns-in-NoSignal c = sym (ap number_of c.in-NoSignal.is)
 
-returns-14 : tie.Need-returns-14
-returns-14 c = sym (ap number_of c.enum-told14.given.1)
+returns-in-NotSetUp : tie.Need-returns-in-NotSetUp
+returns-in-NotSetUp c = sym (ap number_of c.in-NotSetUp.is)
 
-returns-15 : tie.Need-returns-15
-returns-15 c = sym (ap number_of c.enum-told15.given.1)
+returns-in-TooLong : tie.Need-returns-in-TooLong
+returns-in-TooLong c = sym (ap number_of c.in-TooLong.is)
 
-returns-16 : tie.Need-returns-16
-returns-16 c = sym (ap number_of c.enum-told16.given.1)
+returns-in-IllNumber : tie.Need-returns-in-IllNumber
+returns-in-IllNumber c = sym (ap number_of c.in-IllNumber.is)
 
-returns-17 : tie.Need-returns-17
-returns-17 c = sym (ap number_of c.enum-told17.given.1)
+returns-in-LogChannel : tie.Need-returns-in-LogChannel
+returns-in-LogChannel c = sym (ap number_of c.in-LogChannel.is)
 
-returns-18 : tie.Need-returns-18
-returns-18 c = sym (ap number_of c.enum-told18.given.1)
+returns-in-LogStandard : tie.Need-returns-in-LogStandard
+returns-in-LogStandard c = sym (ap number_of c.in-LogStandard.is)
 
-returns-19 : tie.Need-returns-19
-returns-19 c = sym (ap number_of c.enum-told19.given.1)
+returns-in-LogExtended : tie.Need-returns-in-LogExtended
+returns-in-LogExtended c = sym (ap number_of c.in-LogExtended.is)
 
-returns-20 : tie.Need-returns-20
-returns-20 c = sym (ap number_of c.enum-told20.given.1)
+returns-in-LogLength : tie.Need-returns-in-LogLength
+returns-in-LogLength c = sym (ap number_of c.in-LogLength.is)
 
-returns-21 : tie.Need-returns-21
-returns-21 c = sym (ap number_of c.enum-told21.given.1)
+returns-in-LogTick : tie.Need-returns-in-LogTick
+returns-in-LogTick c = sym (ap number_of c.in-LogTick.is)
 
-returns-22 : tie.Need-returns-22
-returns-22 c = sym (ap number_of c.enum-told22.given.1)
+returns-in-BatchBytes : tie.Need-returns-in-BatchBytes
+returns-in-BatchBytes c = sym (ap number_of c.in-BatchBytes.is)
 
-returns-23 : tie.Need-returns-23
-returns-23 c = sym (ap number_of c.enum-told23.given.1)
+returns-in-BatchRecord : tie.Need-returns-in-BatchRecord
+returns-in-BatchRecord c = sym (ap number_of c.in-BatchRecord.is)
 
-returns-24 : tie.Need-returns-24
-returns-24 c = sym (ap number_of c.enum-told24.given.1)
+returns-in-BatchAnswers : tie.Need-returns-in-BatchAnswers
+returns-in-BatchAnswers c = sym (ap number_of c.in-BatchAnswers.is)
 
-returns-25 : tie.Need-returns-25
-returns-25 c = sym (ap number_of c.enum-told25.given.1)
+returns-in-CountFull : tie.Need-returns-in-CountFull
+returns-in-CountFull c = sym (ap number_of c.in-CountFull.is)
 
-returns-26 : tie.Need-returns-26
-returns-26 c = sym (ap number_of c.enum-told26.given.1)
+returns-in-CompareLog : tie.Need-returns-in-CompareLog
+returns-in-CompareLog c = sym (ap number_of c.in-CompareLog.is)
 
-returns-27 : tie.Need-returns-27
-returns-27 c = sym (ap number_of c.enum-told27.given.1)
+returns-in-CompareRecords : tie.Need-returns-in-CompareRecords
+returns-in-CompareRecords c = sym (ap number_of c.in-CompareRecords.is)
 
-returns-28 : tie.Need-returns-28
-returns-28 c = sym (ap number_of c.enum-told28.given.1)
+returns-in-CompareRoom : tie.Need-returns-in-CompareRoom
+returns-in-CompareRoom c = sym (ap number_of c.in-CompareRoom.is)
 
-returns-29 : tie.Need-returns-29
-returns-29 c = sym (ap number_of c.enum-told29.given.1)
+returns-in-OtherInterface : tie.Need-returns-in-OtherInterface
+returns-in-OtherInterface c = sym (ap number_of c.in-OtherInterface.is)
 
 pub refusal_number_spec : {M : Type 1} → statement M
 refusal_number_spec =
     tie.close
-    (tie.spec
-    enum_told
-    enum-told-2
-    enum-told-3
-    enum-told-4
-    enum-told-5
-    enum-told-6
-    enum-told-7
-    enum-told-8
-    enum-told-9
-    enum-told-10
-    enum-told-11
-    enum-told-12
-    enum-told-13
-    enum-told-14
-    enum-told-15
-    enum-told-16
-    enum-told-17
-    enum-told-18
-    enum-told-19
-    enum-told-20
-    enum-told-21
-    enum-told-22
-    enum-told-23
-    enum-told-24
-    enum-told-25
-    enum-told-26
-    enum-told-27
-    enum-told-28
-    enum-told-29
-    returns
-    returns-2
-    returns-3
-    returns-4
-    returns-5
-    returns-6
-    returns-7
-    returns-8
-    returns-9
-    returns-10
-    returns-11
-    returns-12
-    returns-13
-    returns-14
-    returns-15
-    returns-16
-    returns-17
-    returns-18
-    returns-19
-    returns-20
-    returns-21
-    returns-22
-    returns-23
-    returns-24
-    returns-25
-    returns-26
-    returns-27
-    returns-28
-    returns-29)
+    (tie.spec enum_told-1 enum_told-in-Earlier enum_told-in-UnknownIdentifier enum_told-in-TooShort enum_told-in-NoLabel enum_told-in-UncoveredBit enum_told-in-NoRawNumber enum_told-in-ShortBuffer enum_told-in-NoSuchPost enum_told-in-NoSuchChannel enum_told-in-ChannelTaken enum_told-in-LimitOutside enum_told-in-NoSignal enum_told-in-NotSetUp enum_told-in-TooLong enum_told-in-IllNumber enum_told-in-LogChannel enum_told-in-LogStandard enum_told-in-LogExtended enum_told-in-LogLength enum_told-in-LogTick enum_told-in-BatchBytes enum_told-in-BatchRecord enum_told-in-BatchAnswers enum_told-in-CountFull enum_told-in-CompareLog enum_told-in-CompareRecords enum_told-in-CompareRoom enum_told-in-OtherInterface returns-in-ChannelFree returns-in-Earlier returns-in-UnknownIdentifier returns-in-TooShort returns-in-NoLabel returns-in-UncoveredBit returns-in-NoRawNumber returns-in-ShortBuffer returns-in-NoSuchPost returns-in-NoSuchChannel returns-in-ChannelTaken returns-in-LimitOutside returns-in-NoSignal returns-in-NotSetUp returns-in-TooLong returns-in-IllNumber returns-in-LogChannel returns-in-LogStandard returns-in-LogExtended returns-in-LogLength returns-in-LogTick returns-in-BatchBytes returns-in-BatchRecord returns-in-BatchAnswers returns-in-CountFull returns-in-CompareLog returns-in-CompareRecords returns-in-CompareRoom returns-in-OtherInterface)

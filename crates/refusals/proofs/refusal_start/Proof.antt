@@ -12,14 +12,14 @@ use Rattle.refusals.specs.contracts.Refusal.{the_type}
 use Rattle.refusals.proofs.refusal_start.Statement.{statement}
 use Rattle.refusals.proofs.refusal_start.Tie as tie
 
-enum-known-w : tie.Need-enum-known-w
-enum-known-w c = search rules
+enum_known-w : tie.Need-enum_known-w
+enum_known-w c = search rules
 
-cast-result : tie.Need-overflow-cast-result
-cast-result c = search rules
+overflow_cast-result : tie.Need-overflow_cast-result
+overflow_cast-result c = search rules
 
-returns : tie.Need-returns
-returns c = sym (ap start_of c.before.w.given.1)
+returns-in-NoLabel : tie.Need-returns-in-NoLabel
+returns-in-NoLabel c = sym (ap start_of c.in-NoLabel.is)
 
 -- the cases but NoLabel, which is the fourth from 0
 abbrev other_cases : List ℕ
@@ -56,8 +56,8 @@ others CompareRecords h = refl
 others CompareRoom h = refl
 others OtherInterface h = refl
 
-returns-2 : tie.Need-returns-2
-returns-2 c = others c.before.args.w c.match.keys2
+returns-in_default : tie.Need-returns-in_default
+returns-in_default c = others c.args.w c.in_default.in_default-own.keys2
 
 pub refusal_start_spec : {M : Type 1} → statement M
-refusal_start_spec = tie.close (tie.spec enum-known-w cast-result returns returns-2)
+refusal_start_spec = tie.close (tie.spec enum_known-w overflow_cast-result returns-in-NoLabel returns-in_default)

@@ -4,23 +4,23 @@ use Rattle.rule_asks.specs.Judgements.{bad_insulation}
 use Rattle.rule_asks.proofs.insulates_badly.Statement.{statement}
 use Rattle.rule_asks.proofs.insulates_badly.Tie as tie
 
-enum_told : tie.Need-enum-told
-enum_told c = search rules
+enum_told-1 : tie.Need-enum_told-1
+enum_told-1 c = search rules
 
-is-leaking-requires : tie.Need-is-leaking-requires
-is-leaking-requires c κs = search rules
+is_leaking-requires : tie.Need-is_leaking-requires
+is_leaking-requires c κs = search rules
 
-enum-told-2 : tie.Need-enum-told-2
-enum-told-2 c = search rules
+enum_told-in-YesNo : tie.Need-enum_told-in-YesNo
+enum_told-in-YesNo c = search rules
 
-returns : tie.Need-returns
+returns-in-Measuring : tie.Need-returns-in-Measuring
 unfolding bad_insulation
-returns c = rw c.before.enum_told.given.1 c.is-leaking.ensures
+returns-in-Measuring c = rw c.in-Measuring.is c.is_leaking.ensures
 
-returns-2 : tie.Need-returns-2
+returns-in-YesNo : tie.Need-returns-in-YesNo
 unfolding bad_insulation
-returns-2 c = rw c.before.enum-told2.given.1
+returns-in-YesNo c = rw c.in-YesNo.is
 
 pub insulates_badly_spec : {M : Type 1} → statement M
 insulates_badly_spec =
-    tie.close (tie.spec enum_told is-leaking-requires enum-told-2 returns returns-2)
+    tie.close (tie.spec enum_told-1 is_leaking-requires enum_told-in-YesNo returns-in-Measuring returns-in-YesNo)

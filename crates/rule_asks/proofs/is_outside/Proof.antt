@@ -16,12 +16,12 @@ minus_fits : (d : ℕ) → d < 2 ^ 63 → SFits w64 (neg_ℤ (pos d))
 minus_fits zero h = record { sfits = lit< tt }
 minus_fits (suc k) h = record { sfits = omega arith }
 
-cast-z : tie.Need-overflow-cast-z
-cast-z c = rw (to_z-of_z c.ranges.current) (sfits_widen tt c.ranges.current)
+overflow_cast-z : tie.Need-overflow_cast-z
+overflow_cast-z c = rw (to_z-of_z c.ranges.current) (sfits_widen tt c.ranges.current)
 
 module _ (c : tie.Start) where
   current : to_z w64 (of_z w64 (to_z w16 (of_z w16 c.args.current))) ≡ c.args.current
-  current = to_z-of_z (cast-z c) ∙ to_z-of_z c.ranges.current
+  current = to_z-of_z (overflow_cast-z c) ∙ to_z-of_z c.ranges.current
 
   charge : to_z w64 c.args.charge ≡ pos c.args.charge
   charge = to_z_pos w64 (omega arith)
@@ -29,26 +29,26 @@ module _ (c : tie.Start) where
   discharge : pos 0 -ℤ to_z w64 c.args.discharge ≡ neg_ℤ (pos c.args.discharge)
   discharge = rw (to_z_pos w64 {n = c.args.discharge} (omega arith)) (+ℤ_idl (neg_ℤ (pos c.args.discharge)))
 
-cast-if1 : tie.Need-overflow-cast-if1
-cast-if1 c = search rules
+overflow_cast-charge : tie.Need-overflow_cast-charge
+overflow_cast-charge c = search rules
+
+returns-then-charge-z : tie.Need-returns-then-charge-z
+unfolding outside
+returns-then-charge-z c =
+    let e = rw (charge c.before, current c.before) at c.if-charge-z.true in
+    rw e
+
+overflow_cast-result : tie.Need-overflow_cast-result
+overflow_cast-result c = search rules
+
+overflow_sub-result : tie.Need-overflow_sub-result
+overflow_sub-result c = rw (discharge c.before) (minus_fits c.args.discharge (omega arith))
 
 returns : tie.Need-returns
 unfolding outside
 returns c =
-    let e = rw (charge c.before, current c.before) at c.if1.true in
-    rw e
-
-cast-result : tie.Need-overflow-cast-result
-cast-result c = search rules
-
-sub-result : tie.Need-overflow-sub-result
-sub-result c = rw (discharge c.before) (minus_fits c.before.args.discharge (omega arith))
-
-returns-2 : tie.Need-returns-2
-unfolding outside
-returns-2 c =
-    let e = rw (charge c.before, current c.before) at c.if1.false in
-    rw (e, current c.before, to_z-of_z (sub-result c), discharge c.before)
+    let e = rw (charge c.before, current c.before) at c.if-charge-z.false in
+    rw (e, current c.before, to_z-of_z (overflow_sub-result c), discharge c.before)
 
 pub is_outside_spec : {M : Type 1} → statement M
-is_outside_spec = tie.close (tie.spec cast-z cast-if1 returns cast-result sub-result returns-2)
+is_outside_spec = tie.close (tie.spec overflow_cast-z overflow_cast-charge returns-then-charge-z overflow_cast-result overflow_sub-result returns)

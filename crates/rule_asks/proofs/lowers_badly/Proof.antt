@@ -16,49 +16,49 @@ zero_bits : (z : ℤ) → SFits w16 z → eqb (of_z w16 z) 0 ≡ is_zero z
 zero_bits (pos n) f = refl
 zero_bits (negsuc k) f = ne_eqb (of_z w16 (negsuc k)) 0 (λ e. let z : ⊥ = omega (arith, f.sfits) in z)
 
-lowers : (c : tie.Else1) → is_lowering c.before.before.args.d.lowering ≡ true
-lowers c = sym c.before.lowering.ensures ∙ not-false c.before.lowering.result c.if1.false
+lowers : (c : tie.Else-not-lowering) → is_lowering c.args.d.lowering ≡ true
+lowers c = sym c.lowering.ensures ∙ not-false c.lowering.result c.if-not-lowering.false-raw
 
 -- what is left of the definition past the first two tests
-numbers : (c : tie.Else2)
-    → let d = c.before.before.before.before.args.d in lowers_badly d ≡ not (eqb d.target 0 && (is_zero d.max && is_zero d.min))
+numbers : (c : tie.Else-not-standby)
+    → let d = c.args.d in lowers_badly d ≡ not (eqb d.target 0 && (is_zero d.max && is_zero d.min))
 unfolding lowers_badly
 numbers c =
-    rw (lowers c.before.before, sym c.before.standby.ensures ∙ not-false c.before.standby.result c.if2.false)
+    rw (lowers c.before.before, sym c.standby.ensures ∙ not-false c.standby.result c.if-not-standby.false-raw)
 
 lowering-requires : tie.Need-lowering-requires
 lowering-requires c κs = search rules
 
-returns : tie.Need-returns
+returns-then-not-lowering : tie.Need-returns-then-not-lowering
 unfolding lowers_badly
-returns c = rw (sym c.before.lowering.ensures ∙ not-true c.before.lowering.result c.if1.true)
+returns-then-not-lowering c = rw (sym c.lowering.ensures ∙ not-true c.lowering.result c.if-not-lowering.true-raw)
 
 standby-requires : tie.Need-standby-requires
 standby-requires c κs = search rules
 
-returns-2 : tie.Need-returns-2
+returns-then-not-standby : tie.Need-returns-then-not-standby
 unfolding lowers_badly
-returns-2 c = rw (lowers c.before.before, sym c.before.standby.ensures ∙ not-true c.before.standby.result c.if2.true)
+returns-then-not-standby c = rw (lowers c.before.before, sym c.standby.ensures ∙ not-true c.standby.result c.if-not-standby.true-raw)
 
-returns-3 : tie.Need-returns-3
-returns-3 c = rw (numbers c.before.before, ne_eqb _ _ c.if3.true)
+returns-then-d-ne0 : tie.Need-returns-then-d-ne0
+returns-then-d-ne0 c = rw (numbers c.before.before, ne_eqb _ _ c.if-d-ne0.true)
 
-returns-4 : tie.Need-returns-4
-returns-4 c =
+returns-then-d-ne0-2 : tie.Need-returns-then-d-ne0-2
+returns-then-d-ne0-2 c =
     let t = c.before.before.before in
     let s = t.before.before in
-    let d = s.before.before.before.before.args.d in
-    rw (numbers s, eq-eqb _ _ t.if3.false, ← zero_bits d.max (search rules), ne_eqb _ _ c.if4.true)
+    let d = s.args.d in
+    rw (numbers s, eq-eqb _ _ t.if-d-ne0.false, ← zero_bits d.max (search rules), ne_eqb _ _ c.if-d-ne0-2.true)
 
-returns-5 : tie.Need-returns-5
-returns-5 c =
+returns : tie.Need-returns
+returns c =
     let m = c.before.before in
     let t = m.before.before.before in
     let s = t.before.before in
-    let d = s.before.before.before.before.args.d in
-    rw (numbers s, eq-eqb _ _ t.if3.false, ← zero_bits d.max (search rules), eq-eqb _ _ m.if4.false, zero_bits d.min (search rules))
+    let d = s.args.d in
+    rw (numbers s, eq-eqb _ _ t.if-d-ne0.false, ← zero_bits d.max (search rules), eq-eqb _ _ m.if-d-ne0-2.false, zero_bits d.min (search rules))
 
 pub lowers_badly_spec : {M : Type 1} → statement M
 lowers_badly_spec =
     tie.close
-    (tie.spec lowering-requires returns standby-requires returns-2 returns-3 returns-4 returns-5)
+    (tie.spec lowering-requires returns-then-not-lowering standby-requires returns-then-not-standby returns-then-d-ne0 returns-then-d-ne0-2 returns)

@@ -4,14 +4,14 @@ use borrow.Author.Tests.{eq-eqb, ne_eqb}
 use Rattle.rule_limits.proofs.cap.Statement.{statement}
 use Rattle.rule_limits.proofs.cap.Tie as tie
 
-returns : tie.Need-returns
-returns c = rw (eq-eqb _ _ c.if1.true)
+returns-then-got-eq0 : tie.Need-returns-then-got-eq0
+returns-then-got-eq0 c = rw (eq-eqb _ _ c.if-got-eq0.true)
 
-returns-2 : tie.Need-returns-2
-returns-2 c = rw (ne_eqb _ _ c.before.if1.false) (omega arith)
+returns-then-g-most : tie.Need-returns-then-g-most
+returns-then-g-most c = rw (ne_eqb _ _ c.if-got-eq0.false) (omega arith)
 
-returns-3 : tie.Need-returns-3
-returns-3 c = rw (ne_eqb _ _ c.before.if1.false) (omega arith)
+returns-else-g-most : tie.Need-returns-else-g-most
+returns-else-g-most c = rw (ne_eqb _ _ c.if-got-eq0.false) (omega arith)
 
 pub cap_spec : {M : Type 1} → statement M
-cap_spec = tie.close (tie.spec returns returns-2 returns-3)
+cap_spec = tie.close (tie.spec returns-then-got-eq0 returns-then-g-most returns-else-g-most)

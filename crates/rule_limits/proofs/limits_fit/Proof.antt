@@ -4,66 +4,66 @@ use Rattle.rule_limits.specs.Limits.{limits_fit}
 use Rattle.rule_limits.proofs.limits_fit.Statement.{statement}
 use Rattle.rule_limits.proofs.limits_fit.Tie as tie
 
-returns : tie.Need-returns
+returns-then-lim-lt1 : tie.Need-returns-then-lim-lt1
 unfolding limits_fit
-returns c = rw (lt-leb _ _ c.if1.true)
+returns-then-lim-lt1 c = rw (lt-leb _ _ c.if-lim-lt1.true)
 
-returns-2 : tie.Need-returns-2
+returns-then-lim-gt65535 : tie.Need-returns-then-lim-gt65535
 unfolding limits_fit
-returns-2 c =
+returns-then-lim-gt65535 c =
     let one = c.before.before in
-    rw (le-leb _ _ one.if1.false, lt-leb _ _ c.if2.true)
+    rw (le-leb _ _ one.if-lim-lt1.false, lt-leb _ _ c.if-lim-gt65535.true)
 
-returns-3 : tie.Need-returns-3
+returns-then-lim-lt1-2 : tie.Need-returns-then-lim-lt1-2
 unfolding limits_fit
-returns-3 c =
+returns-then-lim-lt1-2 c =
     let two = c.before.before in
     let one = two.before.before in
-    rw (le-leb _ _ one.if1.false, le-leb _ _ two.if2.false, lt-leb _ _ c.if3.true)
+    rw (le-leb _ _ one.if-lim-lt1.false, le-leb _ _ two.if-lim-gt65535.false, lt-leb _ _ c.if-lim-lt1-2.true)
 
-returns-4 : tie.Need-returns-4
+returns-then-lim-gt32767 : tie.Need-returns-then-lim-gt32767
 unfolding limits_fit
-returns-4 c =
+returns-then-lim-gt32767 c =
     let three = c.before.before in
     let two = three.before.before in
     let one = two.before.before in
-    rw (le-leb _ _ one.if1.false, le-leb _ _ two.if2.false, le-leb _ _ three.if3.false, lt-leb _ _ c.if4.true)
+    rw (le-leb _ _ one.if-lim-lt1.false, le-leb _ _ two.if-lim-gt65535.false, le-leb _ _ three.if-lim-lt1-2.false, lt-leb _ _ c.if-lim-gt32767.true)
 
-returns-5 : tie.Need-returns-5
+returns-then-lim-gt32767-2 : tie.Need-returns-then-lim-gt32767-2
 unfolding limits_fit
-returns-5 c =
+returns-then-lim-gt32767-2 c =
     let four = c.before.before in
     let three = four.before.before in
     let two = three.before.before in
     let one = two.before.before in
     rw (
-      le-leb _ _ one.if1.false,
-      le-leb _ _ two.if2.false,
-      le-leb _ _ three.if3.false,
-      le-leb _ _ four.if4.false,
-      lt-leb _ _ c.if5.true,
+      le-leb _ _ one.if-lim-lt1.false,
+      le-leb _ _ two.if-lim-gt65535.false,
+      le-leb _ _ three.if-lim-lt1-2.false,
+      le-leb _ _ four.if-lim-gt32767.false,
+      lt-leb _ _ c.if-lim-gt32767-2.true,
     )
 
-returns-6 : tie.Need-returns-6
+returns-then-lim-lt100 : tie.Need-returns-then-lim-lt100
 unfolding limits_fit
-returns-6 c =
+returns-then-lim-lt100 c =
     let five = c.before.before in
     let four = five.before.before in
     let three = four.before.before in
     let two = three.before.before in
     let one = two.before.before in
     rw (
-      le-leb _ _ one.if1.false,
-      le-leb _ _ two.if2.false,
-      le-leb _ _ three.if3.false,
-      le-leb _ _ four.if4.false,
-      le-leb _ _ five.if5.false,
-      lt-leb _ _ c.if6.true,
+      le-leb _ _ one.if-lim-lt1.false,
+      le-leb _ _ two.if-lim-gt65535.false,
+      le-leb _ _ three.if-lim-lt1-2.false,
+      le-leb _ _ four.if-lim-gt32767.false,
+      le-leb _ _ five.if-lim-gt32767-2.false,
+      lt-leb _ _ c.if-lim-lt100.true,
     )
 
-returns-7 : tie.Need-returns-7
+returns-then-lim-gt60000 : tie.Need-returns-then-lim-gt60000
 unfolding limits_fit
-returns-7 c =
+returns-then-lim-gt60000 c =
     let six = c.before.before in
     let five = six.before.before in
     let four = five.before.before in
@@ -71,18 +71,18 @@ returns-7 c =
     let two = three.before.before in
     let one = two.before.before in
     rw (
-      le-leb _ _ one.if1.false,
-      le-leb _ _ two.if2.false,
-      le-leb _ _ three.if3.false,
-      le-leb _ _ four.if4.false,
-      le-leb _ _ five.if5.false,
-      le-leb _ _ six.if6.false,
-      lt-leb _ _ c.if7.true,
+      le-leb _ _ one.if-lim-lt1.false,
+      le-leb _ _ two.if-lim-gt65535.false,
+      le-leb _ _ three.if-lim-lt1-2.false,
+      le-leb _ _ four.if-lim-gt32767.false,
+      le-leb _ _ five.if-lim-gt32767-2.false,
+      le-leb _ _ six.if-lim-lt100.false,
+      lt-leb _ _ c.if-lim-gt60000.true,
     )
 
-returns-8 : tie.Need-returns-8
+returns-then-lim-gt1 : tie.Need-returns-then-lim-gt1
 unfolding limits_fit
-returns-8 c =
+returns-then-lim-gt1 c =
     let seven = c.before.before in
     let six = seven.before.before in
     let five = six.before.before in
@@ -91,19 +91,19 @@ returns-8 c =
     let two = three.before.before in
     let one = two.before.before in
     rw (
-      le-leb _ _ one.if1.false,
-      le-leb _ _ two.if2.false,
-      le-leb _ _ three.if3.false,
-      le-leb _ _ four.if4.false,
-      le-leb _ _ five.if5.false,
-      le-leb _ _ six.if6.false,
-      le-leb _ _ seven.if7.false,
-      lt-leb _ _ c.if8.true,
+      le-leb _ _ one.if-lim-lt1.false,
+      le-leb _ _ two.if-lim-gt65535.false,
+      le-leb _ _ three.if-lim-lt1-2.false,
+      le-leb _ _ four.if-lim-gt32767.false,
+      le-leb _ _ five.if-lim-gt32767-2.false,
+      le-leb _ _ six.if-lim-lt100.false,
+      le-leb _ _ seven.if-lim-gt60000.false,
+      lt-leb _ _ c.if-lim-gt1.true,
     )
 
-returns-9 : tie.Need-returns-9
+returns : tie.Need-returns
 unfolding limits_fit
-returns-9 c =
+returns c =
     let eight = c.before in
     let seven = eight.before.before in
     let six = seven.before.before in
@@ -113,16 +113,16 @@ returns-9 c =
     let two = three.before.before in
     let one = two.before.before in
     rw (
-      le-leb _ _ one.if1.false,
-      le-leb _ _ two.if2.false,
-      le-leb _ _ three.if3.false,
-      le-leb _ _ four.if4.false,
-      le-leb _ _ five.if5.false,
-      le-leb _ _ six.if6.false,
-      le-leb _ _ seven.if7.false,
-      le-leb _ _ eight.if8.false,
+      le-leb _ _ one.if-lim-lt1.false,
+      le-leb _ _ two.if-lim-gt65535.false,
+      le-leb _ _ three.if-lim-lt1-2.false,
+      le-leb _ _ four.if-lim-gt32767.false,
+      le-leb _ _ five.if-lim-gt32767-2.false,
+      le-leb _ _ six.if-lim-lt100.false,
+      le-leb _ _ seven.if-lim-gt60000.false,
+      le-leb _ _ eight.if-lim-gt1.false,
     )
 
 pub limits_fit_spec : {M : Type 1} → statement M
 limits_fit_spec =
-    tie.close (tie.spec returns returns-2 returns-3 returns-4 returns-5 returns-6 returns-7 returns-8 returns-9)
+    tie.close (tie.spec returns-then-lim-lt1 returns-then-lim-gt65535 returns-then-lim-lt1-2 returns-then-lim-gt32767 returns-then-lim-gt32767-2 returns-then-lim-lt100 returns-then-lim-gt60000 returns-then-lim-gt1 returns)

@@ -6,23 +6,23 @@ use Rattle.rule_pages.specs.Said.{told_by, limits_by}
 use Rattle.rule_pages.proofs.limits_by.Statement.{statement}
 use Rattle.rule_pages.proofs.limits_by.Tie as tie
 
-limits-in-requires : tie.Need-limits-in-requires
-limits-in-requires c κs = search rules
+limits_in-requires : tie.Need-limits_in-requires
+limits_in-requires c κs = search rules
 
 told-requires : tie.Need-told-requires
 told-requires c κs = search rules
 
+returns-then-kind-eq-LIMITS : tie.Need-returns-then-kind-eq-LIMITS
+unfolding limits_by
+returns-then-kind-eq-LIMITS c = rw (eq-eqb _ _ c.if-kind-eq-LIMITS.true) (c.told.ensures ∙ ap told_by c.limits_in.ensures)
+
+parameters_in-requires : tie.Need-parameters_in-requires
+parameters_in-requires c κs = search rules
+
 returns : tie.Need-returns
 unfolding limits_by
-returns c = rw (eq-eqb _ _ c.before.before.if1.true) (c.told.ensures ∙ ap told_by c.before.limits-in.ensures)
-
-parameters-in-requires : tie.Need-parameters-in-requires
-parameters-in-requires c κs = search rules
-
-returns-2 : tie.Need-returns-2
-unfolding limits_by
-returns-2 c = rw (ne_eqb _ _ c.before.if1.false) c.parameters-in.ensures
+returns c = rw (ne_eqb _ _ c.if-kind-eq-LIMITS.false) c.parameters_in.ensures
 
 pub limits_by_spec : {M : Type 1} → statement M
 limits_by_spec =
-    tie.close (tie.spec limits-in-requires told-requires returns parameters-in-requires returns-2)
+    tie.close (tie.spec limits_in-requires told-requires returns-then-kind-eq-LIMITS parameters_in-requires returns)

@@ -15,9 +15,9 @@ returns c =
     let a1 = a2.before in
     c.limits.ensures
     ∙ rw (
-      to_z-of_z {w = w64} (record { sfits = a1.raw_of.type-inv }) ∙ a1.raw_of.ensures,
-      to_z-of_z {w = w64} (record { sfits = a2.raw-of2.type-inv }) ∙ a2.raw-of2.ensures,
-      to_z-of_z {w = w64} (record { sfits = a3.raw-of3.type-inv }) ∙ a3.raw-of3.ensures,
+      to_z-of_z {w = w64} (record { sfits = a1.raw_of.type_inv }) ∙ a1.raw_of.ensures,
+      to_z-of_z {w = w64} (record { sfits = a2.raw_of-2.type_inv }) ∙ a2.raw_of-2.ensures,
+      to_z-of_z {w = w64} (record { sfits = a3.raw_of-3.type_inv }) ∙ a3.raw_of-3.ensures,
     )
 
 pub limits_in_spec : {M : Type 1} → statement M

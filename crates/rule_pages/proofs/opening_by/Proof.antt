@@ -5,11 +5,11 @@ use Rattle.rule_pages.proofs.Alike.{opening_alike}
 use Rattle.rule_pages.proofs.opening_by.Statement.{statement}
 use Rattle.rule_pages.proofs.opening_by.Tie as tie
 
-session-in-requires : tie.Need-session-in-requires
-session-in-requires c κs = search rules
+session_in-requires : tie.Need-session_in-requires
+session_in-requires c κs = search rules
 
 returns : tie.Need-returns
-returns c = c.session-in.ensures ∙ sym (opening_alike c.before.args.kind c.before.args.number)
+returns c = c.session_in.ensures ∙ sym (opening_alike c.args.kind c.args.number)
 
 pub opening_by_spec : {M : Type 1} → statement M
-opening_by_spec = tie.close (tie.spec session-in-requires returns)
+opening_by_spec = tie.close (tie.spec session_in-requires returns)

@@ -5,27 +5,27 @@ use Rattle.rule_pages.specs.Places.{place_by}
 use Rattle.rule_pages.proofs.place_by.Statement.{statement}
 use Rattle.rule_pages.proofs.place_by.Tie as tie
 
+returns-then-kind-lt-STATUS : tie.Need-returns-then-kind-lt-STATUS
+unfolding place_by
+returns-then-kind-lt-STATUS c = rw (lt-ltb _ _ c.if-kind-lt-STATUS.true)
+
+returns-then-kind-lt-STOP : tie.Need-returns-then-kind-lt-STOP
+unfolding place_by
+returns-then-kind-lt-STOP c = rw (le-ltb _ _ c.if-kind-lt-STATUS.false, lt-ltb _ _ c.if-kind-lt-STOP.true)
+
+overflow_sub-result-then-kind-lt-SEQUENCE : tie.Need-overflow_sub-result-then-kind-lt-SEQUENCE
+overflow_sub-result-then-kind-lt-SEQUENCE c = search rules
+
+returns-then-kind-lt-SEQUENCE : tie.Need-returns-then-kind-lt-SEQUENCE
+unfolding place_by
+returns-then-kind-lt-SEQUENCE c = rw (le-ltb _ _ c.if-kind-lt-STATUS.false, le-ltb _ _ c.if-kind-lt-STOP.false, lt-ltb _ _ c.if-kind-lt-SEQUENCE.true)
+
+overflow_add-result : tie.Need-overflow_add-result
+overflow_add-result c = search rules
+
 returns : tie.Need-returns
 unfolding place_by
-returns c = rw (lt-ltb _ _ c.if1.true)
-
-returns-2 : tie.Need-returns-2
-unfolding place_by
-returns-2 c = rw (le-ltb _ _ c.before.if1.false, lt-ltb _ _ c.if2.true)
-
-sub-result : tie.Need-overflow-sub-result
-sub-result c = search rules
-
-returns-3 : tie.Need-returns-3
-unfolding place_by
-returns-3 c = rw (le-ltb _ _ c.before.before.if1.false, le-ltb _ _ c.before.if2.false, lt-ltb _ _ c.if3.true)
-
-add-result : tie.Need-overflow-add-result
-add-result c = search rules
-
-returns-4 : tie.Need-returns-4
-unfolding place_by
-returns-4 c = rw (le-ltb _ _ c.before.before.if1.false, le-ltb _ _ c.before.if2.false, le-ltb _ _ c.if3.false)
+returns c = rw (le-ltb _ _ c.if-kind-lt-STATUS.false, le-ltb _ _ c.if-kind-lt-STOP.false, le-ltb _ _ c.if-kind-lt-SEQUENCE.false)
 
 pub place_by_spec : {M : Type 1} → statement M
-place_by_spec = tie.close (tie.spec returns returns-2 sub-result returns-3 add-result returns-4)
+place_by_spec = tie.close (tie.spec returns-then-kind-lt-STATUS returns-then-kind-lt-STOP overflow_sub-result-then-kind-lt-SEQUENCE returns-then-kind-lt-SEQUENCE overflow_add-result returns)

@@ -7,8 +7,8 @@ use Rattle.message_fields.specs.Fields.{word_of}
 use Rattle.rule_pages.proofs.positive.Statement.{statement}
 use Rattle.rule_pages.proofs.positive.Tie as tie
 
-short-raw-requires : tie.Need-short-raw-requires
-short-raw-requires c κs = search rules
+short_raw-requires : tie.Need-short_raw-requires
+short_raw-requires c κs = search rules
 
 word-requires : tie.Need-word-requires
 word-requires c κs = search rules
@@ -16,7 +16,7 @@ word-requires c κs = search rules
 returns : tie.Need-returns
 returns c =
     let x = c.before in
-    c.word.ensures ∙ ap word_of (to_z-of_z {w = w64} (record { sfits = x.short-raw.type-inv }) ∙ x.short-raw.ensures ∙ to_z-of_z x.before.ranges.z)
+    c.word.ensures ∙ ap word_of (to_z-of_z {w = w64} (record { sfits = x.short_raw.type_inv }) ∙ x.short_raw.ensures ∙ to_z-of_z x.ranges.z)
 
 pub positive_spec : {M : Type 1} → statement M
-positive_spec = tie.close (tie.spec short-raw-requires word-requires returns)
+positive_spec = tie.close (tie.spec short_raw-requires word-requires returns)

@@ -5,92 +5,75 @@ use Rattle.rule_pages.specs.Roles.{role_of}
 use Rattle.rule_pages.proofs.role_of.Statement.{statement}
 use Rattle.rule_pages.proofs.role_of.Tie as tie
 
-returns : tie.Need-returns
+returns-in-0 : tie.Need-returns-in-0
 unfolding role_of
-returns c = rw c.match.keys1
+returns-in-0 c = rw c.in-0.is
 
-returns-2 : tie.Need-returns-2
+returns-in-1 : tie.Need-returns-in-1
 unfolding role_of
-returns-2 c = rw c.match.keys2
+returns-in-1 c = rw c.in-1.is
 
-returns-3 : tie.Need-returns-3
+returns-in-2 : tie.Need-returns-in-2
 unfolding role_of
-returns-3 c = rw c.match.keys3
+returns-in-2 c = rw c.in-2.is
 
-returns-4 : tie.Need-returns-4
+returns-in-3 : tie.Need-returns-in-3
 unfolding role_of
-returns-4 c = rw c.match.keys4
+returns-in-3 c = rw c.in-3.is
 
-returns-5 : tie.Need-returns-5
+returns-in-5 : tie.Need-returns-in-5
 unfolding role_of
-returns-5 c = rw c.match.keys5
+returns-in-5 c = rw c.in-5.is
 
-returns-6 : tie.Need-returns-6
+returns-in-6 : tie.Need-returns-in-6
 unfolding role_of
-returns-6 c = rw c.match.keys6
+returns-in-6 c = rw c.in-6.is
 
-returns-7 : tie.Need-returns-7
+returns-in-7 : tie.Need-returns-in-7
 unfolding role_of
-returns-7 c = rw c.match.keys7
+returns-in-7 c = rw c.in-7.is
 
-returns-8 : tie.Need-returns-8
+returns-in-12 : tie.Need-returns-in-12
 unfolding role_of
-returns-8 c = rw c.match.keys8
+returns-in-12 c = rw c.in-12.is
 
-returns-9 : tie.Need-returns-9
+returns-in-13 : tie.Need-returns-in-13
 unfolding role_of
-returns-9 c = rw c.match.keys9
+returns-in-13 c = rw c.in-13.is
 
-returns-10 : tie.Need-returns-10
+returns-in-23 : tie.Need-returns-in-23
 unfolding role_of
-returns-10 c = rw c.match.keys10
+returns-in-23 c = rw c.in-23.is
 
-returns-11 : tie.Need-returns-11
+returns-in-16 : tie.Need-returns-in-16
 unfolding role_of
-returns-11 c = rw c.match.keys11
+returns-in-16 c = rw c.in-16.is
 
-returns-12 : tie.Need-returns-12
+returns-in-17 : tie.Need-returns-in-17
 unfolding role_of
-returns-12 c = rw c.match.keys12
+returns-in-17 c = rw c.in-17.is
 
-returns-13 : tie.Need-returns-13
+returns-in-18 : tie.Need-returns-in-18
 unfolding role_of
-returns-13 c = rw c.match.keys13
+returns-in-18 c = rw c.in-18.is
 
-returns-14 : tie.Need-returns-14
+returns-in-20 : tie.Need-returns-in-20
 unfolding role_of
-returns-14 c = rw c.match.keys14
+returns-in-20 c = rw c.in-20.is
 
-returns-15 : tie.Need-returns-15
+returns-in-22 : tie.Need-returns-in-22
 unfolding role_of
-returns-15 c = rw c.match.keys15
+returns-in-22 c = rw c.in-22.is
 
-returns-16 : tie.Need-returns-16
+returns-in-21 : tie.Need-returns-in-21
 unfolding role_of
-returns-16 c = rw c.match.keys16
+returns-in-21 c = rw c.in-21.is
 
-returns-17 : tie.Need-returns-17
+returns-in_default : tie.Need-returns-in_default
 unfolding role_of
-returns-17 c = search past depth 25
+returns-in_default c = search past depth 25
 
 pub role_of_spec : {M : Type 1} → statement M
 role_of_spec =
     tie.close
-    (tie.spec
-    returns
-    returns-2
-    returns-3
-    returns-4
-    returns-5
-    returns-6
-    returns-7
-    returns-8
-    returns-9
-    returns-10
-    returns-11
-    returns-12
-    returns-13
-    returns-14
-    returns-15
-    returns-16
-    returns-17)
+    (tie.spec returns-in-0 returns-in-1 returns-in-2 returns-in-3 returns-in-5 returns-in-6 returns-in-7 returns-in-12 returns-in-13 returns-in-23 returns-in-16 returns-in-17 returns-in-18 returns-in-20 returns-in-22 returns-in-21 returns-in_default)

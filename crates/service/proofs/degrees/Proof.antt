@@ -5,11 +5,11 @@ use Rattle.service.proofs.Quotient.{quotient}
 use Rattle.service.proofs.degrees.Statement.{statement}
 use Rattle.service.proofs.degrees.Tie as tie
 
-int-to-float-result : tie.Need-int-to-float-result
-int-to-float-result c = search rules
+int_to_float-result : tie.Need-int_to_float-result
+int_to_float-result c = search rules
 
 returns : tie.Need-returns
-returns c = rw (to_z-of_z c.before.ranges.raw) (quotient c.before.args.raw c.before.ranges.raw.sfits)
+returns c = rw (to_z-of_z c.ranges.raw) (quotient c.args.raw c.ranges.raw.sfits)
 
 pub degrees_spec : {M : Type 1} → statement M
-degrees_spec = tie.close (tie.spec int-to-float-result returns)
+degrees_spec = tie.close (tie.spec int_to_float-result returns)

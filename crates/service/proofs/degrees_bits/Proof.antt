@@ -14,15 +14,15 @@ a_number nan h = absurd (true≢false (sym nan_differs ∙ h))
 a_number (inf s) h = tt
 a_number (fin s m e) h = tt
 
-returns : tie.Need-returns
+returns-then-x : tie.Need-returns-then-x
 unfolding to_bits
-returns c = ap (to_bits binary32) (sym (differs_from_itself c.before.args.x (subst T (sym c.if1.true) tt)))
+returns-then-x c = ap (to_bits binary32) (sym (differs_from_itself c.args.x (subst T (sym c.if-x.true) tt)))
 
-float-to-bits-result : tie.Need-float-to-bits-result
-float-to-bits-result c = a_number c.before.args.x c.if1.false
+float_to_bits-result : tie.Need-float_to_bits-result
+float_to_bits-result c = a_number c.args.x c.if-x.false
 
-returns-2 : tie.Need-returns-2
-returns-2 c = search rules
+returns : tie.Need-returns
+returns c = search rules
 
 pub degrees_bits_spec : {M : Type 1} → statement M
-degrees_bits_spec = tie.close (tie.spec returns float-to-bits-result returns-2)
+degrees_bits_spec = tie.close (tie.spec returns-then-x float_to_bits-result returns)

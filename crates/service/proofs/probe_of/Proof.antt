@@ -9,18 +9,18 @@ use Rattle.service.proofs.Unused.{sixteen}
 use Rattle.service.proofs.probe_of.Statement.{statement}
 use Rattle.service.proofs.probe_of.Tie as tie
 
-returns : tie.Need-returns
+returns-then-raw-eq8191 : tie.Need-returns-then-raw-eq8191
 unfolding probe_of
-returns c = rw (sixteen c.before.args.raw c.before.ranges.raw.sfits, eq-eqb _ 0x1fff c.if1.true)
+returns-then-raw-eq8191 c = rw (sixteen c.args.raw c.ranges.raw.sfits, eq-eqb _ 0x1fff c.if-raw-eq8191.true)
 
 degrees-requires : tie.Need-degrees-requires
 degrees-requires c κs = search rules
 
-returns-2 : tie.Need-returns-2
+returns : tie.Need-returns
 unfolding probe_of
-returns-2 c =
-    rw (sixteen c.before.before.args.raw c.before.before.ranges.raw.sfits, ne_eqb _ 0x1fff c.before.if1.false)
-    (ap Degrees (c.degrees.ensures ∙ ap degrees_of (to_z-of_z c.before.before.ranges.raw)))
+returns c =
+    rw (sixteen c.args.raw c.ranges.raw.sfits, ne_eqb _ 0x1fff c.if-raw-eq8191.false)
+    (ap Degrees (c.degrees.ensures ∙ ap degrees_of (to_z-of_z c.ranges.raw)))
 
 pub probe_of_spec : {M : Type 1} → statement M
-probe_of_spec = tie.close (tie.spec returns degrees-requires returns-2)
+probe_of_spec = tie.close (tie.spec returns-then-raw-eq8191 degrees-requires returns)

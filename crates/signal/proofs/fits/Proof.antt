@@ -14,78 +14,67 @@ use Rattle.signal.proofs.RawLaws.{width_in, fits_yes, fits_no}
 use Rattle.signal.proofs.fits.Statement.{statement}
 use Rattle.signal.proofs.fits.Tie as tie
 
-wide : (c : tie.Else1) → is_width c.before.before.args.width ≡ true
-wide c = sym c.before.is-width.ensures ∙ not-false c.before.is-width.result c.if1.false
+wide : (c : tie.Else-not-is_width) → is_width c.args.width ≡ true
+wide c = sym c.is_width.ensures ∙ not-false c.is_width.result c.if-not-is_width.false-raw
 
 -- the answer, once it is known whether the signal is signed
-known : (c : tie.Else1) (b : Bool) → c.before.before.args.signed ≡ b
-    → fits_in b c.before.before.args.width c.before.before.args.z ≡ fits_of c.before.before.args.signed c.before.before.args.width c.before.before.args.z
+known : (c : tie.Else-not-is_width) (b : Bool) → c.args.signed ≡ b
+    → fits_in b c.args.width c.args.z ≡ fits_of c.args.signed c.args.width c.args.z
 known c b e =
-    let a = c.before.before.args in
+    let a = c.args in
     sym (ap (λ (x : Bool). fits_of x a.width a.z) e ∙ fits_yes b a.width a.z (wide c))
 
-is-width-requires : tie.Need-is-width-requires
-is-width-requires c κs = search rules
+is_width-requires : tie.Need-is_width-requires
+is_width-requires c κs = search rules
 
-returns : tie.Need-returns
-returns c =
-    let a = c.before.before.args in
-    sym (fits_no a.signed a.width a.z (sym c.before.is-width.ensures ∙ not-true c.before.is-width.result c.if1.true))
+returns-then-not-is_width : tie.Need-returns-then-not-is_width
+returns-then-not-is_width c =
+    let a = c.args in
+    sym (fits_no a.signed a.width a.z (sym c.is_width.ensures ∙ not-true c.is_width.result c.if-not-is_width.true-raw))
 
 size-requires : tie.Need-size-requires
 size-requires c κs = search rules
 
-sub-result : tie.Need-overflow-sub-result
-sub-result c = (width_in c.before.before.before.before.args.width (wide c.before.before)).0
+overflow_sub-result : tie.Need-overflow_sub-result
+overflow_sub-result c = (width_in c.args.width (wide c.before.before)).0
 
-cast-result : tie.Need-overflow-cast-result
-cast-result c = search rules
+overflow_cast-result : tie.Need-overflow_cast-result
+overflow_cast-result c = search rules
 
-shr-result : tie.Need-overflow-shr-result
-shr-result c = omega (arith, width_in c.before.before.before.before.args.width (wide c.before.before))
+overflow_shr-result : tie.Need-overflow_shr-result
+overflow_shr-result c = omega (arith, width_in c.args.width (wide c.before.before))
 
-returns-2 : tie.Need-returns-2
-returns-2 c =
+returns-then-signed : tie.Need-returns-then-signed
+returns-then-signed c =
     let s = c.before.before.before.before in
     let k = s.args.width - 1 in
     shr_test c.size.result k
     ∙ ap (λ (m : ℕ). ltb m (2 ^ k)) (c.size.ensures ∙ ap mag (to_z-of_z s.ranges.z))
-    ∙ known c.before.before true c.before.if2.true
+    ∙ known c.before.before true c.if-signed.true
 
-returns-3 : tie.Need-returns-3
-returns-3 c =
+returns-then-z-lt0 : tie.Need-returns-then-z-lt0
+returns-then-z-lt0 c =
     let s = c.before.before.before.before in
-    sym (ap (λ (b : Bool). b && ltb (mag s.args.z) (2 ^ s.args.width)) (tested s.args.z true s.ranges.z c.if3.true))
-    ∙ known c.before.before false c.before.if2.false
+    sym (ap (λ (b : Bool). b && ltb (mag s.args.z) (2 ^ s.args.width)) (tested s.args.z true s.ranges.z c.if-z-lt0.true))
+    ∙ known c.before.before false c.if-signed.false
 
 size-requires-2 : tie.Need-size-requires-2
 size-requires-2 c κs = search rules
 
-has-bits-requires : tie.Need-has-bits-requires
-has-bits-requires c κs =
-    width_in c.before.before.before.before.before.args.width (wide c.before.before.before)
+has_bits-requires : tie.Need-has_bits-requires
+has_bits-requires c κs =
+    width_in c.args.width (wide c.before.before.before)
 
-returns-4 : tie.Need-returns-4
-returns-4 c =
+returns : tie.Need-returns
+returns c =
     let s = c.before.before.before.before.before.before in
     let w = s.args.width in
-    c.has-bits.ensures
-    ∙ ap (λ (m : ℕ). ltb m (2 ^ w)) (c.before.size2.ensures ∙ ap mag (to_z-of_z s.ranges.z))
-    ∙ sym (ap (λ (b : Bool). b && ltb (mag s.args.z) (2 ^ w)) (tested s.args.z false s.ranges.z c.before.before.if3.false))
-    ∙ known c.before.before.before.before false c.before.before.before.if2.false
+    c.has_bits.ensures
+    ∙ ap (λ (m : ℕ). ltb m (2 ^ w)) (c.size-2.ensures ∙ ap mag (to_z-of_z s.ranges.z))
+    ∙ sym (ap (λ (b : Bool). b && ltb (mag s.args.z) (2 ^ w)) (tested s.args.z false s.ranges.z c.if-z-lt0.false))
+    ∙ known c.before.before.before.before false c.if-signed.false
 
 pub fits_spec : {M : Type 1} → statement M
 fits_spec =
     tie.close
-    (tie.spec
-    is-width-requires
-    returns
-    size-requires
-    sub-result
-    cast-result
-    shr-result
-    returns-2
-    returns-3
-    size-requires-2
-    has-bits-requires
-    returns-4)
+    (tie.spec is_width-requires returns-then-not-is_width size-requires overflow_sub-result overflow_cast-result overflow_shr-result returns-then-signed returns-then-z-lt0 size-requires-2 has_bits-requires returns)

@@ -12,33 +12,33 @@ use Rattle.signal.proofs.Totals.{word_found, get_in}
 use Rattle.signal.proofs.get.Statement.{statement}
 use Rattle.signal.proofs.get.Tie as tie
 
-in-word-requires : tie.Need-in-word-requires
-in-word-requires c κs = search rules
+in_word-requires : tie.Need-in_word-requires
+in_word-requires c κs = search rules
 
-returns : tie.Need-returns
+returns-then-not-in_word : tie.Need-returns-then-not-in_word
 unfolding get_of
-returns c =
-    let a = c.before.before.args in
-    sym (ap (λ (b : Bool). cond b (get_bits a.n a.start a.width) 0) (sym c.before.in-word.ensures ∙ not-true c.before.in-word.result c.if1.true))
+returns-then-not-in_word c =
+    let a = c.args in
+    sym (ap (λ (b : Bool). cond b (get_bits a.n a.start a.width) 0) (sym c.in_word.ensures ∙ not-true c.in_word.result c.if-not-in_word.true-raw))
 
-shr-result : tie.Need-overflow-shr-result
-shr-result c =
-    let a = c.before.before.args in
-    omega (arith, word_found a.start a.width c.before.in-word.result c.before.in-word.ensures c.if1.false)
+overflow_shr-result : tie.Need-overflow_shr-result
+overflow_shr-result c =
+    let a = c.args in
+    omega (arith, word_found a.start a.width c.in_word.result c.in_word.ensures c.if-not-in_word.false-raw)
 
 mask-requires : tie.Need-mask-requires
 mask-requires c κs =
-    let a = c.before.before.args in
-    let i = word_found a.start a.width c.before.in-word.result c.before.in-word.ensures c.if1.false in
+    let a = c.args in
+    let i = word_found a.start a.width c.in_word.result c.in_word.ensures c.if-not-in_word.false-raw in
     (i.0, omega arith)
 
-returns-2 : tie.Need-returns-2
-returns-2 c =
-    let a = c.before.before.before.args in
-    let i = word_found a.start a.width c.before.before.in-word.result c.before.before.in-word.ensures c.before.if1.false in
+returns : tie.Need-returns
+returns c =
+    let a = c.args in
+    let i = word_found a.start a.width c.in_word.result c.in_word.ensures c.if-not-in_word.false-raw in
     ap (λ (m : ℕ). bit_and (a.n / 2 ^ a.start) m) c.mask.ensures
     ∙ get_masked a.n a.start a.width
     ∙ sym (get_in a.n a.start a.width i.0 i.1)
 
 pub get_spec : {M : Type 1} → statement M
-get_spec = tie.close (tie.spec in-word-requires returns shr-result mask-requires returns-2)
+get_spec = tie.close (tie.spec in_word-requires returns-then-not-in_word overflow_shr-result mask-requires returns)

@@ -22,7 +22,7 @@ within v m w e = go (half_of (2 ^ w) v)
     go (inr l) = lt-leb v m (omega (arith, pow_pos w)) ∙ sym (le-ltb v (2 ^ w) l)
 
 returns : tie.Need-returns
-returns c = within c.before.args.v c.mask.result c.before.args.width c.mask.ensures
+returns c = within c.args.v c.mask.result c.args.width c.mask.ensures
 
 pub has_bits_spec : {M : Type 1} → statement M
 has_bits_spec = tie.close (tie.spec mask-requires returns)

@@ -9,20 +9,20 @@ use Rattle.signal.proofs.Totals.{word_no, word_room}
 use Rattle.signal.proofs.in_word.Statement.{statement}
 use Rattle.signal.proofs.in_word.Tie as tie
 
-returns : tie.Need-returns
-returns c =
-    let a = c.before.args in
-    sym (ap (λ (x : Bool). x && leb (a.start + a.width) 64) (lt-leb 1 a.width c.if1.true))
+returns-then-width-lt1 : tie.Need-returns-then-width-lt1
+returns-then-width-lt1 c =
+    let a = c.args in
+    sym (ap (λ (x : Bool). x && leb (a.start + a.width) 64) (lt-leb 1 a.width c.if-width-lt1.true))
 
-returns-2 : tie.Need-returns-2
-returns-2 c =
-    let a = c.before.before.args in
+returns-then-width-gt64 : tie.Need-returns-then-width-gt64
+returns-then-width-gt64 c =
+    let a = c.args in
     sym (word_no a.start a.width (omega arith))
 
-returns-3 : tie.Need-returns-3
-returns-3 c =
-    let a = c.before.before.args in
-    word_room a.start a.width c.before.if1.false c.if2.false
+returns : tie.Need-returns
+returns c =
+    let a = c.args in
+    word_room a.start a.width c.if-width-lt1.false c.if-width-gt64.false
 
 pub in_word_spec : {M : Type 1} → statement M
-in_word_spec = tie.close (tie.spec returns returns-2 returns-3)
+in_word_spec = tie.close (tie.spec returns-then-width-lt1 returns-then-width-gt64 returns)

@@ -6,15 +6,15 @@ use borrow.Author.Tests.{le-leb, lt-leb}
 use Rattle.signal.proofs.is_width.Statement.{statement}
 use Rattle.signal.proofs.is_width.Tie as tie
 
+returns-then-width-lt1 : tie.Need-returns-then-width-lt1
+returns-then-width-lt1 c =
+    let w = c.args.width in
+    sym (ap (λ (x : Bool). x && leb w 64) (lt-leb 1 w c.if-width-lt1.true))
+
 returns : tie.Need-returns
 returns c =
-    let w = c.before.args.width in
-    sym (ap (λ (x : Bool). x && leb w 64) (lt-leb 1 w c.if1.true))
-
-returns-2 : tie.Need-returns-2
-returns-2 c =
-    let w = c.before.args.width in
-    sym (ap (λ (x : Bool). x && leb w 64) (le-leb 1 w c.if1.false))
+    let w = c.args.width in
+    sym (ap (λ (x : Bool). x && leb w 64) (le-leb 1 w c.if-width-lt1.false))
 
 pub is_width_spec : {M : Type 1} → statement M
-is_width_spec = tie.close (tie.spec returns returns-2)
+is_width_spec = tie.close (tie.spec returns-then-width-lt1 returns)

@@ -16,31 +16,31 @@ mask-requires c κs = search rules
 size-requires : tie.Need-size-requires
 size-requires c κs = search rules
 
-sub-result : tie.Need-overflow-sub-result
-sub-result c =
-    let a = c.before.before.before.args in
-    let p = c.before.before.before.requires in
+overflow_sub-result : tie.Need-overflow_sub-result
+overflow_sub-result c =
+    let a = c.args in
+    let p = c.requires in
     let l : mag a.z < 2 ^ (a.width - 1) = p.2 in
-    let e : c.size.result ≡ mag a.z = c.size.ensures ∙ ap mag (to_z-of_z c.before.before.before.ranges.z) in
-    let m : c.before.mask.result ≡ 2 ^ a.width - 1 = c.before.mask.ensures in
+    let e : c.size.result ≡ mag a.z = c.size.ensures ∙ ap mag (to_z-of_z c.ranges.z) in
+    let m : c.mask.result ≡ 2 ^ a.width - 1 = c.mask.ensures in
     omega (arith, halves a.width p.0)
 
-size-requires-2 : tie.Need-size-requires-2
-size-requires-2 c κs = search rules
+size-requires-else-z-lt0 : tie.Need-size-requires-else-z-lt0
+size-requires-else-z-lt0 c κs = search rules
 
-returns : tie.Need-returns
-returns c =
+returns-then-z-lt0 : tie.Need-returns-then-z-lt0
+returns-then-z-lt0 c =
     let s = c.before.before.before in
     let z = s.args.z in
-    ap₂ (λ (x y : ℕ). x - y) c.before.mask.ensures (c.size.ensures ∙ ap mag (to_z-of_z s.ranges.z))
-    ∙ negative_bits s.args.width z (tested z true s.ranges.z c.before.before.if1.true)
+    ap₂ (λ (x y : ℕ). x - y) c.mask.ensures (c.size.ensures ∙ ap mag (to_z-of_z s.ranges.z))
+    ∙ negative_bits s.args.width z (tested z true s.ranges.z c.if-z-lt0.true)
 
-returns-2 : tie.Need-returns-2
-returns-2 c =
+returns-else-z-lt0 : tie.Need-returns-else-z-lt0
+returns-else-z-lt0 c =
     let s = c.before.before in
     let z = s.args.z in
-    c.size2.ensures ∙ ap mag (to_z-of_z s.ranges.z) ∙ other_bits s.args.width z (tested z false s.ranges.z c.before.if1.false)
+    c.size-else-z-lt0.ensures ∙ ap mag (to_z-of_z s.ranges.z) ∙ other_bits s.args.width z (tested z false s.ranges.z c.if-z-lt0.false)
 
 pub of_signed_spec : {M : Type 1} → statement M
 of_signed_spec =
-    tie.close (tie.spec mask-requires size-requires sub-result size-requires-2 returns returns-2)
+    tie.close (tie.spec mask-requires size-requires overflow_sub-result size-requires-else-z-lt0 returns-then-z-lt0 returns-else-z-lt0)

@@ -13,50 +13,50 @@ use Rattle.signal.proofs.Totals.{word_found, put_in}
 use Rattle.signal.proofs.put.Statement.{statement}
 use Rattle.signal.proofs.put.Tie as tie
 
-in-word-requires : tie.Need-in-word-requires
-in-word-requires c κs = search rules
+in_word-requires : tie.Need-in_word-requires
+in_word-requires c κs = search rules
 
-returns : tie.Need-returns
+returns-then-not-in_word : tie.Need-returns-then-not-in_word
 unfolding put_of
-returns c =
-    let a = c.before.before.args in
+returns-then-not-in_word c =
+    let a = c.args in
     sym (ap (λ (b : Bool). cond (b && ltb a.v (2 ^ a.width)) (put_bits a.n a.start a.width a.v) a.n)
-    (sym c.before.in-word.ensures ∙ not-true c.before.in-word.result c.if1.true))
+    (sym c.in_word.ensures ∙ not-true c.in_word.result c.if-not-in_word.true-raw))
 
-has-bits-requires : tie.Need-has-bits-requires
-has-bits-requires c κs =
-    let a = c.before.before.args in
-    let i = word_found a.start a.width c.before.in-word.result c.before.in-word.ensures c.if1.false in
+has_bits-requires : tie.Need-has_bits-requires
+has_bits-requires c κs =
+    let a = c.args in
+    let i = word_found a.start a.width c.in_word.result c.in_word.ensures c.if-not-in_word.false-raw in
     (i.0, omega arith)
 
-returns-2 : tie.Need-returns-2
+returns-then-not-has_bits : tie.Need-returns-then-not-has_bits
 unfolding put_of
-returns-2 c =
-    let a = c.before.before.before.before.args in
+returns-then-not-has_bits c =
+    let a = c.args in
     sym (ap₂ (λ (b d : Bool). cond (b && d) (put_bits a.n a.start a.width a.v) a.n)
-    (sym c.before.before.before.in-word.ensures ∙ not-false c.before.before.before.in-word.result c.before.before.if1.false)
-    (sym c.before.has-bits.ensures ∙ not-true c.before.has-bits.result c.if2.true))
+    (sym c.in_word.ensures ∙ not-false c.in_word.result c.if-not-in_word.false-raw)
+    (sym c.has_bits.ensures ∙ not-true c.has_bits.result c.if-not-has_bits.true-raw))
 
 mask-requires : tie.Need-mask-requires
 mask-requires c κs =
-    let a = c.before.before.before.before.args in
-    let i = word_found a.start a.width c.before.before.before.in-word.result c.before.before.before.in-word.ensures c.before.before.if1.false in
+    let a = c.args in
+    let i = word_found a.start a.width c.in_word.result c.in_word.ensures c.if-not-in_word.false-raw in
     (i.0, omega arith)
 
-shl-result : tie.Need-overflow-shl-result
-shl-result c =
-    let a = c.before.before.before.before.before.args in
-    omega (arith, word_found a.start a.width c.before.before.before.before.in-word.result c.before.before.before.before.in-word.ensures c.before.before.before.if1.false)
+overflow_shl-result : tie.Need-overflow_shl-result
+overflow_shl-result c =
+    let a = c.args in
+    omega (arith, word_found a.start a.width c.in_word.result c.in_word.ensures c.if-not-in_word.false-raw)
 
-shl-result-2 : tie.Need-overflow-shl-result-2
-shl-result-2 c = shl-result c
+overflow_shl-result-2 : tie.Need-overflow_shl-result-2
+overflow_shl-result-2 c = overflow_shl-result c
 
-returns-3 : tie.Need-returns-3
-returns-3 c =
+returns : tie.Need-returns
+returns c =
     let s = c.before.before.before.before.before in
     let a = s.args in
-    let i = word_found a.start a.width c.before.before.before.before.in-word.result c.before.before.before.before.in-word.ensures c.before.before.before.if1.false in
-    let l = ltb-true a.v (2 ^ a.width) (sym c.before.before.has-bits.ensures ∙ not-false c.before.before.has-bits.result c.before.if2.false) in
+    let i = word_found a.start a.width c.in_word.result c.in_word.ensures c.if-not-in_word.false-raw in
+    let l = ltb-true a.v (2 ^ a.width) (sym c.has_bits.ensures ∙ not-false c.has_bits.result c.if-not-has_bits.false-raw) in
     ap (λ (m : ℕ). bit_or (bit_and a.n ((2 ^ 64 - 1) - m * 2 ^ a.start % 2 ^ 64)) (a.v * 2 ^ a.start % 2 ^ 64)) c.mask.ensures
     ∙ put_masked a.n a.start a.width a.v s.ranges.n.fits i.1 l
     ∙ sym (put_in a.n a.start a.width a.v i.0 i.1 l)
@@ -64,4 +64,4 @@ returns-3 c =
 pub put_spec : {M : Type 1} → statement M
 put_spec =
     tie.close
-    (tie.spec in-word-requires returns has-bits-requires returns-2 mask-requires shl-result shl-result-2 returns-3)
+    (tie.spec in_word-requires returns-then-not-in_word has_bits-requires returns-then-not-has_bits mask-requires overflow_shl-result overflow_shl-result-2 returns)

@@ -18,29 +18,29 @@ cast_fits x z f e =
     let l : mag z < 2 ^ 63 = f.sfits in
     subst (λ (y : ℤ). T (non_neg y) × Fits w64 (nat_abs y)) (sym e) (tt, record { fits = omega arith })
 
-negative : (c : tie.Then1) → to_z w64 ((2 ^ 64 - 1) - of_z w64 c.before.args.z) ≡ pos (mag c.before.args.z)
+negative : (c : tie.Then-z-lt0) → to_z w64 ((2 ^ 64 - 1) - of_z w64 c.args.z) ≡ pos (mag c.args.z)
 negative c =
-    let z = c.before.args.z in
-    let f = c.before.ranges.z in
-    negative_size z f (tested z true f c.if1.true)
+    let z = c.args.z in
+    let f = c.ranges.z in
+    negative_size z f (tested z true f c.if-z-lt0.true)
 
-other : (c : tie.Else1) → to_z w64 (of_z w64 c.before.args.z) ≡ pos (mag c.before.args.z)
+other : (c : tie.Else-z-lt0) → to_z w64 (of_z w64 c.args.z) ≡ pos (mag c.args.z)
 other c =
-    let z = c.before.args.z in
-    let f = c.before.ranges.z in
-    other_size z f (tested z false f c.if1.false)
+    let z = c.args.z in
+    let f = c.ranges.z in
+    other_size z f (tested z false f c.if-z-lt0.false)
 
-cast-result : tie.Need-overflow-cast-result
-cast-result c = cast_fits _ c.before.args.z c.before.ranges.z (negative c)
+overflow_cast-result : tie.Need-overflow_cast-result
+overflow_cast-result c = cast_fits _ c.args.z c.ranges.z (negative c)
 
-cast-result-2 : tie.Need-overflow-cast-result-2
-cast-result-2 c = cast_fits _ c.before.args.z c.before.ranges.z (other c)
+overflow_cast-result-else-z-lt0 : tie.Need-overflow_cast-result-else-z-lt0
+overflow_cast-result-else-z-lt0 c = cast_fits _ c.args.z c.ranges.z (other c)
 
-returns : tie.Need-returns
-returns c = ap nat_abs (negative c)
+returns-then-z-lt0 : tie.Need-returns-then-z-lt0
+returns-then-z-lt0 c = ap nat_abs (negative c)
 
-returns-2 : tie.Need-returns-2
-returns-2 c = ap nat_abs (other c)
+returns-else-z-lt0 : tie.Need-returns-else-z-lt0
+returns-else-z-lt0 c = ap nat_abs (other c)
 
 pub size_spec : {M : Type 1} → statement M
-size_spec = tie.close (tie.spec cast-result cast-result-2 returns returns-2)
+size_spec = tie.close (tie.spec overflow_cast-result overflow_cast-result-else-z-lt0 returns-then-z-lt0 returns-else-z-lt0)

@@ -13,70 +13,61 @@ use Rattle.signal.proofs.RawLaws.{width_in, whole_cond, whole_out}
 use Rattle.signal.proofs.whole.Statement.{statement}
 use Rattle.signal.proofs.whole.Tie as tie
 
-wide : (c : tie.Else1) → is_width c.before.before.args.width ≡ true
-wide c = sym c.before.is-width.ensures ∙ not-false c.before.is-width.result c.if1.false
+wide : (c : tie.Else-not-is_width) → is_width c.args.width ≡ true
+wide c = sym c.is_width.ensures ∙ not-false c.is_width.result c.if-not-is_width.false-raw
 
-short : (c : tie.Else2) → ltb c.before.before.before.before.args.v (2 ^ c.before.before.before.before.args.width) ≡ true
-short c = sym c.before.has-bits.ensures ∙ not-false c.before.has-bits.result c.if2.false
+short : (c : tie.Else-not-has_bits) → ltb c.args.v (2 ^ c.args.width) ≡ true
+short c = sym c.has_bits.ensures ∙ not-false c.has_bits.result c.if-not-has_bits.false-raw
 
 -- the answer, once it is known whether the signal is signed, and whether v is an i64
-known : (c : tie.Else2) (b d : Bool) → c.before.before.before.before.args.signed ≡ b → b || ltb c.before.before.before.before.args.v (2 ^ 63) ≡ d
-    → cond d (value_in b c.before.before.before.before.args.width c.before.before.before.before.args.v) (pos 0)
-    ≡ whole_of c.before.before.before.before.args.signed c.before.before.before.before.args.width c.before.before.before.before.args.v
+known : (c : tie.Else-not-has_bits) (b d : Bool) → c.args.signed ≡ b → b || ltb c.args.v (2 ^ 63) ≡ d
+    → cond d (value_in b c.args.width c.args.v) (pos 0)
+    ≡ whole_of c.args.signed c.args.width c.args.v
 known c b d e f =
-    let a = c.before.before.before.before.args in
+    let a = c.args in
     sym (ap (λ (x : Bool). whole_of x a.width a.v) e ∙ whole_cond b a.width a.v true true d (wide c.before.before) (short c) f)
 
-is-width-requires : tie.Need-is-width-requires
-is-width-requires c κs = search rules
+is_width-requires : tie.Need-is_width-requires
+is_width-requires c κs = search rules
 
-returns : tie.Need-returns
-returns c =
-    let a = c.before.before.args in
-    sym (whole_out a.signed a.width a.v (sym c.before.is-width.ensures ∙ not-true c.before.is-width.result c.if1.true))
+returns-then-not-is_width : tie.Need-returns-then-not-is_width
+returns-then-not-is_width c =
+    let a = c.args in
+    sym (whole_out a.signed a.width a.v (sym c.is_width.ensures ∙ not-true c.is_width.result c.if-not-is_width.true-raw))
 
-has-bits-requires : tie.Need-has-bits-requires
-has-bits-requires c κs = width_in c.before.before.args.width (wide c)
+has_bits-requires : tie.Need-has_bits-requires
+has_bits-requires c κs = width_in c.args.width (wide c)
 
-returns-2 : tie.Need-returns-2
-returns-2 c =
-    let a = c.before.before.before.before.args in
+returns-then-not-has_bits : tie.Need-returns-then-not-has_bits
+returns-then-not-has_bits c =
+    let a = c.args in
     sym (whole_cond a.signed a.width a.v true false (a.signed || ltb a.v (2 ^ 63)) (wide c.before.before)
-    (sym c.before.has-bits.ensures ∙ not-true c.before.has-bits.result c.if2.true) refl)
+    (sym c.has_bits.ensures ∙ not-true c.has_bits.result c.if-not-has_bits.true-raw) refl)
 
-to-signed-requires : tie.Need-to-signed-requires
-to-signed-requires c κs =
-    let a = c.before.before.before.before.before.args in
+to_signed-requires : tie.Need-to_signed-requires
+to_signed-requires c κs =
+    let a = c.args in
     let k : (1 ≤ a.width) × (a.width ≤ 64) = width_in a.width (wide c.before.before.before) in
     (k.0, k.1, ltb-true a.v (2 ^ a.width) (short c.before))
 
-returns-3 : tie.Need-returns-3
-returns-3 c =
-    to_z-of_z {w = w64} (record { sfits = c.to-signed.type-inv }) ∙ c.to-signed.ensures ∙ known c.before.before true true c.before.if3.true refl
+returns-then-signed : tie.Need-returns-then-signed
+returns-then-signed c =
+    to_z-of_z {w = w64} (record { sfits = c.to_signed.type_inv }) ∙ c.to_signed.ensures ∙ known c.before.before true true c.if-signed.true refl
 
-cast-result : tie.Need-overflow-cast-result
-cast-result c = search rules
+overflow_cast-result : tie.Need-overflow_cast-result
+overflow_cast-result c = search rules
 
-returns-4 : tie.Need-returns-4
-returns-4 c =
-    let v = c.before.before.before.before.before.before.args.v in
-    to_z_pos w64 c.if4.true ∙ known c.before.before false true c.before.if3.false (lt-ltb v (2 ^ 63) c.if4.true)
+returns-then-v-lt9223372036854775808 : tie.Need-returns-then-v-lt9223372036854775808
+returns-then-v-lt9223372036854775808 c =
+    let v = c.args.v in
+    to_z_pos w64 c.if-v-lt9223372036854775808.true ∙ known c.before.before false true c.if-signed.false (lt-ltb v (2 ^ 63) c.if-v-lt9223372036854775808.true)
 
-returns-5 : tie.Need-returns-5
-returns-5 c =
-    let v = c.before.before.before.before.before.before.args.v in
-    known c.before.before false false c.before.if3.false (le-ltb v (2 ^ 63) c.if4.false)
+returns-else-v-lt9223372036854775808 : tie.Need-returns-else-v-lt9223372036854775808
+returns-else-v-lt9223372036854775808 c =
+    let v = c.args.v in
+    known c.before.before false false c.if-signed.false (le-ltb v (2 ^ 63) c.if-v-lt9223372036854775808.false)
 
 pub whole_spec : {M : Type 1} → statement M
 whole_spec =
     tie.close
-    (tie.spec
-    is-width-requires
-    returns
-    has-bits-requires
-    returns-2
-    to-signed-requires
-    returns-3
-    cast-result
-    returns-4
-    returns-5)
+    (tie.spec is_width-requires returns-then-not-is_width has_bits-requires returns-then-not-has_bits to_signed-requires returns-then-signed overflow_cast-result returns-then-v-lt9223372036854775808 returns-else-v-lt9223372036854775808)

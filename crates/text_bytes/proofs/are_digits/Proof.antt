@@ -15,43 +15,33 @@ invariant-loop s i₀ i = are_digits 16 s ≡ are_digits 16 (drop i s)
 abbrev decreases-loop : tie.decreases-loop
 decreases-loop s i₀ i = length s - i
 
-loop-holds : tie.Need-loop-init invariant-loop decreases-loop
-loop-holds c = refl
+loop-i-init : tie.Need-loop-i-init invariant-loop decreases-loop
+loop-i-init c = refl
 
-shared-slice-read-digit : tie.Need-shared-slice-read-digit invariant-loop decreases-loop
-shared-slice-read-digit c = search rules
+bounds-s-i : tie.Need-bounds-s-i invariant-loop decreases-loop
+bounds-s-i c = search rules
 
 digit-requires : tie.Need-digit-requires invariant-loop decreases-loop
 digit-requires c κs = search rules
 
+returns-then-digit-ge16 : tie.Need-returns-then-digit-ge16 invariant-loop decreases-loop
+returns-then-digit-ge16 c =
+    sym (c.loop-i.invariant ∙ digits_not 16 c.args.s.now c.loop-i.i c.digit.result c.loop-i-test.true c.digit.ensures c.if-digit-ge16.true)
+
+overflow_add-i : tie.Need-overflow_add-i invariant-loop decreases-loop
+overflow_add-i c = search rules
+
+loop-i-smaller : tie.Need-loop-i-smaller invariant-loop decreases-loop
+loop-i-smaller c = search rules
+
+loop-i-preserved : tie.Need-loop-i-preserved invariant-loop decreases-loop
+loop-i-preserved c =
+    c.loop-i.invariant ∙ digits_more 16 c.args.s.now c.loop-i.i c.digit.result c.loop-i-test.true c.digit.ensures c.if-digit-ge16.false
+
 returns : tie.Need-returns invariant-loop decreases-loop
-returns c =
-    sym (c.before.before.before.before.loop.invariant ∙ digits_not 16 c.before.before.before.before.before.before.args.s.now c.before.before.before.before.loop.i c.before.digit.result c.before.before.before.loop-test.true c.before.digit.ensures c.if1.true)
-
-add-i : tie.Need-overflow-add-i invariant-loop decreases-loop
-add-i c = search rules
-
-loop-less : tie.Need-loop-smaller invariant-loop decreases-loop
-loop-less c = search rules
-
-loop-again : tie.Need-loop-preserved invariant-loop decreases-loop
-loop-again c =
-    c.before.before.before.before.loop.invariant ∙ digits_more 16 c.before.before.before.before.before.before.args.s.now c.before.before.before.before.loop.i c.before.digit.result c.before.before.before.loop-test.true c.before.digit.ensures c.if1.false
-
-returns-2 : tie.Need-returns-2 invariant-loop decreases-loop
-returns-2 c = sym (c.before.loop.invariant ∙ digits_all 16 c.before.before.before.args.s.now c.before.loop.i (omega arith))
+returns c = sym (c.loop-i.invariant ∙ digits_all 16 c.args.s.now c.loop-i.i (omega arith))
 
 pub are_digits_spec : {M : Type 1} → statement M
 are_digits_spec =
     tie.close
-    (tie.spec
-    invariant-loop
-    decreases-loop
-    loop-holds
-    shared-slice-read-digit
-    digit-requires
-    returns
-    add-i
-    loop-less
-    loop-again
-    returns-2)
+    (tie.spec invariant-loop decreases-loop loop-i-init bounds-s-i digit-requires returns-then-digit-ge16 overflow_add-i loop-i-smaller loop-i-preserved returns)

@@ -17,15 +17,15 @@ not_one [] n = refl
 not_one (c ∷ []) n = absurd (n refl)
 not_one (c ∷ d ∷ cs) n = refl
 
+returns-then-s-ne1 : tie.Need-returns-then-s-ne1
+returns-then-s-ne1 c = sym (not_one c.args.s.now c.if-s-ne1.true)
+
+bounds-s-0 : tie.Need-bounds-s-0
+bounds-s-0 c = search rules
+
 returns : tie.Need-returns
-returns c = sym (not_one c.before.args.s.now c.if1.true)
-
-shared-slice-read-result : tie.Need-shared-slice-read-result
-shared-slice-read-result c = search rules
-
-returns-2 : tie.Need-returns-2
 unfolding is_dash
-returns-2 c = sym (ap is_dash (one c.before.before.args.s.now (omega arith)))
+returns c = sym (ap is_dash (one c.args.s.now (omega arith)))
 
 pub is_dash_spec : {M : Type 1} → statement M
-is_dash_spec = tie.close (tie.spec returns shared-slice-read-result returns-2)
+is_dash_spec = tie.close (tie.spec returns-then-s-ne1 bounds-s-0 returns)

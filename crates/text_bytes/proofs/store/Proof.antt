@@ -20,66 +20,66 @@ invariant-loop s out₀ n i₀ out i =
 abbrev decreases-loop : tie.decreases-loop
 decreases-loop s out₀ n i₀ out i = n - i
 
-loop-holds : tie.Need-loop-init invariant-loop decreases-loop
-loop-holds c = (omega arith, refl, refl, refl)
+loop-i-init : tie.Need-loop-i-init invariant-loop decreases-loop
+loop-i-init c = (omega arith, refl, refl, refl)
 
-mul-digit : tie.Need-overflow-mul-digit invariant-loop decreases-loop
-mul-digit c = search rules
+overflow_mul-i : tie.Need-overflow_mul-i invariant-loop decreases-loop
+overflow_mul-i c = search rules
 
-shared-slice-read-digit : tie.Need-shared-slice-read-digit invariant-loop decreases-loop
-shared-slice-read-digit c = search rules
+bounds-s-i : tie.Need-bounds-s-i invariant-loop decreases-loop
+bounds-s-i c = search rules
 
-digit-requires : tie.Need-digit-requires invariant-loop decreases-loop
-digit-requires c κs = search rules
+digit-hi-requires : tie.Need-digit-hi-requires invariant-loop decreases-loop
+digit-hi-requires c κs = search rules
 
-mul-digit-2 : tie.Need-overflow-mul-digit-2 invariant-loop decreases-loop
-mul-digit-2 c = search rules
+overflow_mul-i-in-loop-i : tie.Need-overflow_mul-i-in-loop-i invariant-loop decreases-loop
+overflow_mul-i-in-loop-i c = search rules
 
-add-digit : tie.Need-overflow-add-digit invariant-loop decreases-loop
-add-digit c = search rules
+overflow_add-i : tie.Need-overflow_add-i invariant-loop decreases-loop
+overflow_add-i c = search rules
 
-shared-slice-read-digit-2 : tie.Need-shared-slice-read-digit-2 invariant-loop decreases-loop
-shared-slice-read-digit-2 c = search rules
+bounds-s-i-in-loop-i : tie.Need-bounds-s-i-in-loop-i invariant-loop decreases-loop
+bounds-s-i-in-loop-i c = search rules
 
-digit-requires-2 : tie.Need-digit-requires-2 invariant-loop decreases-loop
-digit-requires-2 c κs = search rules
+digit-lo-requires : tie.Need-digit-lo-requires invariant-loop decreases-loop
+digit-lo-requires c κs = search rules
 
-high : (c : tie.After-digit2 invariant-loop decreases-loop) → c.before.before.digit.result < 16
+high : (c : tie.After-digit-lo invariant-loop decreases-loop) → c.digit-hi.result < 16
 high c =
-    let a = c.before.before.before.before.before.before.before.before.args in
-    let l : digit_of (get_or a.s.now (c.before.before.before.before.before.loop.i * 2) 0) < 16 = digits_at 16 a.s.now (c.before.before.before.before.before.loop.i * 2) c.before.before.before.before.before.before.before.before.requires.2 (omega arith) in
-    omega (arith, c.before.before.digit.ensures)
+    let a = c.args in
+    let l : digit_of (get_or a.s.now (c.loop-i.i * 2) 0) < 16 = digits_at 16 a.s.now (c.loop-i.i * 2) c.requires.2 (omega arith) in
+    omega (arith, c.digit-hi.ensures)
 
-low : (c : tie.After-digit2 invariant-loop decreases-loop) → c.digit2.result < 16
+low : (c : tie.After-digit-lo invariant-loop decreases-loop) → c.digit-lo.result < 16
 low c =
-    let a = c.before.before.before.before.before.before.before.before.args in
-    let l : digit_of (get_or a.s.now (c.before.before.before.before.before.loop.i * 2 + 1) 0) < 16 = digits_at 16 a.s.now (c.before.before.before.before.before.loop.i * 2 + 1) c.before.before.before.before.before.before.before.before.requires.2 (omega arith) in
-    omega (arith, c.digit2.ensures)
+    let a = c.args in
+    let l : digit_of (get_or a.s.now (c.loop-i.i * 2 + 1) 0) < 16 = digits_at 16 a.s.now (c.loop-i.i * 2 + 1) c.requires.2 (omega arith) in
+    omega (arith, c.digit-lo.ensures)
 
-mul-out : tie.Need-overflow-mul-out invariant-loop decreases-loop
-mul-out c = record { fits = omega (arith, high c) }
+overflow_mul-out : tie.Need-overflow_mul-out invariant-loop decreases-loop
+overflow_mul-out c = record { fits = omega (arith, high c) }
 
-add-out : tie.Need-overflow-add-out invariant-loop decreases-loop
-add-out c = record { fits = omega (arith, high c, low c) }
+overflow_add-out : tie.Need-overflow_add-out invariant-loop decreases-loop
+overflow_add-out c = record { fits = omega (arith, high c, low c) }
 
-cast-out : tie.Need-overflow-cast-out invariant-loop decreases-loop
-cast-out c = record { fits = omega (arith, high c, low c) }
+overflow_cast-out : tie.Need-overflow_cast-out invariant-loop decreases-loop
+overflow_cast-out c = record { fits = omega (arith, high c, low c) }
 
-slice-write-out : tie.Need-slice-write-out invariant-loop decreases-loop
-slice-write-out c = search rules
+bounds-out-i : tie.Need-bounds-out-i invariant-loop decreases-loop
+bounds-out-i c = search rules
 
-add-i : tie.Need-overflow-add-i invariant-loop decreases-loop
-add-i c = search rules
+overflow_add-i-in-loop-i : tie.Need-overflow_add-i-in-loop-i invariant-loop decreases-loop
+overflow_add-i-in-loop-i c = search rules
 
-loop-less : tie.Need-loop-smaller invariant-loop decreases-loop
-loop-less c = search rules
+loop-i-smaller : tie.Need-loop-i-smaller invariant-loop decreases-loop
+loop-i-smaller c = search rules
 
-loop-again : tie.Need-loop-preserved invariant-loop decreases-loop
-loop-again c =
-    let a = c.before.before.before.before.before.before.before.before.args in
-    let l = c.before.before.before.before.before.loop in
-    let v = c.before.before.digit.result * 16 + c.digit2.result in
-    let e : pair_at a.s.now l.i ≡ v = ap₂ (λ (x y : ℕ). x * 16 + y) (sym c.before.before.digit.ensures) (sym c.digit2.ensures) in (
+loop-i-preserved : tie.Need-loop-i-preserved invariant-loop decreases-loop
+loop-i-preserved c =
+    let a = c.args in
+    let l = c.loop-i in
+    let v = c.digit-hi.result * 16 + c.digit-lo.result in
+    let e : pair_at a.s.now l.i ≡ v = ap₂ (λ (x y : ℕ). x * 16 + y) (sym c.digit-hi.ensures) (sym c.digit-lo.ensures) in (
       omega arith,
       length-set l.out l.i v ∙ l.invariant.1,
       l.invariant.2
@@ -88,35 +88,16 @@ loop-again c =
       behind l.out a.out.now l.i v l.invariant.3,
     )
 
-same_length : tie.Need-same-length invariant-loop decreases-loop
-same_length c = c.before.loop.invariant.1
+shape_of-out : tie.Need-shape_of-out invariant-loop decreases-loop
+shape_of-out c = c.loop-i.invariant.1
 
 returns : tie.Need-returns invariant-loop decreases-loop
 returns c =
-    let a = c.before.before.before.before.args in
-    let l = c.before.loop in
+    let a = c.args in
+    let l = c.loop-i in
     stored_all a.s.now l.out a.out.now l.i a.n (omega arith) (omega arith) l.invariant.2 l.invariant.3
 
 pub store_spec : {M : Type 1} → statement M
 store_spec =
     tie.close
-    (tie.spec
-    invariant-loop
-    decreases-loop
-    loop-holds
-    mul-digit
-    shared-slice-read-digit
-    digit-requires
-    mul-digit-2
-    add-digit
-    shared-slice-read-digit-2
-    digit-requires-2
-    mul-out
-    add-out
-    cast-out
-    slice-write-out
-    add-i
-    loop-less
-    loop-again
-    same_length
-    returns)
+    (tie.spec invariant-loop decreases-loop loop-i-init overflow_mul-i bounds-s-i digit-hi-requires overflow_mul-i-in-loop-i overflow_add-i bounds-s-i-in-loop-i digit-lo-requires overflow_mul-out overflow_add-out overflow_cast-out bounds-out-i overflow_add-i-in-loop-i loop-i-smaller loop-i-preserved shape_of-out returns)

@@ -18,32 +18,32 @@ not_one [] n = refl
 not_one (c ∷ []) n = absurd (n refl)
 not_one (c ∷ d ∷ cs) n = refl
 
+returns-then-w-ne1 : tie.Need-returns-then-w-ne1
+returns-then-w-ne1 c = sym (not_one c.args.w.now c.if-w-ne1.true)
+
+bounds-w-0 : tie.Need-bounds-w-0
+bounds-w-0 c = search rules
+
+returns-then-w-eq120 : tie.Need-returns-then-w-eq120
+unfolding form_of
+returns-then-w-eq120 c = rw (one c.args.w.now (omega arith), eq-eqb (get_or c.args.w.now 0 0) 120 c.if-w-eq120.true)
+
+bounds-w-0-2 : tie.Need-bounds-w-0-2
+bounds-w-0-2 c = search rules
+
+returns-then-w-eq115 : tie.Need-returns-then-w-eq115
+unfolding form_of
+returns-then-w-eq115 c =
+    let w = c.args.w.now in
+    rw (one w (omega arith), ne_eqb (get_or w 0 0) 120 c.if-w-eq120.false, eq-eqb (get_or w 0 0) 115 c.if-w-eq115.true)
+
 returns : tie.Need-returns
-returns c = sym (not_one c.before.args.w.now c.if1.true)
-
-shared-slice-read-if2 : tie.Need-shared-slice-read-if2
-shared-slice-read-if2 c = search rules
-
-returns-2 : tie.Need-returns-2
 unfolding form_of
-returns-2 c = rw (one c.before.before.before.args.w.now (omega arith), eq-eqb (get_or c.before.before.before.args.w.now 0 0) 120 c.if2.true)
-
-shared-slice-read-if3 : tie.Need-shared-slice-read-if3
-shared-slice-read-if3 c = search rules
-
-returns-3 : tie.Need-returns-3
-unfolding form_of
-returns-3 c =
-    let w = c.before.before.before.before.before.args.w.now in
-    rw (one w (omega arith), ne_eqb (get_or w 0 0) 120 c.before.before.if2.false, eq-eqb (get_or w 0 0) 115 c.if3.true)
-
-returns-4 : tie.Need-returns-4
-unfolding form_of
-returns-4 c =
-    let w = c.before.before.before.before.before.args.w.now in
-    rw (one w (omega arith), ne_eqb (get_or w 0 0) 120 c.before.before.if2.false, ne_eqb (get_or w 0 0) 115 c.if3.false)
+returns c =
+    let w = c.args.w.now in
+    rw (one w (omega arith), ne_eqb (get_or w 0 0) 120 c.if-w-eq120.false, ne_eqb (get_or w 0 0) 115 c.if-w-eq115.false)
 
 pub form_spec : {M : Type 1} → statement M
 form_spec =
     tie.close
-    (tie.spec returns shared-slice-read-if2 returns-2 shared-slice-read-if3 returns-3 returns-4)
+    (tie.spec returns-then-w-ne1 bounds-w-0 returns-then-w-eq120 bounds-w-0-2 returns-then-w-eq115 returns)

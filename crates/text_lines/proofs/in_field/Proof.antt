@@ -8,22 +8,22 @@ use Rattle.text_numbers.specs.declared.Number.{Number}
 use Rattle.text_lines.proofs.in_field.Statement.{statement}
 use Rattle.text_lines.proofs.in_field.Tie as tie
 
-enum-known-n : tie.Need-enum-known-n
-enum-known-n c = search rules
+enum_known-n : tie.Need-enum_known-n
+enum_known-n c = search rules
 
-cast-t5 : tie.Need-overflow-cast-t5
-cast-t5 c =
-    let l : c.before.n.given.0.0 ≤ u32_max = subst (λ (n : Number). Short n) c.before.n.given.1 c.before.before.before.requires in
+overflow_cast-result : tie.Need-overflow_cast-result
+overflow_cast-result c =
+    let l : c.in-Is.v ≤ u32_max = subst (λ (n : Number). Short n) c.in-Is.is c.requires in
     record { fits = omega arith }
 
-enum_told : tie.Need-enum-told
-enum_told c = search rules
+enum_told-1 : tie.Need-enum_told-1
+enum_told-1 c = search rules
 
-returns : tie.Need-returns
-returns c = sym (ap (as_field c.before.before.before.args.next) c.before.n.given.1)
+returns-in-Is : tie.Need-returns-in-Is
+returns-in-Is c = sym (ap (as_field c.args.next) c.in-Is.is)
 
-returns-2 : tie.Need-returns-2
-returns-2 c = search rules
+returns-in-Bad : tie.Need-returns-in-Bad
+returns-in-Bad c = search rules
 
 pub in_field_spec : {M : Type 1} → statement M
-in_field_spec = tie.close (tie.spec enum-known-n cast-t5 enum_told returns returns-2)
+in_field_spec = tie.close (tie.spec enum_known-n overflow_cast-result enum_told-1 returns-in-Is returns-in-Bad)

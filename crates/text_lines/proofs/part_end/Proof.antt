@@ -15,48 +15,39 @@ invariant-loop s from stop i₀ i = (part_end stop s from ≡ part_end stop s i)
 abbrev decreases-loop : tie.decreases-loop
 decreases-loop s from stop i₀ i = length s - i
 
-loop-holds : tie.Need-loop-init invariant-loop decreases-loop
-loop-holds c = (refl, omega arith)
+loop-i-init : tie.Need-loop-i-init invariant-loop decreases-loop
+loop-i-init c = (refl, omega arith)
 
-shared-slice-read-if1 : tie.Need-shared-slice-read-if1 invariant-loop decreases-loop
-shared-slice-read-if1 c = search rules
+bounds-s-i : tie.Need-bounds-s-i invariant-loop decreases-loop
+bounds-s-i c = search rules
+
+returns-then-s-i : tie.Need-returns-then-s-i invariant-loop decreases-loop
+returns-then-s-i c =
+    let a = c.before.before.before in
+    let g = a.args in
+    let h = c.loop-i-test.true in
+    (sym (a.loop-i.invariant.0 ∙ stops g.stop g.s.now a.loop-i.i h c.if-s-i.true), a.loop-i.invariant.1, omega (arith, h, a.loop-i.invariant.1))
+
+overflow_add-i : tie.Need-overflow_add-i invariant-loop decreases-loop
+overflow_add-i c = search rules
+
+loop-i-smaller : tie.Need-loop-i-smaller invariant-loop decreases-loop
+loop-i-smaller c = search rules
+
+loop-i-preserved : tie.Need-loop-i-preserved invariant-loop decreases-loop
+loop-i-preserved c =
+    let a = c.before.before.before in
+    let g = a.args in
+    (a.loop-i.invariant.0 ∙ goes_on g.stop g.s.now a.loop-i.i c.loop-i-test.true c.if-s-i.false, omega arith)
 
 returns : tie.Need-returns invariant-loop decreases-loop
 returns c =
-    let a = c.before.before.before in
-    let g = a.before.args in
-    let h = c.before.before.loop-test.true in
-    (sym (a.loop.invariant.0 ∙ stops g.stop g.s.now a.loop.i h c.if1.true), a.loop.invariant.1, omega (arith, h, a.loop.invariant.1))
-
-add-i : tie.Need-overflow-add-i invariant-loop decreases-loop
-add-i c = search rules
-
-loop-less : tie.Need-loop-smaller invariant-loop decreases-loop
-loop-less c = search rules
-
-loop-again : tie.Need-loop-preserved invariant-loop decreases-loop
-loop-again c =
-    let a = c.before.before.before in
-    let g = a.before.args in
-    (a.loop.invariant.0 ∙ goes_on g.stop g.s.now a.loop.i c.before.before.loop-test.true c.if1.false, omega arith)
-
-returns-2 : tie.Need-returns-2 invariant-loop decreases-loop
-returns-2 c =
     let a = c.before in
-    let g = a.before.args in
-    let e : a.loop.i ≡ part_end g.stop g.s.now g.from = sym (a.loop.invariant.0 ∙ is_past g.stop g.s.now a.loop.i c.loop-test.false) in
-    (e, a.loop.invariant.1, rw e (to_high g.stop g.s.now g.from))
+    let g = a.args in
+    let e : a.loop-i.i ≡ part_end g.stop g.s.now g.from = sym (a.loop-i.invariant.0 ∙ is_past g.stop g.s.now a.loop-i.i c.loop-i-test.false) in
+    (e, a.loop-i.invariant.1, rw e (to_high g.stop g.s.now g.from))
 
 pub part_end_spec : {M : Type 1} → statement M
 part_end_spec =
     tie.close
-    (tie.spec
-    invariant-loop
-    decreases-loop
-    loop-holds
-    shared-slice-read-if1
-    returns
-    add-i
-    loop-less
-    loop-again
-    returns-2)
+    (tie.spec invariant-loop decreases-loop loop-i-init bounds-s-i returns-then-s-i overflow_add-i loop-i-smaller loop-i-preserved returns)

@@ -11,50 +11,41 @@ use Rattle.text_numbers.proofs.Values.{number_within}
 use Rattle.text_lines.proofs.take.Statement.{statement}
 use Rattle.text_lines.proofs.take.Tie as tie
 
-returns : tie.Need-returns
+returns-then-at-s : tie.Need-returns-then-at-s
 unfolding field_of
-returns c = past_end (number_of c.before.before.args.base u32_max) c.before.before.args.s.now c.before.before.args.at c.if1.true
+returns-then-at-s c = past_end (number_of c.args.base u32_max) c.args.s.now c.args.at c.if-at-s.true
 
-word-end-requires : tie.Need-word-end-requires
-word-end-requires c κs = search rules
+word_end-e-requires : tie.Need-word_end-e-requires
+word_end-e-requires c κs = search rules
 
-sub-whole : tie.Need-overflow-sub-whole
-sub-whole c = search rules
+slice_bounds-whole-count : tie.Need-slice_bounds-whole-count
+slice_bounds-whole-count c = search rules
 
-part-whole-start : tie.Need-slice-bounds-whole-start
-part-whole-start c = search rules
+slice_bounds-whole-start : tie.Need-slice_bounds-whole-start
+slice_bounds-whole-start c = search rules
 
-part-whole-end : tie.Need-slice-bounds-whole-end
-part-whole-end c = search rules
+slice_bounds-whole-end : tie.Need-slice_bounds-whole-end
+slice_bounds-whole-end c = search rules
 
 whole-requires : tie.Need-whole-requires
 whole-requires c κs = search rules
 
-add-in-field : tie.Need-overflow-add-in-field
-add-in-field c = search rules
+overflow_add-e : tie.Need-overflow_add-e
+overflow_add-e c = search rules
 
-in-field-requires : tie.Need-in-field-requires
-in-field-requires c κs = subst (λ (n : Number). Short n) (sym c.whole.ensures) (number_within c.before.before.before.before.before.args.base u32_max _)
+in_field-requires : tie.Need-in_field-requires
+in_field-requires c κs = subst (λ (n : Number). Short n) (sym c.whole.ensures) (number_within c.args.base u32_max _)
 
-returns-2 : tie.Need-returns-2
+returns : tie.Need-returns
 unfolding field_of
-returns-2 c =
-    let a = c.before.before.before.before.before.before.args in
-    let e = c.before.before.before.word-end in
+returns c =
+    let a = c.args in
+    let e = c.word_end-e in
     c.in_field.ensures
-    ∙ ap (as_field (e.result + 1)) c.before.whole.ensures
+    ∙ ap (as_field (e.result + 1)) c.whole.ensures
     ∙ in_line (number_of a.base u32_max) a.s.now a.at (omega arith) e.result e.ensures.0
 
 pub take_spec : {M : Type 1} → statement M
 take_spec =
     tie.close
-    (tie.spec
-    returns
-    word-end-requires
-    sub-whole
-    part-whole-start
-    part-whole-end
-    whole-requires
-    add-in-field
-    in-field-requires
-    returns-2)
+    (tie.spec returns-then-at-s word_end-e-requires slice_bounds-whole-count slice_bounds-whole-start slice_bounds-whole-end whole-requires overflow_add-e in_field-requires returns)

@@ -9,50 +9,41 @@ use Rattle.text_lines.proofs.Fields.{past_end, in_line, form_within}
 use Rattle.text_lines.proofs.take_form.Statement.{statement}
 use Rattle.text_lines.proofs.take_form.Tie as tie
 
-returns : tie.Need-returns
+returns-then-at-s : tie.Need-returns-then-at-s
 unfolding form_at
-returns c = past_end form_of c.before.before.args.s.now c.before.before.args.at c.if1.true
+returns-then-at-s c = past_end form_of c.args.s.now c.args.at c.if-at-s.true
 
-word-end-requires : tie.Need-word-end-requires
-word-end-requires c κs = search rules
+word_end-e-requires : tie.Need-word_end-e-requires
+word_end-e-requires c κs = search rules
 
-sub-form : tie.Need-overflow-sub-form
-sub-form c = search rules
+slice_bounds-form-count : tie.Need-slice_bounds-form-count
+slice_bounds-form-count c = search rules
 
-part-form-start : tie.Need-slice-bounds-form-start
-part-form-start c = search rules
+slice_bounds-form-start : tie.Need-slice_bounds-form-start
+slice_bounds-form-start c = search rules
 
-part-form-end : tie.Need-slice-bounds-form-end
-part-form-end c = search rules
+slice_bounds-form-end : tie.Need-slice_bounds-form-end
+slice_bounds-form-end c = search rules
 
 form-requires : tie.Need-form-requires
 form-requires c κs = search rules
 
-add-in-field : tie.Need-overflow-add-in-field
-add-in-field c = search rules
+overflow_add-e : tie.Need-overflow_add-e
+overflow_add-e c = search rules
 
-in-field-requires : tie.Need-in-field-requires
-in-field-requires c κs = subst (λ (n : Number). Short n) (sym c.form.ensures) (form_within _)
+in_field-requires : tie.Need-in_field-requires
+in_field-requires c κs = subst (λ (n : Number). Short n) (sym c.form.ensures) (form_within _)
 
-returns-2 : tie.Need-returns-2
+returns : tie.Need-returns
 unfolding form_at
-returns-2 c =
-    let a = c.before.before.before.before.before.before.args in
-    let e = c.before.before.before.word-end in
+returns c =
+    let a = c.args in
+    let e = c.word_end-e in
     c.in_field.ensures
-    ∙ ap (as_field (e.result + 1)) c.before.form.ensures
+    ∙ ap (as_field (e.result + 1)) c.form.ensures
     ∙ in_line form_of a.s.now a.at (omega arith) e.result e.ensures.0
 
 pub take_form_spec : {M : Type 1} → statement M
 take_form_spec =
     tie.close
-    (tie.spec
-    returns
-    word-end-requires
-    sub-form
-    part-form-start
-    part-form-end
-    form-requires
-    add-in-field
-    in-field-requires
-    returns-2)
+    (tie.spec returns-then-at-s word_end-e-requires slice_bounds-form-count slice_bounds-form-start slice_bounds-form-end form-requires overflow_add-e in_field-requires returns)

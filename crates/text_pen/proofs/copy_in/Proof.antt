@@ -16,45 +16,34 @@ invariant-loop src dst₀ at j₀ dst j = (dst ≡ paste dst₀ at src j) × (j 
 abbrev decreases-loop : tie.decreases-loop
 decreases-loop src dst₀ at j₀ dst j = length src - j
 
-loop-holds : tie.Need-loop-init invariant-loop decreases-loop
-loop-holds c = (paste-zero c.args.dst.now c.args.at c.args.src.now, omega arith, refl)
+loop-j-init : tie.Need-loop-j-init invariant-loop decreases-loop
+loop-j-init c = (paste-zero c.args.dst.now c.args.at c.args.src.now, omega arith, refl)
 
-shared-slice-read-dst : tie.Need-shared-slice-read-dst invariant-loop decreases-loop
-shared-slice-read-dst c = search rules
+bounds-src-j : tie.Need-bounds-src-j invariant-loop decreases-loop
+bounds-src-j c = search rules
 
-add-dst : tie.Need-overflow-add-dst invariant-loop decreases-loop
-add-dst c = search rules
+overflow_add-dst : tie.Need-overflow_add-dst invariant-loop decreases-loop
+overflow_add-dst c = search rules
 
-slice-write-dst : tie.Need-slice-write-dst invariant-loop decreases-loop
-slice-write-dst c = search rules
+bounds-dst-at : tie.Need-bounds-dst-at invariant-loop decreases-loop
+bounds-dst-at c = search rules
 
-add-j : tie.Need-overflow-add-j invariant-loop decreases-loop
-add-j c = search rules
+overflow_add-j : tie.Need-overflow_add-j invariant-loop decreases-loop
+overflow_add-j c = search rules
 
-loop-less : tie.Need-loop-smaller invariant-loop decreases-loop
-loop-less c = search rules
+loop-j-smaller : tie.Need-loop-j-smaller invariant-loop decreases-loop
+loop-j-smaller c = search rules
 
-loop-again : tie.Need-loop-preserved invariant-loop decreases-loop
-loop-again c = let a = c.before.before.before.args in let l = c.before.before.loop in (rw (add-one, l.invariant.0) (paste-suc a.dst.now a.at a.src.now l.j 0 (omega arith) (omega arith)), omega arith, simp length-set l.invariant.2)
+loop-j-preserved : tie.Need-loop-j-preserved invariant-loop decreases-loop
+loop-j-preserved c = let a = c.args in let l = c.loop-j in (rw (add-one, l.invariant.0) (paste-suc a.dst.now a.at a.src.now l.j 0 (omega arith) (omega arith)), omega arith, simp length-set l.invariant.2)
 
-same_length : tie.Need-same-length invariant-loop decreases-loop
-same_length c = c.before.loop.invariant.2
+shape_of-dst : tie.Need-shape_of-dst invariant-loop decreases-loop
+shape_of-dst c = c.loop-j.invariant.2
 
 returns : tie.Need-returns invariant-loop decreases-loop
-returns c = let a = c.before.before.args in c.before.loop.invariant.0 ∙ ap (λ (k : ℕ). paste a.dst.now a.at a.src.now k) (le_antisymm c.before.loop.invariant.1 c.loop-test.false)
+returns c = let a = c.args in c.loop-j.invariant.0 ∙ ap (λ (k : ℕ). paste a.dst.now a.at a.src.now k) (le_antisymm c.loop-j.invariant.1 c.loop-j-test.false)
 
 pub copy_in_spec : {M : Type 1} → statement M
 copy_in_spec =
     tie.close
-    (tie.spec
-    invariant-loop
-    decreases-loop
-    loop-holds
-    shared-slice-read-dst
-    add-dst
-    slice-write-dst
-    add-j
-    loop-less
-    loop-again
-    same_length
-    returns)
+    (tie.spec invariant-loop decreases-loop loop-j-init bounds-src-j overflow_add-dst bounds-dst-at overflow_add-j loop-j-smaller loop-j-preserved shape_of-dst returns)

@@ -15,44 +15,44 @@ use Rattle.text_pen.proofs.put.Tie as tie
 abbrev pen_of : ℕ → Bool → Pen
 pen_of at b = record { at = at; full = b }
 
+returns-then-pen : tie.Need-returns-then-pen
+returns-then-pen c =
+    let a = c.args in
+    let r = left_out a.out.now a.pen a.src.now (is_full_lem (length a.out.now) a.pen (length a.src.now) c.if-pen.true) in
+    (ap (λ (b : Bool). pen_of a.pen.at b) c.if-pen.true ∙ r.0, r.1)
+
+returns-then-at-out : tie.Need-returns-then-at-out
+returns-then-at-out c =
+    let a = c.args in
+    left_out a.out.now a.pen a.src.now (too_long (length a.out.now) a.pen (length a.src.now) (omega arith))
+
+overflow_sub-out : tie.Need-overflow_sub-out
+overflow_sub-out c = search rules
+
+returns-then-src-out : tie.Need-returns-then-src-out
+returns-then-src-out c =
+    let a = c.args in
+    left_out a.out.now a.pen a.src.now (too_long (length a.out.now) a.pen (length a.src.now) (omega arith))
+
+copy_in-requires : tie.Need-copy_in-requires
+copy_in-requires c κs = search rules
+
+overflow_add-result : tie.Need-overflow_add-result
+overflow_add-result c = search rules
+
+shape_of-out : tie.Need-shape_of-out
+shape_of-out c = search rules
+
 returns : tie.Need-returns
 returns c =
-    let a = c.before.before.before.args in
-    let r = left_out a.out.now a.pen a.src.now (is_full_lem (length a.out.now) a.pen (length a.src.now) c.if1.true) in
-    (ap (λ (b : Bool). pen_of a.pen.at b) c.if1.true ∙ r.0, r.1)
-
-returns-2 : tie.Need-returns-2
-returns-2 c =
-    let a = c.before.before.before.before.args in
-    left_out a.out.now a.pen a.src.now (too_long (length a.out.now) a.pen (length a.src.now) (omega arith))
-
-sub-if3 : tie.Need-overflow-sub-if3
-sub-if3 c = search rules
-
-returns-3 : tie.Need-returns-3
-returns-3 c =
-    let a = c.before.before.before.before.before.args in
-    left_out a.out.now a.pen a.src.now (too_long (length a.out.now) a.pen (length a.src.now) (omega arith))
-
-copy-in-requires : tie.Need-copy-in-requires
-copy-in-requires c κs = search rules
-
-add-t7 : tie.Need-overflow-add-t7
-add-t7 c = search rules
-
-same_length : tie.Need-same-length
-same_length c = search rules
-
-returns-4 : tie.Need-returns-4
-returns-4 c =
-    let a = c.before.before.before.before.before.before.before.before.before.args in
+    let a = c.args in
     let out = a.out.now in
     let src = a.src.now in
     let at = a.pen.at in
-    let w = written out a.pen src (has_room_lem (length out) a.pen (length src) c.before.before.before.before.before.before.if1.false (omega arith)) in
-    (w.0, c.before.before.copy-in.ensures ∙ ap (λ (l : List ℕ). take at out ++ l ++ drop (at + length src) out) (take-length src) ∙ w.1)
+    let w = written out a.pen src (has_room_lem (length out) a.pen (length src) c.if-pen.false (omega arith)) in
+    (w.0, c.copy_in.ensures ∙ ap (λ (l : List ℕ). take at out ++ l ++ drop (at + length src) out) (take-length src) ∙ w.1)
 
 pub put_spec : {M : Type 1} → statement M
 put_spec =
     tie.close
-    (tie.spec returns returns-2 sub-if3 returns-3 copy-in-requires add-t7 same_length returns-4)
+    (tie.spec returns-then-pen returns-then-at-out overflow_sub-out returns-then-src-out copy_in-requires overflow_add-result shape_of-out returns)

@@ -6,17 +6,17 @@ use Rattle.text_numbers.proofs.Digits.{low_glyph, high_glyph}
 use Rattle.text_written.proofs.glyph.Statement.{statement}
 use Rattle.text_written.proofs.glyph.Tie as tie
 
-add-result : tie.Need-overflow-add-result
-add-result c = search rules
+overflow_add-result : tie.Need-overflow_add-result
+overflow_add-result c = search rules
 
-add-result-2 : tie.Need-overflow-add-result-2
-add-result-2 c = search rules
+overflow_add-result-else-d-lt10 : tie.Need-overflow_add-result-else-d-lt10
+overflow_add-result-else-d-lt10 c = search rules
 
-returns : tie.Need-returns
-returns c = sym (low_glyph c.before.args.d (omega arith))
+returns-then-d-lt10 : tie.Need-returns-then-d-lt10
+returns-then-d-lt10 c = sym (low_glyph c.args.d (omega arith))
 
-returns-2 : tie.Need-returns-2
-returns-2 c = sym (high_glyph c.before.args.d (omega arith))
+returns-else-d-lt10 : tie.Need-returns-else-d-lt10
+returns-else-d-lt10 c = sym (high_glyph c.args.d (omega arith))
 
 pub glyph_spec : {M : Type 1} → statement M
-glyph_spec = tie.close (tie.spec add-result add-result-2 returns returns-2)
+glyph_spec = tie.close (tie.spec overflow_add-result overflow_add-result-else-d-lt10 returns-then-d-lt10 returns-else-d-lt10)

@@ -17,31 +17,31 @@ use Rattle.text_written.proofs.put_signed.Tie as tie
 slice-aggregate-put : tie.Need-slice-aggregate-put
 slice-aggregate-put c = search rules
 
-put-requires : tie.Need-put-requires
-put-requires c κs = search rules
+put-p-requires : tie.Need-put-p-requires
+put-p-requires c κs = search rules
 
 size-requires : tie.Need-size-requires
 size-requires c κs = search rules
 
-put-decimal-requires : tie.Need-put-decimal-requires
-put-decimal-requires c κs = search rules
+put_decimal-requires : tie.Need-put_decimal-requires
+put_decimal-requires c κs = search rules
 
-same_length : tie.Need-same-length
-same_length c = search rules
+shape_of-out-then-v-lt0 : tie.Need-shape_of-out-then-v-lt0
+shape_of-out-then-v-lt0 c = search rules
 
-returns : tie.Need-returns
-returns c =
-    let a = c.before.before.before.before.before.before.before.before.before.before.before.before.args in
+returns-then-v-lt0 : tie.Need-returns-then-v-lt0
+returns-then-v-lt0 c =
+    let a = c.args in
     let out = a.out.now in
-    let b = below a.v c.before.before.before.before.before.before.before.before.before.before.before.before.ranges.v c.before.before.before.before.before.before.before.before.before.before.if1.true in
+    let b = below a.v c.ranges.v c.if-v-lt0.true in
     let w = with_dash out a.pen b.0 a.v b.1 in
-    let first = c.before.before.before.before.before.before.before.put in
-    let then = c.before.before.put-decimal in
+    let first = c.put-p in
+    let then = c.put_decimal in
     let k : length first.new.0 ≡ length out = search rules in
-    let text : numeral 10 c.before.before.before.size.result ≡ numeral 10 (suc b.0) =
-    ap (numeral 10) (c.before.before.before.size.ensures ∙ ap nat_abs (to_z-of_z c.before.before.before.before.before.before.before.before.before.before.before.before.ranges.v ∙ b.1)) in (
+    let text : numeral 10 c.size.result ≡ numeral 10 (suc b.0) =
+    ap (numeral 10) (c.size.ensures ∙ ap nat_abs (to_z-of_z c.ranges.v ∙ b.1)) in (
       then.ensures.0
-          ∙ ap (λ (n : ℕ). moved n first.result (length (numeral 10 c.before.before.before.size.result))) k
+          ∙ ap (λ (n : ℕ). moved n first.result (length (numeral 10 c.size.result))) k
           ∙ ap₂ (λ (q : Pen) (ds : List ℕ). moved (length out) q (length ds)) first.ensures.0 text
           ∙ w.0,
       then.ensures.1
@@ -53,33 +53,23 @@ returns c =
 size-requires-2 : tie.Need-size-requires-2
 size-requires-2 c κs = search rules
 
-put-decimal-requires-2 : tie.Need-put-decimal-requires-2
-put-decimal-requires-2 c κs = search rules
+put_decimal-requires-2 : tie.Need-put_decimal-requires-2
+put_decimal-requires-2 c κs = search rules
 
-same-length-2 : tie.Need-same-length-2
-same-length-2 c = search rules
+shape_of-out : tie.Need-shape_of-out
+shape_of-out c = search rules
 
-returns-2 : tie.Need-returns-2
-returns-2 c =
-    let a = c.before.before.before.before.before.before.before.args in
+returns : tie.Need-returns
+returns c =
+    let a = c.args in
     let out = a.out.now in
-    let b = not_below a.v c.before.before.before.before.before.before.before.ranges.v c.before.before.before.before.before.if1.false in
+    let b = not_below a.v c.ranges.v c.if-v-lt0.false in
     let w = without out a.pen b.0 a.v b.1 in
-    let then = c.before.before.put-decimal2 in
-    let text : numeral 10 c.before.before.before.size2.result ≡ numeral 10 b.0 = ap (numeral 10) (c.before.before.before.size2.ensures ∙ ap nat_abs (to_z-of_z c.before.before.before.before.before.before.before.ranges.v ∙ b.1)) in
+    let then = c.put_decimal-2 in
+    let text : numeral 10 c.size-2.result ≡ numeral 10 b.0 = ap (numeral 10) (c.size-2.ensures ∙ ap nat_abs (to_z-of_z c.ranges.v ∙ b.1)) in
     (then.ensures.0 ∙ ap (λ (ds : List ℕ). moved (length out) a.pen (length ds)) text ∙ w.0, then.ensures.1 ∙ ap (inked out a.pen) text ∙ w.1)
 
 pub put_signed_spec : {M : Type 1} → statement M
 put_signed_spec =
     tie.close
-    (tie.spec
-    slice-aggregate-put
-    put-requires
-    size-requires
-    put-decimal-requires
-    same_length
-    returns
-    size-requires-2
-    put-decimal-requires-2
-    same-length-2
-    returns-2)
+    (tie.spec put-p-requires size-requires put_decimal-requires shape_of-out-then-v-lt0 returns-then-v-lt0 size-requires-2 put_decimal-requires-2 shape_of-out returns)

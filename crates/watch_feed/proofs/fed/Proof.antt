@@ -3,23 +3,23 @@ use borrow.Author.Rules.{rules}
 use Rattle.watch_feed.proofs.fed.Statement.{statement}
 use Rattle.watch_feed.proofs.fed.Tie as tie
 
-mul-p : tie.Need-overflow-mul-p
-mul-p c = search rules
+offset_bounds-t-i : tie.Need-offset_bounds-t-i
+offset_bounds-t-i c = search rules
 
-element-copy-out-p : tie.Need-element-copy-out-p
-element-copy-out-p c = search rules
+bounds-t-i : tie.Need-bounds-t-i
+bounds-t-i c = search rules
 
-store-requires : tie.Need-store-requires
-store-requires c κs = search rules
+store-q-requires : tie.Need-store-q-requires
+store-q-requires c κs = search rules
 
-put-requires : tie.Need-put-requires
-put-requires c κs = search rules
+put-u-requires : tie.Need-put-u-requires
+put-u-requires c κs = search rules
 
-refused-after-requires : tie.Need-refused-after-requires
-refused-after-requires c κs = search rules
+refused_after-requires : tie.Need-refused_after-requires
+refused_after-requires c κs = search rules
 
 returns : tie.Need-returns
-returns c = rw (c.refused-after.ensures, c.before.put.ensures, c.before.before.store.ensures)
+returns c = rw (c.refused_after.ensures, c.put-u.ensures, c.store-q.ensures)
 
 pub fed_spec : {M : Type 1} → statement M
-fed_spec = tie.close (tie.spec mul-p element-copy-out-p store-requires put-requires refused-after-requires returns)
+fed_spec = tie.close (tie.spec offset_bounds-t-i bounds-t-i store-q-requires put-u-requires refused_after-requires returns)

@@ -6,17 +6,17 @@ use Rattle.watch_rules.specs.Table.{framing, feed_at}
 use Rattle.watch_feed.proofs.frame.Statement.{statement}
 use Rattle.watch_feed.proofs.frame.Tie as tie
 
-some-place-requires : tie.Need-some-place-requires
-some-place-requires c κs = search rules
+some_place-i-requires : tie.Need-some_place-i-requires
+some_place-i-requires c κs = search rules
 
-mul-p : tie.Need-overflow-mul-p
-mul-p c = search rules
+offset_bounds-t-i : tie.Need-offset_bounds-t-i
+offset_bounds-t-i c = search rules
 
-element-copy-out-p : tie.Need-element-copy-out-p
-element-copy-out-p c = search rules
+bounds-t-i : tie.Need-bounds-t-i
+bounds-t-i c = search rules
 
-arrival-for-requires : tie.Need-arrival-for-requires
-arrival-for-requires c κs = search rules
+arrival_for-a-requires : tie.Need-arrival_for-a-requires
+arrival_for-a-requires c κs = search rules
 
 hear-requires : tie.Need-hear-requires
 hear-requires c κs = search rules
@@ -30,18 +30,11 @@ returns c =
     let heard = c.before in
     let arrived = heard.before in
     let found = arrived.before.before.before.before in
-    let a = found.before.before.args in
+    let a = found.args in
     fed_both a.t1 a.channel a.time _
-    (rw (c.fed.ensures, heard.hear.ensures.0, arrived.arrival-for.ensures, found.some-place.ensures.0) (feed_same a.t1 a.channel a.time (framing a.id a.extended _)))
+    (rw (c.fed.ensures, heard.hear.ensures.0, arrived.arrival_for-a.ensures, found.some_place-i.ensures.0) (feed_same a.t1 a.channel a.time (framing a.id a.extended _)))
 
 pub frame_spec : {M : Type 1} → statement M
 frame_spec =
     tie.close
-    (tie.spec
-    some-place-requires
-    mul-p
-    element-copy-out-p
-    arrival-for-requires
-    hear-requires
-    fed-requires
-    returns)
+    (tie.spec some_place-i-requires offset_bounds-t-i bounds-t-i arrival_for-a-requires hear-requires fed-requires returns)

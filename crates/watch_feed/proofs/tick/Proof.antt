@@ -6,14 +6,14 @@ use Rattle.watch_rules.specs.Table.{ticking, feed_at}
 use Rattle.watch_feed.proofs.tick.Statement.{statement}
 use Rattle.watch_feed.proofs.tick.Tie as tie
 
-some-place-requires : tie.Need-some-place-requires
-some-place-requires c κs = search rules
+some_place-at-requires : tie.Need-some_place-at-requires
+some_place-at-requires c κs = search rules
 
-mul-p : tie.Need-overflow-mul-p
-mul-p c = search rules
+offset_bounds-t-at : tie.Need-offset_bounds-t-at
+offset_bounds-t-at c = search rules
 
-element-copy-out-p : tie.Need-element-copy-out-p
-element-copy-out-p c = search rules
+bounds-t-at : tie.Need-bounds-t-at
+bounds-t-at c = search rules
 
 hear-requires : tie.Need-hear-requires
 hear-requires c κs = search rules
@@ -26,11 +26,11 @@ unfolding feed_at
 returns c =
     let heard = c.before in
     let found = heard.before.before.before in
-    let a = found.before.args in
+    let a = found.args in
     fed_both a.t1 a.channel a.time ticking
-    (rw (c.fed.ensures, heard.hear.ensures.0, found.some-place.ensures.0) (feed_same a.t1 a.channel a.time ticking))
+    (rw (c.fed.ensures, heard.hear.ensures.0, found.some_place-at.ensures.0) (feed_same a.t1 a.channel a.time ticking))
 
 pub tick_spec : {M : Type 1} → statement M
 tick_spec =
     tie.close
-    (tie.spec some-place-requires mul-p element-copy-out-p hear-requires fed-requires returns)
+    (tie.spec some_place-at-requires offset_bounds-t-at bounds-t-at hear-requires fed-requires returns)

@@ -6,39 +6,32 @@ use Rattle.watch_rules.proofs.Pages.{own_read}
 use Rattle.watch_hear.proofs.arrival_for.Statement.{statement}
 use Rattle.watch_hear.proofs.arrival_for.Tie as tie
 
-interface-of-requires : tie.Need-interface-of-requires
-interface-of-requires c κs = search rules
+interface_of-iface-requires : tie.Need-interface_of-iface-requires
+interface_of-iface-requires c κs = search rules
 
-judge-for-requires : tie.Need-judge-for-requires
-judge-for-requires c κs = search rules
+judge_for-requires : tie.Need-judge_for-requires
+judge_for-requires c κs = search rules
 
-enum-known-kind : tie.Need-enum-known-kind
-enum-known-kind c = search rules
+enum_known-kind : tie.Need-enum_known-kind
+enum_known-kind c = search rules
 
-cast-t11 : tie.Need-overflow-cast-t11
-cast-t11 c = omega (arith, (own_read _ _ _ _ _ _ (sym c.before.before.before.judge-for.ensures ∙ c.before.kind.given.1)).1)
+overflow_cast-result : tie.Need-overflow_cast-result
+overflow_cast-result c = omega (arith, (own_read _ _ _ _ _ _ (sym c.judge_for.ensures ∙ c.in-Frame.is)).1)
 
-enum-known-w : tie.Need-enum-known-w
-enum-known-w c = search rules
+enum_known-w : tie.Need-enum_known-w
+enum_known-w c = search rules
 
-returns : tie.Need-returns
-returns c =
+returns-in-Frame : tie.Need-returns-in-Frame
+returns-in-Frame c =
     let j = c.before.before.before in
-    rw (sym j.before.interface-of.ensures, sym j.judge-for.ensures ∙ c.before.kind.given.1)
+    rw (sym j.interface_of-iface.ensures, sym j.judge_for.ensures ∙ c.in-Frame.is)
 
-returns-2 : tie.Need-returns-2
-returns-2 c =
+returns-in-Refused : tie.Need-returns-in-Refused
+returns-in-Refused c =
     let j = c.before.before.before in
-    rw (sym j.before.interface-of.ensures, sym j.judge-for.ensures ∙ c.before.w.given.1)
+    rw (sym j.interface_of-iface.ensures, sym j.judge_for.ensures ∙ c.in-Refused.is)
 
 pub arrival_for_spec : {M : Type 1} → statement M
 arrival_for_spec =
     tie.close
-    (tie.spec
-    interface-of-requires
-    judge-for-requires
-    enum-known-kind
-    cast-t11
-    enum-known-w
-    returns
-    returns-2)
+    (tie.spec interface_of-iface-requires judge_for-requires enum_known-kind overflow_cast-result enum_known-w returns-in-Frame returns-in-Refused)

@@ -7,126 +7,109 @@ use Rattle.watch_rules.proofs.Hears.{heard_both}
 use Rattle.watch_hear.proofs.hear.Statement.{statement}
 use Rattle.watch_hear.proofs.hear.Tie as tie
 
-turned-away-requires : tie.Need-turned-away-requires
-turned-away-requires c κs = search rules
+turned_away-requires : tie.Need-turned_away-requires
+turned_away-requires c κs = search rules
 
-returns : tie.Need-returns
+returns-then-channel-gt31 : tie.Need-returns-then-channel-gt31
 unfolding heard_of
-returns c = heard_both _ _ _ _ (rw (lt-leb _ _ c.before.if1.true, c.turned-away.ensures))
+returns-then-channel-gt31 c = heard_both _ _ _ _ (rw (lt-leb _ _ c.if-channel-gt31.true, c.turned_away.ensures))
 
-holds-channel-requires : tie.Need-holds-channel-requires
-holds-channel-requires c κs = search rules
+holds_channel-requires : tie.Need-holds_channel-requires
+holds_channel-requires c κs = search rules
 
-turned-away-requires-2 : tie.Need-turned-away-requires-2
-turned-away-requires-2 c κs = search rules
+turned_away-requires-then-not-holds_channel : tie.Need-turned_away-requires-then-not-holds_channel
+turned_away-requires-then-not-holds_channel c κs = search rules
 
-returns-2 : tie.Need-returns-2
+returns-then-not-holds_channel : tie.Need-returns-then-not-holds_channel
 unfolding heard_of
-returns-2 c =
+returns-then-not-holds_channel c =
     let asked = c.before.before in
     heard_both _ _ _ _
-    (rw (le-leb _ _ asked.before.if1.false, sym asked.holds-channel.ensures ∙ not-true _ c.before.if2.true, c.turned-away2.ensures))
+    (rw (le-leb _ _ asked.if-channel-gt31.false, sym asked.holds_channel.ensures ∙ not-true _ c.if-not-holds_channel.true-raw, c.turned_away-then-not-holds_channel.ensures))
 
-is-early-requires : tie.Need-is-early-requires
-is-early-requires c κs = search rules
+is_early-requires : tie.Need-is_early-requires
+is_early-requires c κs = search rules
 
-turned-away-requires-3 : tie.Need-turned-away-requires-3
-turned-away-requires-3 c κs = search rules
+turned_away-requires-then-is_early : tie.Need-turned_away-requires-then-is_early
+turned_away-requires-then-is_early c κs = search rules
 
-returns-3 : tie.Need-returns-3
+returns-then-is_early : tie.Need-returns-then-is_early
 unfolding heard_of
-returns-3 c =
+returns-then-is_early c =
     let early = c.before.before in
     let asked = early.before.before in
     heard_both _ _ _ _
     (rw (
-      le-leb _ _ asked.before.if1.false,
-      sym asked.holds-channel.ensures ∙ not-false _ early.before.if2.false,
-      sym early.is-early.ensures ∙ c.before.if3.true,
-      c.turned-away3.ensures,
+      le-leb _ _ asked.if-channel-gt31.false,
+      sym asked.holds_channel.ensures ∙ not-false _ early.if-not-holds_channel.false-raw,
+      sym early.is_early.ensures ∙ c.if-is_early.true,
+      c.turned_away-then-is_early.ensures,
     ))
 
-enum_told : tie.Need-enum-told
-enum_told c = search rules
+enum_told-1 : tie.Need-enum_told-1
+enum_told-1 c = search rules
 
 ticked-requires : tie.Need-ticked-requires
 ticked-requires c κs = search rules
 
-enum-known-a : tie.Need-enum-known-a
-enum-known-a c = search rules
+enum_known-a : tie.Need-enum_known-a
+enum_known-a c = search rules
 
 framed-requires : tie.Need-framed-requires
 framed-requires c κs = search rules
 
-enum-known-a-2 : tie.Need-enum-known-a-2
-enum-known-a-2 c = search rules
+enum_known-a-in-Unread-1 : tie.Need-enum_known-a-in-Unread-1
+enum_known-a-in-Unread-1 c = search rules
 
-turned-away-requires-4 : tie.Need-turned-away-requires-4
-turned-away-requires-4 c κs = search rules
+turned_away-requires-in-Unread : tie.Need-turned_away-requires-in-Unread
+turned_away-requires-in-Unread c κs = search rules
 
-returns-4 : tie.Need-returns-4
+returns-in-Tick : tie.Need-returns-in-Tick
 unfolding heard_of
-returns-4 c =
+returns-in-Tick c =
     let told = c.before in
     let late = told.before.before in
     let holding = late.before.before.before in
     heard_both _ _ _ _
     (rw (
-      le-leb _ _ holding.before.if1.false,
-      sym holding.holds-channel.ensures ∙ not-false _ late.before.before.if2.false,
-      sym late.before.is-early.ensures ∙ late.if3.false,
-      told.enum_told.given.1,
+      le-leb _ _ holding.if-channel-gt31.false,
+      sym holding.holds_channel.ensures ∙ not-false _ late.if-not-holds_channel.false-raw,
+      sym late.is_early.ensures ∙ late.if-is_early.false,
+      told.in-Tick.is,
       c.ticked.ensures,
     ))
 
-returns-5 : tie.Need-returns-5
+returns-in-Frame : tie.Need-returns-in-Frame
 unfolding heard_of
-returns-5 c =
+returns-in-Frame c =
     let told = c.before.before in
     let late = told.before.before in
     let holding = late.before.before.before in
     heard_both _ _ _ _
     (rw (
-      le-leb _ _ holding.before.if1.false,
-      sym holding.holds-channel.ensures ∙ not-false _ late.before.before.if2.false,
-      sym late.before.is-early.ensures ∙ late.if3.false,
-      told.a.given.1,
+      le-leb _ _ holding.if-channel-gt31.false,
+      sym holding.holds_channel.ensures ∙ not-false _ late.if-not-holds_channel.false-raw,
+      sym late.is_early.ensures ∙ late.if-is_early.false,
+      told.in-Frame.is,
       c.framed.ensures,
     ))
 
-returns-6 : tie.Need-returns-6
+returns-in-Unread : tie.Need-returns-in-Unread
 unfolding heard_of
-returns-6 c =
+returns-in-Unread c =
     let told = c.before.before in
     let late = told.before.before in
     let holding = late.before.before.before in
     heard_both _ _ _ _
     (rw (
-      le-leb _ _ holding.before.if1.false,
-      sym holding.holds-channel.ensures ∙ not-false _ late.before.before.if2.false,
-      sym late.before.is-early.ensures ∙ late.if3.false,
-      told.a2.given.1,
-      c.turned-away4.ensures,
+      le-leb _ _ holding.if-channel-gt31.false,
+      sym holding.holds_channel.ensures ∙ not-false _ late.if-not-holds_channel.false-raw,
+      sym late.is_early.ensures ∙ late.if-is_early.false,
+      told.in-Unread.is,
+      c.turned_away-in-Unread.ensures,
     ))
 
 pub hear_spec : {M : Type 1} → statement M
 hear_spec =
     tie.close
-    (tie.spec
-    turned-away-requires
-    returns
-    holds-channel-requires
-    turned-away-requires-2
-    returns-2
-    is-early-requires
-    turned-away-requires-3
-    returns-3
-    enum_told
-    ticked-requires
-    enum-known-a
-    framed-requires
-    enum-known-a-2
-    turned-away-requires-4
-    returns-4
-    returns-5
-    returns-6)
+    (tie.spec turned_away-requires returns-then-channel-gt31 holds_channel-requires turned_away-requires-then-not-holds_channel returns-then-not-holds_channel is_early-requires turned_away-requires-then-is_early returns-then-is_early enum_told-1 ticked-requires enum_known-a framed-requires enum_known-a-in-Unread-1 turned_away-requires-in-Unread returns-in-Tick returns-in-Frame returns-in-Unread)

@@ -5,16 +5,16 @@ use Rattle.watch_rules.specs.Table.{one_more}
 use Rattle.watch_hear.proofs.one_more.Statement.{statement}
 use Rattle.watch_hear.proofs.one_more.Tie as tie
 
-add-result : tie.Need-overflow-add-result
-add-result c = search rules
+overflow_add-result : tie.Need-overflow_add-result
+overflow_add-result c = search rules
 
-returns : tie.Need-returns
+returns-then-n-lt4294967295 : tie.Need-returns-then-n-lt4294967295
 unfolding one_more
-returns c = rw (lt-ltb _ _ c.if1.true)
+returns-then-n-lt4294967295 c = rw (lt-ltb _ _ c.if-n-lt4294967295.true)
 
-returns-2 : tie.Need-returns-2
+returns-else-n-lt4294967295 : tie.Need-returns-else-n-lt4294967295
 unfolding one_more
-returns-2 c = rw (le-ltb _ _ c.if1.false)
+returns-else-n-lt4294967295 c = rw (le-ltb _ _ c.if-n-lt4294967295.false)
 
 pub one_more_spec : {M : Type 1} → statement M
-one_more_spec = tie.close (tie.spec add-result returns returns-2)
+one_more_spec = tie.close (tie.spec overflow_add-result returns-then-n-lt4294967295 returns-else-n-lt4294967295)

@@ -6,20 +6,20 @@ use Rattle.watch_rules.specs.Table.{refused_after}
 use Rattle.watch_hear.proofs.refused_after.Statement.{statement}
 use Rattle.watch_hear.proofs.refused_after.Tie as tie
 
-enum_told : tie.Need-enum-told
-enum_told c = search rules
+enum_told-1 : tie.Need-enum_told-1
+enum_told-1 c = search rules
 
-enum-told-2 : tie.Need-enum-told-2
-enum-told-2 c = search rules
+enum_told-in-Refused : tie.Need-enum_told-in-Refused
+enum_told-in-Refused c = search rules
 
-one-more-requires : tie.Need-one-more-requires
-one-more-requires c κs = search rules
+one_more-requires : tie.Need-one_more-requires
+one_more-requires c κs = search rules
 
-returns : tie.Need-returns
-returns c = search rules
+returns-in-Findings : tie.Need-returns-in-Findings
+returns-in-Findings c = search rules
 
-returns-2 : tie.Need-returns-2
-returns-2 c = rw (c.one_more.ensures, c.before.enum-told2.given.1)
+returns-in-Refused : tie.Need-returns-in-Refused
+returns-in-Refused c = rw (c.one_more.ensures, c.in-Refused.is)
 
 pub refused_after_spec : {M : Type 1} → statement M
-refused_after_spec = tie.close (tie.spec enum_told enum-told-2 one-more-requires returns returns-2)
+refused_after_spec = tie.close (tie.spec enum_told-1 enum_told-in-Refused one_more-requires returns-in-Findings returns-in-Refused)

@@ -4,22 +4,22 @@ use borrow.Author.Rules.{rules}
 use Rattle.watch_hear.proofs.ticked.Statement.{statement}
 use Rattle.watch_hear.proofs.ticked.Tie as tie
 
-is-full-requires : tie.Need-is-full-requires
-is-full-requires c κs = search rules
+is_full-requires : tie.Need-is_full-requires
+is_full-requires c κs = search rules
 
-turned-away-requires : tie.Need-turned-away-requires
-turned-away-requires c κs = search rules
+turned_away-requires : tie.Need-turned_away-requires
+turned_away-requires c κs = search rules
+
+returns-then-is_full : tie.Need-returns-then-is_full
+returns-then-is_full c = rw (sym c.is_full.ensures ∙ c.if-is_full.true, c.turned_away.ensures)
+
+tick-r-requires : tie.Need-tick-r-requires
+tick-r-requires c κs = search rules
 
 returns : tie.Need-returns
-returns c = rw (sym c.before.before.is-full.ensures ∙ c.before.if1.true, c.turned-away.ensures)
-
-tick-requires : tie.Need-tick-requires
-tick-requires c κs = search rules
-
-returns-2 : tie.Need-returns-2
-returns-2 c =
+returns c =
     let stepped = c.before.before in
-    rw (sym stepped.before.before.is-full.ensures ∙ stepped.before.if1.false, stepped.tick.ensures.0)
+    rw (sym stepped.is_full.ensures ∙ stepped.if-is_full.false, stepped.tick-r.ensures.0)
 
 pub ticked_spec : {M : Type 1} → statement M
-ticked_spec = tie.close (tie.spec is-full-requires turned-away-requires returns tick-requires returns-2)
+ticked_spec = tie.close (tie.spec is_full-requires turned_away-requires returns-then-is_full tick-r-requires returns)

@@ -7,75 +7,64 @@ use Rattle.watch_rules.proofs.Promises.{shown_both}
 use Rattle.watch_look.proofs.look_up.Statement.{statement}
 use Rattle.watch_look.proofs.look_up.Tie as tie
 
-is-post-requires : tie.Need-is-post-requires
-is-post-requires c κs = search rules
+is_post-requires : tie.Need-is_post-requires
+is_post-requires c κs = search rules
 
-no-record-requires : tie.Need-no-record-requires
-no-record-requires c κs = search rules
+no_record-requires : tie.Need-no_record-requires
+no_record-requires c κs = search rules
+
+returns-then-not-is_post : tie.Need-returns-then-not-is_post
+unfolding look_up_of
+returns-then-not-is_post c =
+    let post = c.before in
+    let a = post.args in
+    shown_both a.t1 a.post (rw (sym post.is_post.ensures ∙ not-true _ post.if-not-is_post.true-raw, c.no_record.ensures))
+
+offset_bounds-t-i : tie.Need-offset_bounds-t-i
+offset_bounds-t-i c = search rules
+
+bounds-t-i : tie.Need-bounds-t-i
+bounds-t-i c = ltb-true _ _ (sym c.is_post.ensures ∙ not-false _ c.if-not-is_post.false-raw)
+
+overflow_cast-h : tie.Need-overflow_cast-h
+overflow_cast-h c = search rules
+
+is_set-requires : tie.Need-is_set-requires
+is_set-requires c κs = search rules
+
+no_record-requires-then-not-is_set : tie.Need-no_record-requires-then-not-is_set
+no_record-requires-then-not-is_set c κs = search rules
+
+returns-then-not-is_set : tie.Need-returns-then-not-is_set
+unfolding look_up_of
+returns-then-not-is_set c =
+    let used = c.before in
+    let post = used.before.before.before.before.before in
+    let a = post.args in
+    shown_both a.t1 a.post
+    (rw (
+      sym post.is_post.ensures ∙ not-false _ post.if-not-is_post.false-raw,
+      sym used.is_set.ensures ∙ not-true _ used.if-not-is_set.true-raw,
+      c.no_record-then-not-is_set.ensures,
+    ))
+
+of_post-requires : tie.Need-of_post-requires
+of_post-requires c κs = search rules
 
 returns : tie.Need-returns
 unfolding look_up_of
 returns c =
-    let post = c.before in
-    let a = post.before.before.args in
-    shown_both a.t1 a.post (rw (sym post.before.is-post.ensures ∙ not-true _ post.if1.true, c.no_record.ensures))
-
-mul-p : tie.Need-overflow-mul-p
-mul-p c = search rules
-
-element-copy-out-p : tie.Need-element-copy-out-p
-element-copy-out-p c = ltb-true _ _ (sym c.before.is-post.ensures ∙ not-false _ c.if1.false)
-
-cast-is-set : tie.Need-overflow-cast-is-set
-cast-is-set c = search rules
-
-is-set-requires : tie.Need-is-set-requires
-is-set-requires c κs = search rules
-
-no-record-requires-2 : tie.Need-no-record-requires-2
-no-record-requires-2 c κs = search rules
-
-returns-2 : tie.Need-returns-2
-unfolding look_up_of
-returns-2 c =
     let used = c.before in
     let post = used.before.before.before.before.before in
-    let a = post.before.before.args in
+    let a = post.args in
     shown_both a.t1 a.post
     (rw (
-      sym post.before.is-post.ensures ∙ not-false _ post.if1.false,
-      sym used.before.is_set.ensures ∙ not-true _ used.if2.true,
-      c.no-record2.ensures,
-    ))
-
-of-post-requires : tie.Need-of-post-requires
-of-post-requires c κs = search rules
-
-returns-3 : tie.Need-returns-3
-unfolding look_up_of
-returns-3 c =
-    let used = c.before in
-    let post = used.before.before.before.before.before in
-    let a = post.before.before.args in
-    shown_both a.t1 a.post
-    (rw (
-      sym post.before.is-post.ensures ∙ not-false _ post.if1.false,
-      sym used.before.is_set.ensures ∙ not-false _ used.if2.false,
-      c.of-post.ensures.0,
+      sym post.is_post.ensures ∙ not-false _ post.if-not-is_post.false-raw,
+      sym used.is_set.ensures ∙ not-false _ used.if-not-is_set.false-raw,
+      c.of_post.ensures.0,
     ))
 
 pub look_up_spec : {M : Type 1} → statement M
 look_up_spec =
     tie.close
-    (tie.spec
-    is-post-requires
-    no-record-requires
-    returns
-    mul-p
-    element-copy-out-p
-    cast-is-set
-    is-set-requires
-    no-record-requires-2
-    returns-2
-    of-post-requires
-    returns-3)
+    (tie.spec is_post-requires no_record-requires returns-then-not-is_post offset_bounds-t-i bounds-t-i overflow_cast-h is_set-requires no_record-requires-then-not-is_set returns-then-not-is_set of_post-requires returns)

@@ -14,11 +14,11 @@ use Rattle.watch_look.proofs.refused.Tie as tie
 both : (t : Table) {r : ℕ} → r ≡ min t.refused largest → (r ≡ min t.refused largest) × ((rs : List Request) → t ≡ run rs → r ≡ min (refused_ever rs) largest)
 both t e = (e, λ rs q. omega (arith, e, ap (λ (u : Table). u.refused) q ∙ refused_counted rs))
 
-returns : tie.Need-returns
-returns c = both c.before.args.t (search rules)
+returns-then-n-lt4294967295 : tie.Need-returns-then-n-lt4294967295
+returns-then-n-lt4294967295 c = both c.args.t (search rules)
 
-returns-2 : tie.Need-returns-2
-returns-2 c = both c.before.args.t (search rules)
+returns-else-n-lt4294967295 : tie.Need-returns-else-n-lt4294967295
+returns-else-n-lt4294967295 c = both c.args.t (search rules)
 
 pub refused_spec : {M : Type 1} → statement M
-refused_spec = tie.close (tie.spec (λ c. search rules) returns returns-2)
+refused_spec = tie.close (tie.spec (λ c. search rules) returns-then-n-lt4294967295 returns-else-n-lt4294967295)

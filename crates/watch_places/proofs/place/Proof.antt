@@ -17,57 +17,46 @@ invariant-loop channel t i₀ i = (i ≤ post_count) × (place_of t.posts channe
 abbrev decreases-loop : tie.decreases-loop
 decreases-loop channel t i₀ i = post_count - i
 
-loop-holds : tie.Need-loop-init invariant-loop decreases-loop
-loop-holds c = search rules
+loop-i-init : tie.Need-loop-i-init invariant-loop decreases-loop
+loop-i-init c = search rules
 
-mul-p : tie.Need-overflow-mul-p invariant-loop decreases-loop
-mul-p c = search rules
+offset_bounds-t-i : tie.Need-offset_bounds-t-i invariant-loop decreases-loop
+offset_bounds-t-i c = search rules
 
-element-copy-out-p : tie.Need-element-copy-out-p invariant-loop decreases-loop
-element-copy-out-p c = search rules
+bounds-t-i : tie.Need-bounds-t-i invariant-loop decreases-loop
+bounds-t-i c = search rules
 
-holds-channel-requires : tie.Need-holds-channel-requires invariant-loop decreases-loop
-holds-channel-requires c κs = search rules
+holds_channel-requires : tie.Need-holds_channel-requires invariant-loop decreases-loop
+holds_channel-requires c κs = search rules
 
-add-i : tie.Need-overflow-add-i invariant-loop decreases-loop
-add-i c = search rules
+overflow_add-i : tie.Need-overflow_add-i invariant-loop decreases-loop
+overflow_add-i c = search rules
 
-loop-less : tie.Need-loop-smaller invariant-loop decreases-loop
-loop-less c = search rules
+loop-i-smaller : tie.Need-loop-i-smaller invariant-loop decreases-loop
+loop-i-smaller c = search rules
 
-loop-again : tie.Need-loop-preserved invariant-loop decreases-loop
-loop-again c =
-    let a = c.before.before.before.before.before.before.args in
+loop-i-preserved : tie.Need-loop-i-preserved invariant-loop decreases-loop
+loop-i-preserved c =
+    let a = c.args in
     let n : length a.t1.posts ≡ post_count = search unmapped in
-    let at = c.before.before.before.before.before.loop in
-    (omega arith, place_on_lem a.t1.posts at.i a.channel at.invariant.1 (omega arith) (sym c.before.holds-channel.ensures ∙ c.if2.false))
+    let at = c.loop-i in
+    (omega arith, place_on_lem a.t1.posts at.i a.channel at.invariant.1 (omega arith) (sym c.holds_channel.ensures ∙ c.if-holds_channel.false))
 
-returns : tie.Need-returns invariant-loop decreases-loop
-returns c =
-    let a = c.before.before.args in
+returns-then-i-ge-POSTS : tie.Need-returns-then-i-ge-POSTS invariant-loop decreases-loop
+returns-then-i-ge-POSTS c =
+    let a = c.args in
     let n : length a.t1.posts ≡ post_count = search unmapped in
-    let at = c.before.loop in
+    let at = c.loop-i in
     (sym (place_end a.t1.posts at.i a.channel at.invariant.1 (omega arith)), omega arith)
 
-returns-2 : tie.Need-returns-2 invariant-loop decreases-loop
-returns-2 c =
-    let a = c.before.before.before.before.before.before.args in
+returns-then-holds_channel : tie.Need-returns-then-holds_channel invariant-loop decreases-loop
+returns-then-holds_channel c =
+    let a = c.args in
     let n : length a.t1.posts ≡ post_count = search unmapped in
-    let at = c.before.before.before.before.before.loop in
-    (sym (place_here a.t1.posts at.i a.channel at.invariant.1 (omega arith) (sym c.before.holds-channel.ensures ∙ c.if2.true)), omega arith)
+    let at = c.loop-i in
+    (sym (place_here a.t1.posts at.i a.channel at.invariant.1 (omega arith) (sym c.holds_channel.ensures ∙ c.if-holds_channel.true)), omega arith)
 
 pub place_spec : {M : Type 1} → statement M
 place_spec =
     tie.close
-    (tie.spec
-    invariant-loop
-    decreases-loop
-    loop-holds
-    mul-p
-    element-copy-out-p
-    holds-channel-requires
-    add-i
-    loop-less
-    loop-again
-    returns
-    returns-2)
+    (tie.spec invariant-loop decreases-loop loop-i-init offset_bounds-t-i bounds-t-i holds_channel-requires overflow_add-i loop-i-smaller loop-i-preserved returns-then-i-ge-POSTS returns-then-holds_channel)

@@ -9,20 +9,20 @@ use Rattle.watch_rules.specs.Table.{post_count}
 use Rattle.watch_places.proofs.put.Statement.{statement}
 use Rattle.watch_places.proofs.put.Tie as tie
 
-mul-p : tie.Need-overflow-mul-p
-mul-p c = search rules
+offset_bounds-u-at : tie.Need-offset_bounds-u-at
+offset_bounds-u-at c = search rules
 
-element-set-from-p : tie.Need-element-set-from-p
-element-set-from-p c = search rules
+bounds-u-at : tie.Need-bounds-u-at
+bounds-u-at c = search rules
 
-returns : tie.Need-returns
-returns c = search rules
+returns-then-at-lt-POSTS : tie.Need-returns-then-at-lt-POSTS
+returns-then-at-lt-POSTS c = search rules
 
-returns-2 : tie.Need-returns-2
-returns-2 c =
-    let a = c.before.args in
+returns-else-at-lt-POSTS : tie.Need-returns-else-at-lt-POSTS
+returns-else-at-lt-POSTS c =
+    let a = c.args in
     let n : length a.t.posts ≡ post_count = search unmapped in
     rw (set_out a.t.posts a.at a.p (omega arith))
 
 pub put_spec : {M : Type 1} → statement M
-put_spec = tie.close (tie.spec mul-p element-set-from-p returns returns-2)
+put_spec = tie.close (tie.spec offset_bounds-u-at bounds-u-at returns-then-at-lt-POSTS returns-else-at-lt-POSTS)

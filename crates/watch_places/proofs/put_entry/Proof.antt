@@ -8,20 +8,20 @@ use Rattle.watch_rules.specs.Table.{channel_count}
 use Rattle.watch_places.proofs.put_entry.Statement.{statement}
 use Rattle.watch_places.proofs.put_entry.Tie as tie
 
-mul-u : tie.Need-overflow-mul-u
-mul-u c = search rules
+offset_bounds-u-c : tie.Need-offset_bounds-u-c
+offset_bounds-u-c c = search rules
 
-element-write-u : tie.Need-element-write-u
-element-write-u c = search rules
+bounds-u-c : tie.Need-bounds-u-c
+bounds-u-c c = search rules
 
-returns : tie.Need-returns
-returns c = search rules
+returns-then-c-lt-CHANNELS : tie.Need-returns-then-c-lt-CHANNELS
+returns-then-c-lt-CHANNELS c = search rules
 
-returns-2 : tie.Need-returns-2
-returns-2 c =
-    let a = c.before.args in
+returns-else-c-lt-CHANNELS : tie.Need-returns-else-c-lt-CHANNELS
+returns-else-c-lt-CHANNELS c =
+    let a = c.args in
     let n : length a.t.index ≡ channel_count = search rules in
     rw (set_out a.t.index a.channel a.name (omega arith))
 
 pub put_entry_spec : {M : Type 1} → statement M
-put_entry_spec = tie.close (tie.spec mul-u element-write-u returns returns-2)
+put_entry_spec = tie.close (tie.spec offset_bounds-u-c bounds-u-c returns-then-c-lt-CHANNELS returns-else-c-lt-CHANNELS)

@@ -4,17 +4,17 @@ use borrow.Author.Rules.{rules}
 use Rattle.watch_places.proofs.store.Statement.{statement}
 use Rattle.watch_places.proofs.store.Tie as tie
 
-mul-n : tie.Need-overflow-mul-n
-mul-n c = search rules
+offset_bounds-q-at : tie.Need-offset_bounds-q-at
+offset_bounds-q-at c = search rules
 
-element-set-from-n : tie.Need-element-set-from-n
-element-set-from-n c = search rules
+bounds-q-at : tie.Need-bounds-q-at
+bounds-q-at c = search rules
 
-returns : tie.Need-returns
-returns c = rw (lt-ltb _ _ c.if1.true)
+returns-then-at-lt-PLACES : tie.Need-returns-then-at-lt-PLACES
+returns-then-at-lt-PLACES c = rw (lt-ltb _ _ c.if-at-lt-PLACES.true)
 
-returns-2 : tie.Need-returns-2
-returns-2 c = rw (le-ltb _ _ c.if1.false)
+returns-else-at-lt-PLACES : tie.Need-returns-else-at-lt-PLACES
+returns-else-at-lt-PLACES c = rw (le-ltb _ _ c.if-at-lt-PLACES.false)
 
 pub store_spec : {M : Type 1} → statement M
-store_spec = tie.close (tie.spec mul-n element-set-from-n returns returns-2)
+store_spec = tie.close (tie.spec offset_bounds-q-at bounds-q-at returns-then-at-lt-PLACES returns-else-at-lt-PLACES)

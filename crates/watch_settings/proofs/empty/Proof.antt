@@ -5,11 +5,11 @@ use Rattle.watch_rules.proofs.Right.{empty_kept}
 use Rattle.watch_settings.proofs.empty.Statement.{statement}
 use Rattle.watch_settings.proofs.empty.Tie as tie
 
-free-post-requires : tie.Need-free-post-requires
-free-post-requires c κs = search rules
+free_post-p-requires : tie.Need-free_post-p-requires
+free_post-p-requires c κs = search rules
 
 returns : tie.Need-returns
-returns c = rw c.free-post.ensures (refl, empty_kept)
+returns c = rw c.free_post-p.ensures (refl, empty_kept)
 
 pub empty_spec : {M : Type 1} → statement M
-empty_spec = tie.close (tie.spec free-post-requires returns)
+empty_spec = tie.close (tie.spec free_post-p-requires returns)

@@ -5,21 +5,21 @@ use borrow.Author.Rules.{rules}
 use Rattle.watch_settings.proofs.forgotten.Statement.{statement}
 use Rattle.watch_settings.proofs.forgotten.Tie as tie
 
-cast-is-set : tie.Need-overflow-cast-is-set
-cast-is-set c = search rules
+overflow_cast-h : tie.Need-overflow_cast-h
+overflow_cast-h c = search rules
 
-is-set-requires : tie.Need-is-set-requires
-is-set-requires c κs = search rules
+is_set-requires : tie.Need-is_set-requires
+is_set-requires c κs = search rules
+
+returns-then-not-is_set : tie.Need-returns-then-not-is_set
+returns-then-not-is_set c = rw (sym c.is_set.ensures ∙ not-true _ c.if-not-is_set.true-raw)
+
+put_entry-requires : tie.Need-put_entry-requires
+put_entry-requires c κs = search rules
 
 returns : tie.Need-returns
-returns c = rw (sym c.before.is_set.ensures ∙ not-true _ c.if1.true)
-
-put-entry-requires : tie.Need-put-entry-requires
-put-entry-requires c κs = search rules
-
-returns-2 : tie.Need-returns-2
-returns-2 c = rw (c.put-entry.ensures, sym c.before.before.is_set.ensures ∙ not-false _ c.before.if1.false)
+returns c = rw (c.put_entry.ensures, sym c.is_set.ensures ∙ not-false _ c.if-not-is_set.false-raw)
 
 pub forgotten_spec : {M : Type 1} → statement M
 forgotten_spec =
-    tie.close (tie.spec cast-is-set is-set-requires returns put-entry-requires returns-2)
+    tie.close (tie.spec overflow_cast-h is_set-requires returns-then-not-is_set put_entry-requires returns)

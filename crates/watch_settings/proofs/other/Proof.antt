@@ -4,13 +4,13 @@ use Rattle.watch_rules.specs.Table.{is_other}
 use Rattle.watch_settings.proofs.other.Statement.{statement}
 use Rattle.watch_settings.proofs.other.Tie as tie
 
-returns : tie.Need-returns
+returns-then-at-lt-POSTS : tie.Need-returns-then-at-lt-POSTS
 unfolding is_other
-returns c = rw (lt-ltb _ _ c.if1.true)
+returns-then-at-lt-POSTS c = rw (lt-ltb _ _ c.if-at-lt-POSTS.true)
 
-returns-2 : tie.Need-returns-2
+returns-else-at-lt-POSTS : tie.Need-returns-else-at-lt-POSTS
 unfolding is_other
-returns-2 c = rw (le-ltb _ _ c.if1.false)
+returns-else-at-lt-POSTS c = rw (le-ltb _ _ c.if-at-lt-POSTS.false)
 
 pub other_spec : {M : Type 1} → statement M
-other_spec = tie.close (tie.spec returns returns-2)
+other_spec = tie.close (tie.spec returns-then-at-lt-POSTS returns-else-at-lt-POSTS)

@@ -7,71 +7,60 @@ use Rattle.watch_rules.proofs.Promises.{released_both}
 use Rattle.watch_settings.proofs.release.Statement.{statement}
 use Rattle.watch_settings.proofs.release.Tie as tie
 
-is-post-requires : tie.Need-is-post-requires
-is-post-requires c κs = search rules
+is_post-requires : tie.Need-is_post-requires
+is_post-requires c κs = search rules
+
+returns-then-not-is_post : tie.Need-returns-then-not-is_post
+unfolding release_of
+returns-then-not-is_post c =
+    let a = c.args in
+    released_both a.t1 a.post (rw (sym c.is_post.ensures ∙ not-true _ c.if-not-is_post.true-raw))
+
+offset_bounds-t-i : tie.Need-offset_bounds-t-i
+offset_bounds-t-i c = search rules
+
+bounds-t-i : tie.Need-bounds-t-i
+bounds-t-i c = ltb-true _ _ (sym c.is_post.ensures ∙ not-false _ c.if-not-is_post.false-raw)
+
+overflow_cast-h : tie.Need-overflow_cast-h
+overflow_cast-h c = search rules
+
+is_set-requires : tie.Need-is_set-requires
+is_set-requires c κs = search rules
+
+returns-then-not-is_set : tie.Need-returns-then-not-is_set
+unfolding release_of
+returns-then-not-is_set c =
+    let post = c.before.before.before.before.before in
+    let a = post.args in
+    released_both a.t1 a.post
+    (rw (sym post.is_post.ensures ∙ not-false _ post.if-not-is_post.false-raw, sym c.is_set.ensures ∙ not-true _ c.if-not-is_set.true-raw))
+
+free_post-requires : tie.Need-free_post-requires
+free_post-requires c κs = search rules
+
+put-u-requires : tie.Need-put-u-requires
+put-u-requires c κs = search rules
+
+forgotten-v-requires : tie.Need-forgotten-v-requires
+forgotten-v-requires c κs = search rules
 
 returns : tie.Need-returns
 unfolding release_of
 returns c =
-    let a = c.before.before.args in
-    released_both a.t1 a.post (rw (sym c.before.is-post.ensures ∙ not-true _ c.if1.true))
-
-mul-p : tie.Need-overflow-mul-p
-mul-p c = search rules
-
-element-copy-out-p : tie.Need-element-copy-out-p
-element-copy-out-p c = ltb-true _ _ (sym c.before.is-post.ensures ∙ not-false _ c.if1.false)
-
-cast-is-set : tie.Need-overflow-cast-is-set
-cast-is-set c = search rules
-
-is-set-requires : tie.Need-is-set-requires
-is-set-requires c κs = search rules
-
-returns-2 : tie.Need-returns-2
-unfolding release_of
-returns-2 c =
-    let post = c.before.before.before.before.before in
-    let a = post.before.before.args in
-    released_both a.t1 a.post
-    (rw (sym post.before.is-post.ensures ∙ not-false _ post.if1.false, sym c.before.is_set.ensures ∙ not-true _ c.if2.true))
-
-free-post-requires : tie.Need-free-post-requires
-free-post-requires c κs = search rules
-
-put-requires : tie.Need-put-requires
-put-requires c κs = search rules
-
-forgotten-requires : tie.Need-forgotten-requires
-forgotten-requires c κs = search rules
-
-returns-3 : tie.Need-returns-3
-unfolding release_of
-returns-3 c =
     let used = c.before.before.before in
     let post = used.before.before.before.before.before in
-    let a = post.before.before.args in
+    let a = post.args in
     released_both a.t1 a.post
     (rw (
-      c.forgotten.ensures,
-      c.before.put.ensures,
-      c.before.before.free-post.ensures,
-      sym post.before.is-post.ensures ∙ not-false _ post.if1.false,
-      sym used.before.is_set.ensures ∙ not-false _ used.if2.false,
+      c.forgotten-v.ensures,
+      c.put-u.ensures,
+      c.free_post.ensures,
+      sym post.is_post.ensures ∙ not-false _ post.if-not-is_post.false-raw,
+      sym used.is_set.ensures ∙ not-false _ used.if-not-is_set.false-raw,
     ))
 
 pub release_spec : {M : Type 1} → statement M
 release_spec =
     tie.close
-    (tie.spec
-    is-post-requires
-    returns
-    mul-p
-    element-copy-out-p
-    cast-is-set
-    is-set-requires
-    returns-2
-    free-post-requires
-    put-requires
-    forgotten-requires
-    returns-3)
+    (tie.spec is_post-requires returns-then-not-is_post offset_bounds-t-i bounds-t-i overflow_cast-h is_set-requires returns-then-not-is_set free_post-requires put-u-requires forgotten-v-requires returns)

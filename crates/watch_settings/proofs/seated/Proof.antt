@@ -4,39 +4,31 @@ use borrow.Author.Rules.{rules}
 use Rattle.watch_settings.proofs.seated.Statement.{statement}
 use Rattle.watch_settings.proofs.seated.Tie as tie
 
-mul-p : tie.Need-overflow-mul-p
-mul-p c = search rules
+offset_bounds-t-i : tie.Need-offset_bounds-t-i
+offset_bounds-t-i c = search rules
 
-element-copy-out-p : tie.Need-element-copy-out-p
-element-copy-out-p c = search rules
+bounds-t-i : tie.Need-bounds-t-i
+bounds-t-i c = search rules
 
-fresh-post-requires : tie.Need-fresh-post-requires
-fresh-post-requires c κs = search rules
+fresh_post-requires : tie.Need-fresh_post-requires
+fresh_post-requires c κs = search rules
 
-put-requires : tie.Need-put-requires
-put-requires c κs = search rules
+put-u-requires : tie.Need-put-u-requires
+put-u-requires c κs = search rules
 
-forgotten-requires : tie.Need-forgotten-requires
-forgotten-requires c κs = search rules
+forgotten-v-requires : tie.Need-forgotten-v-requires
+forgotten-v-requires c κs = search rules
 
-add-put-entry : tie.Need-overflow-add-put-entry
-add-put-entry c = search rules
+overflow_add-post : tie.Need-overflow_add-post
+overflow_add-post c = search rules
 
-put-entry-requires : tie.Need-put-entry-requires
-put-entry-requires c κs = search rules
+put_entry-requires : tie.Need-put_entry-requires
+put_entry-requires c κs = search rules
 
 returns : tie.Need-returns
-returns c = rw (c.put-entry.ensures, c.before.forgotten.ensures, c.before.before.put.ensures, c.before.before.before.fresh-post.ensures, add-one _)
+returns c = rw (c.put_entry.ensures, c.forgotten-v.ensures, c.put-u.ensures, c.fresh_post.ensures, add-one _)
 
 pub seated_spec : {M : Type 1} → statement M
 seated_spec =
     tie.close
-    (tie.spec
-    mul-p
-    element-copy-out-p
-    fresh-post-requires
-    put-requires
-    forgotten-requires
-    add-put-entry
-    put-entry-requires
-    returns)
+    (tie.spec offset_bounds-t-i bounds-t-i fresh_post-requires put-u-requires forgotten-v-requires overflow_add-post put_entry-requires returns)

@@ -5,16 +5,16 @@ use Rattle.rule_limits.specs.Sensor.{plain_of}
 use Rattle.watch_settings.proofs.set_up.Statement.{statement}
 use Rattle.watch_settings.proofs.set_up.Tie as tie
 
-plain-requires : tie.Need-plain-requires
-plain-requires c κs = search rules
+plain-kept-requires : tie.Need-plain-kept-requires
+plain-kept-requires c κs = search rules
 
-set-up-plain-requires : tie.Need-set-up-plain-requires
-set-up-plain-requires c κs = search rules
+set_up_plain-requires : tie.Need-set_up_plain-requires
+set_up_plain-requires c κs = search rules
 
 returns : tie.Need-returns
 returns c =
-    let a = c.before.before.args in
-    set_both a.t a.post a.channel (plain_of a.limits) (rw (← c.before.plain.ensures) c.set-up-plain.ensures.0)
+    let a = c.args in
+    set_both a.t a.post a.channel (plain_of a.limits) (rw (← c.plain-kept.ensures) c.set_up_plain.ensures.0)
 
 pub set_up_spec : {M : Type 1} → statement M
-set_up_spec = tie.close (tie.spec plain-requires set-up-plain-requires returns)
+set_up_spec = tie.close (tie.spec plain-kept-requires set_up_plain-requires returns)

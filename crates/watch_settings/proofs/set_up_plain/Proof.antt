@@ -7,21 +7,21 @@ use Rattle.watch_rules.proofs.Promises.{set_both}
 use Rattle.watch_settings.proofs.set_up_plain.Statement.{statement}
 use Rattle.watch_settings.proofs.set_up_plain.Tie as tie
 
-is-post-requires : tie.Need-is-post-requires
-is-post-requires c κs = search rules
+is_post-requires : tie.Need-is_post-requires
+is_post-requires c κs = search rules
 
-returns : tie.Need-returns
+returns-then-not-is_post : tie.Need-returns-then-not-is_post
 unfolding set_up_of
-returns c =
-    let a = c.before.before.args in
-    set_both a.t a.post a.channel a.limits (rw (sym c.before.is-post.ensures ∙ not-true _ c.if1.true))
+returns-then-not-is_post c =
+    let a = c.args in
+    set_both a.t a.post a.channel a.limits (rw (sym c.is_post.ensures ∙ not-true _ c.if-not-is_post.true-raw))
 
-returns-2 : tie.Need-returns-2
+returns-then-channel-gt31 : tie.Need-returns-then-channel-gt31
 unfolding set_up_of
-returns-2 c =
+returns-then-channel-gt31 c =
     let post = c.before in
-    let a = post.before.before.args in
-    set_both a.t a.post a.channel a.limits (rw (sym post.before.is-post.ensures ∙ not-false _ post.if1.false, lt-leb _ _ c.if2.true))
+    let a = post.args in
+    set_both a.t a.post a.channel a.limits (rw (sym post.is_post.ensures ∙ not-false _ post.if-not-is_post.false-raw, lt-leb _ _ c.if-channel-gt31.true))
 
 place-requires : tie.Need-place-requires
 place-requires c κs = search rules
@@ -29,73 +29,63 @@ place-requires c κs = search rules
 other-requires : tie.Need-other-requires
 other-requires c κs = search rules
 
-returns-3 : tie.Need-returns-3
+returns-then-other : tie.Need-returns-then-other
 unfolding set_up_of
-returns-3 c =
+returns-then-other c =
     let on = c.before.before.before in
     let post = on.before in
-    let a = post.before.before.args in
+    let a = post.args in
     set_both a.t a.post a.channel a.limits
     (rw (
-      sym post.before.is-post.ensures ∙ not-false _ post.if1.false,
-      le-leb _ _ on.if2.false,
-      ← c.before.before.place.ensures.0,
-      sym c.before.other.ensures ∙ c.if3.true,
+      sym post.is_post.ensures ∙ not-false _ post.if-not-is_post.false-raw,
+      le-leb _ _ on.if-channel-gt31.false,
+      ← c.place.ensures.0,
+      sym c.other.ensures ∙ c.if-other.true,
     ))
 
-limits-fit-requires : tie.Need-limits-fit-requires
-limits-fit-requires c κs = search rules
+limits_fit-requires : tie.Need-limits_fit-requires
+limits_fit-requires c κs = search rules
 
-returns-4 : tie.Need-returns-4
+returns-then-not-limits_fit : tie.Need-returns-then-not-limits_fit
 unfolding set_up_of
-returns-4 c =
+returns-then-not-limits_fit c =
     let free = c.before.before in
     let on = free.before.before.before in
     let post = on.before in
-    let a = post.before.before.args in
+    let a = post.args in
     set_both a.t a.post a.channel a.limits
     (rw (
-      sym post.before.is-post.ensures ∙ not-false _ post.if1.false,
-      le-leb _ _ on.if2.false,
-      ← free.before.before.place.ensures.0,
-      sym free.before.other.ensures ∙ free.if3.false,
-      sym c.before.limits-fit.ensures ∙ not-true _ c.if4.true,
+      sym post.is_post.ensures ∙ not-false _ post.if-not-is_post.false-raw,
+      le-leb _ _ on.if-channel-gt31.false,
+      ← free.place.ensures.0,
+      sym free.other.ensures ∙ free.if-other.false,
+      sym c.limits_fit.ensures ∙ not-true _ c.if-not-limits_fit.true-raw,
     ))
 
-seated-requires : tie.Need-seated-requires
-seated-requires c κs =
+seated-u-requires : tie.Need-seated-u-requires
+seated-u-requires c κs =
     let post = c.before.before.before.before.before.before in
-    ltb-true _ _ (sym post.before.is-post.ensures ∙ not-false _ post.if1.false)
+    ltb-true _ _ (sym post.is_post.ensures ∙ not-false _ post.if-not-is_post.false-raw)
 
-returns-5 : tie.Need-returns-5
+returns : tie.Need-returns
 unfolding set_up_of
-returns-5 c =
+returns c =
     let fit = c.before in
     let free = fit.before.before in
     let on = free.before.before.before in
     let post = on.before in
-    let a = post.before.before.args in
+    let a = post.args in
     set_both a.t a.post a.channel a.limits
     (rw (
-      sym post.before.is-post.ensures ∙ not-false _ post.if1.false,
-      le-leb _ _ on.if2.false,
-      ← free.before.before.place.ensures.0,
-      sym free.before.other.ensures ∙ free.if3.false,
-      sym fit.before.limits-fit.ensures ∙ not-false _ fit.if4.false,
-      c.seated.ensures,
+      sym post.is_post.ensures ∙ not-false _ post.if-not-is_post.false-raw,
+      le-leb _ _ on.if-channel-gt31.false,
+      ← free.place.ensures.0,
+      sym free.other.ensures ∙ free.if-other.false,
+      sym fit.limits_fit.ensures ∙ not-false _ fit.if-not-limits_fit.false-raw,
+      c.seated-u.ensures,
     ))
 
 pub set_up_plain_spec : {M : Type 1} → statement M
 set_up_plain_spec =
     tie.close
-    (tie.spec
-    is-post-requires
-    returns
-    returns-2
-    place-requires
-    other-requires
-    returns-3
-    limits-fit-requires
-    returns-4
-    seated-requires
-    returns-5)
+    (tie.spec is_post-requires returns-then-not-is_post returns-then-channel-gt31 place-requires other-requires returns-then-other limits_fit-requires returns-then-not-limits_fit seated-u-requires returns)

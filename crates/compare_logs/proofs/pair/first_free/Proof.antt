@@ -17,49 +17,37 @@ invariant-loop a sa ka n i b sb kb m used low j₀ j = (j ≤ m) × ((l : ℕ) �
 abbrev decreases-loop : tie.decreases-loop
 decreases-loop a sa ka n i b sb kb m used low j₀ j = m - j
 
-loop-holds : tie.Need-loop-init invariant-loop decreases-loop
-loop-holds c = (omega arith, λ l h g. absurd (omega arith))
+loop-j-init : tie.Need-loop-j-init invariant-loop decreases-loop
+loop-j-init c = (omega arith, λ l h g. absurd (omega arith))
 
-add-j : tie.Need-overflow-add-j invariant-loop decreases-loop
-add-j c = omega arith
+overflow_add-j : tie.Need-overflow_add-j invariant-loop decreases-loop
+overflow_add-j c = omega arith
 
-element-copy-out-if1 : tie.Need-element-copy-out-if1 invariant-loop decreases-loop
-element-copy-out-if1 c = omega arith
+bounds-used-k : tie.Need-bounds-used-k invariant-loop decreases-loop
+bounds-used-k c = omega arith
 
-loop-less : tie.Need-loop-smaller invariant-loop decreases-loop
-loop-less c = omega arith
+loop-j-smaller-then-used-k-ne0 : tie.Need-loop-j-smaller-then-used-k-ne0 invariant-loop decreases-loop
+loop-j-smaller-then-used-k-ne0 c = omega arith
 
-loop-again : tie.Need-loop-preserved invariant-loop decreases-loop
-loop-again c = (omega arith, below_more _ _ c.before.before.before.loop.invariant.1 (λ le f s. c.if1.true f))
+loop-j-preserved-then-used-k-ne0 : tie.Need-loop-j-preserved-then-used-k-ne0 invariant-loop decreases-loop
+loop-j-preserved-then-used-k-ne0 c = (omega arith, below_more _ _ c.loop-j.invariant.1 (λ le f s. c.if-used-k-ne0.true f))
 
 equal-requires : tie.Need-equal-requires invariant-loop decreases-loop
-equal-requires c κs = (c.before.before.before.before.before.before.requires.0, c.before.before.before.before.before.before.requires.1, c.before.before.before.before.before.before.requires.2, c.before.before.loop-test.true)
+equal-requires c κs = (c.requires.0, c.requires.1, c.requires.2, c.loop-j-test.true)
+
+returns-then-equal : tie.Need-returns-then-equal invariant-loop decreases-loop
+returns-then-equal c = (omega arith, c.loop-j.invariant.1, λ h. (c.if-used-k-ne0.false, sym c.equal.ensures ∙ c.if-equal.true))
+
+loop-j-smaller : tie.Need-loop-j-smaller invariant-loop decreases-loop
+loop-j-smaller c = omega arith
+
+loop-j-preserved : tie.Need-loop-j-preserved invariant-loop decreases-loop
+loop-j-preserved c = (omega arith, below_more _ _ c.loop-j.invariant.1 (λ le f s. never (sym c.equal.ensures ∙ c.if-equal.false) s))
 
 returns : tie.Need-returns invariant-loop decreases-loop
-returns c = (omega arith, c.before.before.before.before.before.loop.invariant.1, λ h. (c.before.before.if1.false, sym c.before.equal.ensures ∙ c.if2.true))
-
-loop-less-2 : tie.Need-loop-smaller-2 invariant-loop decreases-loop
-loop-less-2 c = omega arith
-
-loop-again-2 : tie.Need-loop-preserved-2 invariant-loop decreases-loop
-loop-again-2 c = (omega arith, below_more _ _ c.before.before.before.before.before.loop.invariant.1 (λ le f s. never (sym c.before.equal.ensures ∙ c.if2.false) s))
-
-returns-2 : tie.Need-returns-2 invariant-loop decreases-loop
-returns-2 c = (omega arith, λ l h. c.before.loop.invariant.1 l (omega arith), λ h. absurd (omega arith))
+returns c = (omega arith, λ l h. c.loop-j.invariant.1 l (omega arith), λ h. absurd (omega arith))
 
 pub first_free_spec : {M : Type 1} → statement M
 first_free_spec =
     tie.close
-    (tie.spec
-    invariant-loop
-    decreases-loop
-    loop-holds
-    add-j
-    element-copy-out-if1
-    loop-less
-    loop-again
-    equal-requires
-    returns
-    loop-less-2
-    loop-again-2
-    returns-2)
+    (tie.spec invariant-loop decreases-loop loop-j-init overflow_add-j bounds-used-k loop-j-smaller-then-used-k-ne0 loop-j-preserved-then-used-k-ne0 equal-requires returns-then-equal loop-j-smaller loop-j-preserved returns)

@@ -11,61 +11,46 @@ invariant-loop used m list₀ j₀ k₀ list j k = Listing used m list₀ list j
 abbrev decreases-loop : tie.decreases-loop
 decreases-loop used m list₀ j₀ k₀ list j k = m - j
 
-loop-holds : tie.Need-loop-init invariant-loop decreases-loop
-loop-holds c = listing_start c.args.used.now c.args.m c.args.list.now
+loop-j-init : tie.Need-loop-j-init invariant-loop decreases-loop
+loop-j-init c = listing_start c.args.used.now c.args.m c.args.list.now
 
-element-copy-out-u : tie.Need-element-copy-out-u invariant-loop decreases-loop
-element-copy-out-u c = omega arith
+bounds-used-j : tie.Need-bounds-used-j invariant-loop decreases-loop
+bounds-used-j c = omega arith
 
-add-j : tie.Need-overflow-add-j invariant-loop decreases-loop
-add-j c = omega arith
+overflow_add-j : tie.Need-overflow_add-j invariant-loop decreases-loop
+overflow_add-j c = omega arith
 
-cast-list : tie.Need-overflow-cast-list invariant-loop decreases-loop
-cast-list c = omega arith
+overflow_cast-list : tie.Need-overflow_cast-list invariant-loop decreases-loop
+overflow_cast-list c = omega arith
 
-mul-list : tie.Need-overflow-mul-list invariant-loop decreases-loop
-mul-list c = omega arith
+offset_bounds-list-k : tie.Need-offset_bounds-list-k invariant-loop decreases-loop
+offset_bounds-list-k c = omega arith
 
-slice-write-list : tie.Need-slice-write-list invariant-loop decreases-loop
-slice-write-list c = omega arith
+bounds-list-k : tie.Need-bounds-list-k invariant-loop decreases-loop
+bounds-list-k c = omega arith
 
-add-k : tie.Need-overflow-add-k invariant-loop decreases-loop
-add-k c = omega arith
+overflow_add-k : tie.Need-overflow_add-k invariant-loop decreases-loop
+overflow_add-k c = omega arith
 
-loop-less : tie.Need-loop-smaller invariant-loop decreases-loop
-loop-less c = omega arith
+loop-j-smaller-then-u-eq0 : tie.Need-loop-j-smaller-then-u-eq0 invariant-loop decreases-loop
+loop-j-smaller-then-u-eq0 c = omega arith
 
-loop-again : tie.Need-loop-preserved invariant-loop decreases-loop
-loop-again c = listing_more c.before.before.before.before.args.used.now c.before.before.before.before.args.m c.before.before.before.before.args.list.now c.before.before.before.loop.list c.before.before.before.loop.j c.before.before.before.loop.k c.if1.true (omega arith) c.before.before.before.loop.invariant
+loop-j-preserved-then-u-eq0 : tie.Need-loop-j-preserved-then-u-eq0 invariant-loop decreases-loop
+loop-j-preserved-then-u-eq0 c = listing_more c.args.used.now c.args.m c.args.list.now c.loop-j.list c.loop-j.j c.loop-j.k c.if-u-eq0.true (omega arith) c.loop-j.invariant
 
-loop-less-2 : tie.Need-loop-smaller-2 invariant-loop decreases-loop
-loop-less-2 c = omega arith
+loop-j-smaller : tie.Need-loop-j-smaller invariant-loop decreases-loop
+loop-j-smaller c = omega arith
 
-loop-again-2 : tie.Need-loop-preserved-2 invariant-loop decreases-loop
-loop-again-2 c = listing_skip c.before.before.before.before.args.used.now c.before.before.before.before.args.m c.before.before.before.before.args.list.now c.before.before.before.loop.list c.before.before.before.loop.j c.before.before.before.loop.k c.if1.false (omega arith) c.before.before.before.loop.invariant
+loop-j-preserved : tie.Need-loop-j-preserved invariant-loop decreases-loop
+loop-j-preserved c = listing_skip c.args.used.now c.args.m c.args.list.now c.loop-j.list c.loop-j.j c.loop-j.k c.if-u-eq0.false (omega arith) c.loop-j.invariant
 
-same_length : tie.Need-same-length invariant-loop decreases-loop
-same_length c = omega arith
+shape_of-list : tie.Need-shape_of-list invariant-loop decreases-loop
+shape_of-list c = omega arith
 
 returns : tie.Need-returns invariant-loop decreases-loop
-returns c = listing_end c.before.before.args.used.now c.before.before.args.m c.before.before.args.list.now c.before.loop.list c.before.loop.j c.before.loop.k (omega arith) c.before.loop.invariant
+returns c = listing_end c.args.used.now c.args.m c.args.list.now c.loop-j.list c.loop-j.j c.loop-j.k (omega arith) c.loop-j.invariant
 
 pub list_free_spec : {M : Type 1} → statement M
 list_free_spec =
     tie.close
-    (tie.spec
-    invariant-loop
-    decreases-loop
-    loop-holds
-    element-copy-out-u
-    add-j
-    cast-list
-    mul-list
-    slice-write-list
-    add-k
-    loop-less
-    loop-again
-    loop-less-2
-    loop-again-2
-    same_length
-    returns)
+    (tie.spec invariant-loop decreases-loop loop-j-init bounds-used-j overflow_add-j overflow_cast-list offset_bounds-list-k bounds-list-k overflow_add-k loop-j-smaller-then-u-eq0 loop-j-preserved-then-u-eq0 loop-j-smaller loop-j-preserved shape_of-list returns)

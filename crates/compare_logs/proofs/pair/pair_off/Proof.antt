@@ -14,71 +14,54 @@ invariant-loop a sa ka n b sb kb m used₀ list₀ i₀ k₀ low₀ used list i 
 abbrev decreases-loop : tie.decreases-loop
 decreases-loop a sa ka n b sb kb m used₀ list₀ i₀ k₀ low₀ used list i k low = n - i
 
-loop-holds : tie.Need-loop-init invariant-loop decreases-loop
-loop-holds c = pair_start (records_of c.before.before.before.args.a.now) (records_of c.before.before.before.args.b.now) c.before.before.before.args.list.now c.before.before.before.args.used.now (omega (arith, c.before.before.before.requires.1.0, c.before.before.before.requires.1.1)) c.before.before.before.requires.3
+loop-i-init : tie.Need-loop-i-init invariant-loop decreases-loop
+loop-i-init c = pair_start (records_of c.args.a.now) (records_of c.args.b.now) c.args.list.now c.args.used.now (omega (arith, c.requires.1.0, c.requires.1.1)) c.requires.3
 
-past-used-requires : tie.Need-past-used-requires invariant-loop decreases-loop
-past-used-requires c κs = (c.before.before.loop.invariant.4, omega (arith, c.before.before.loop.invariant.2, c.before.before.before.before.before.before.requires.1.1), c.before.before.before.before.before.before.requires.1.0)
+past_used-low-requires : tie.Need-past_used-low-requires invariant-loop decreases-loop
+past_used-low-requires c κs = (c.before.before.loop.invariant.4, omega (arith, c.before.before.loop.invariant.2, c.requires.1.1), c.requires.1.0)
 
-first-free-requires : tie.Need-first-free-requires invariant-loop decreases-loop
-first-free-requires c κs = (c.before.before.before.before.before.before.before.before.requires.0, c.before.before.before.before.before.before.before.before.requires.1, c.before.before.before.loop-test.true, c.before.past-used.ensures.1)
+first_free-j-requires : tie.Need-first_free-j-requires invariant-loop decreases-loop
+first_free-j-requires c κs = (c.requires.0, c.requires.1, c.before.before.before.loop-test.true, c.before.past-used.ensures.1)
 
-add-i : tie.Need-overflow-add-i invariant-loop decreases-loop
-add-i c = omega arith
+overflow_add-i : tie.Need-overflow_add-i invariant-loop decreases-loop
+overflow_add-i c = omega arith
 
-element-write-used : tie.Need-element-write-used invariant-loop decreases-loop
-element-write-used c = omega (arith, c.before.before.before.before.before.before.before.before.before.before.requires.1.0)
+bounds-used-j : tie.Need-bounds-used-j invariant-loop decreases-loop
+bounds-used-j c = omega (arith, c.requires.1.0)
 
-loop-less : tie.Need-loop-smaller invariant-loop decreases-loop
-loop-less c = omega arith
+loop-i-smaller-then-j-m : tie.Need-loop-i-smaller-then-j-m invariant-loop decreases-loop
+loop-i-smaller-then-j-m c = omega arith
 
-loop-again : tie.Need-loop-preserved invariant-loop decreases-loop
-loop-again c = pair_found (records_of c.before.before.before.before.before.before.before.before.before.before.args.a.now) (records_of c.before.before.before.before.before.before.before.before.before.before.args.b.now) c.before.before.before.before.before.before.before.before.before.before.args.list.now c.before.before.before.before.before.before.loop.used c.before.before.before.before.before.before.loop.list c.before.before.before.before.before.before.loop.i c.before.before.before.before.before.before.loop.k c.before.before.before.before.before.before.loop.low c.before.before.before.past-used.result c.before.first-free.result (omega (arith, c.before.before.before.before.before.before.before.before.before.before.requires.0.1)) (omega (arith, c.before.before.before.before.before.before.before.before.before.before.requires.1.0, c.before.before.before.before.before.before.before.before.before.before.requires.1.1)) c.before.before.before.before.before.before.loop.invariant c.before.before.before.past-used.ensures.0 (omega (arith, c.before.before.before.past-used.ensures.1, c.before.before.before.before.before.before.before.before.before.before.requires.1.1)) (subst (λ (x : ℕ). FirstFree (records_of c.before.before.before.before.before.before.before.before.before.before.args.a.now) (records_of c.before.before.before.before.before.before.before.before.before.before.args.b.now) c.before.before.before.before.before.before.loop.used c.before.before.before.before.before.before.loop.i c.before.before.before.past-used.result x c.before.first-free.result) c.before.before.before.before.before.before.before.before.before.before.requires.1.1 c.before.first-free.ensures) (omega (arith, c.before.before.before.before.before.before.before.before.before.before.requires.1.1, c.if1.true))
+loop-i-preserved-then-j-m : tie.Need-loop-i-preserved-then-j-m invariant-loop decreases-loop
+loop-i-preserved-then-j-m c = pair_found (records_of c.args.a.now) (records_of c.args.b.now) c.args.list.now c.before.before.before.before.before.before.loop.used c.before.before.before.before.before.before.loop.list c.before.before.before.before.before.before.loop.i c.before.before.before.before.before.before.loop.k c.before.before.before.before.before.before.loop.low c.past_used-low.result c.first_free-j.result (omega (arith, c.requires.0.1)) (omega (arith, c.requires.1.0, c.requires.1.1)) c.before.before.before.before.before.before.loop.invariant c.past_used-low.ensures.0 (omega (arith, c.past_used-low.ensures.1, c.requires.1.1)) (subst (λ (x : ℕ). FirstFree (records_of c.args.a.now) (records_of c.args.b.now) c.before.before.before.before.before.before.loop.used c.before.before.before.before.before.before.loop.i c.past_used-low.result x c.first_free-j.result) c.requires.1.1 c.first_free-j.ensures) (omega (arith, c.requires.1.1, c.if-j-m.true))
 
-cast-list : tie.Need-overflow-cast-list invariant-loop decreases-loop
-cast-list c = omega (arith, c.before.before.before.before.before.before.before.before.before.before.requires.0.0)
+overflow_cast-list : tie.Need-overflow_cast-list invariant-loop decreases-loop
+overflow_cast-list c = omega (arith, c.requires.0.0)
 
-mul-list : tie.Need-overflow-mul-list invariant-loop decreases-loop
-mul-list c = omega arith
+offset_bounds-list-k : tie.Need-offset_bounds-list-k invariant-loop decreases-loop
+offset_bounds-list-k c = omega arith
 
-slice-write-list : tie.Need-slice-write-list invariant-loop decreases-loop
-slice-write-list c = omega (arith, c.before.before.before.before.before.before.before.before.before.before.requires.0.0, c.before.before.before.before.before.before.before.before.before.before.requires.2, c.before.before.before.before.before.before.loop.invariant.1, c.before.before.before.before.before.before.loop.invariant.6.2)
+bounds-list-k : tie.Need-bounds-list-k invariant-loop decreases-loop
+bounds-list-k c = omega (arith, c.requires.0.0, c.requires.2, c.before.before.before.before.before.before.loop.invariant.1, c.before.before.before.before.before.before.loop.invariant.6.2)
 
-add-k : tie.Need-overflow-add-k invariant-loop decreases-loop
-add-k c = omega (arith, c.before.before.before.before.before.before.before.before.before.before.requires.0.0, c.before.before.before.before.before.before.loop.invariant.1)
+overflow_add-k : tie.Need-overflow_add-k invariant-loop decreases-loop
+overflow_add-k c = omega (arith, c.requires.0.0, c.before.before.before.before.before.before.loop.invariant.1)
 
-loop-less-2 : tie.Need-loop-smaller-2 invariant-loop decreases-loop
-loop-less-2 c = omega arith
+loop-i-smaller : tie.Need-loop-i-smaller invariant-loop decreases-loop
+loop-i-smaller c = omega arith
 
-loop-again-2 : tie.Need-loop-preserved-2 invariant-loop decreases-loop
-loop-again-2 c = pair_none (records_of c.before.before.before.before.before.before.before.before.before.before.args.a.now) (records_of c.before.before.before.before.before.before.before.before.before.before.args.b.now) c.before.before.before.before.before.before.before.before.before.before.args.list.now c.before.before.before.before.before.before.loop.used c.before.before.before.before.before.before.loop.list c.before.before.before.before.before.before.loop.i c.before.before.before.before.before.before.loop.k c.before.before.before.before.before.before.loop.low c.before.before.before.past-used.result c.before.first-free.result (omega (arith, c.before.before.before.before.before.before.before.before.before.before.requires.0.1)) (omega (arith, c.before.before.before.before.before.before.before.before.before.before.requires.1.0, c.before.before.before.before.before.before.before.before.before.before.requires.1.1)) c.before.before.before.before.before.before.loop.invariant c.before.before.before.past-used.ensures.0 (omega (arith, c.before.before.before.past-used.ensures.1, c.before.before.before.before.before.before.before.before.before.before.requires.1.1)) (subst (λ (x : ℕ). FirstFree (records_of c.before.before.before.before.before.before.before.before.before.before.args.a.now) (records_of c.before.before.before.before.before.before.before.before.before.before.args.b.now) c.before.before.before.before.before.before.loop.used c.before.before.before.before.before.before.loop.i c.before.before.before.past-used.result x c.before.first-free.result) c.before.before.before.before.before.before.before.before.before.before.requires.1.1 c.before.first-free.ensures) (omega (arith, c.before.before.before.before.before.before.before.before.before.before.requires.1.1, c.if1.false))
+loop-i-preserved : tie.Need-loop-i-preserved invariant-loop decreases-loop
+loop-i-preserved c = pair_none (records_of c.args.a.now) (records_of c.args.b.now) c.args.list.now c.before.before.before.before.before.before.loop.used c.before.before.before.before.before.before.loop.list c.before.before.before.before.before.before.loop.i c.before.before.before.before.before.before.loop.k c.before.before.before.before.before.before.loop.low c.before.before.before.past-used.result c.first_free-j.result (omega (arith, c.requires.0.1)) (omega (arith, c.requires.1.0, c.requires.1.1)) c.before.before.before.before.before.before.loop.invariant c.before.before.before.past-used.ensures.0 (omega (arith, c.before.before.before.past-used.ensures.1, c.requires.1.1)) (subst (λ (x : ℕ). FirstFree (records_of c.args.a.now) (records_of c.args.b.now) c.before.before.before.before.before.before.loop.used c.before.before.before.before.before.before.loop.i c.before.before.before.past-used.result x c.first_free-j.result) c.requires.1.1 c.first_free-j.ensures) (omega (arith, c.requires.1.1, c.if-j-m.false))
 
-same_length : tie.Need-same-length invariant-loop decreases-loop
-same_length c = c.before.loop.invariant.6.2
+shape_of-list : tie.Need-shape_of-list invariant-loop decreases-loop
+shape_of-list c = c.loop-i.invariant.6.2
 
 returns : tie.Need-returns invariant-loop decreases-loop
 returns c =
-    let e = pair_end (records_of c.before.before.before.before.before.args.a.now) (records_of c.before.before.before.before.before.args.b.now) c.before.before.before.before.before.args.list.now c.before.loop.used c.before.loop.list c.before.loop.i c.before.loop.k c.before.loop.low (omega (arith, c.before.before.before.before.before.requires.0.1)) c.before.loop.invariant in
-    (e.0, e.1, λ j h. e.2 j (omega (arith, c.before.before.before.before.before.requires.1.1)))
+    let e = pair_end (records_of c.args.a.now) (records_of c.args.b.now) c.args.list.now c.loop-i.used c.loop-i.list c.loop-i.i c.loop-i.k c.loop-i.low (omega (arith, c.requires.0.1)) c.loop-i.invariant in
+    (e.0, e.1, λ j h. e.2 j (omega (arith, c.requires.1.1)))
 
 pub pair_off_spec : {M : Type 1} → statement M
 pair_off_spec =
     tie.close
-    (tie.spec
-    invariant-loop
-    decreases-loop
-    loop-holds
-    past-used-requires
-    first-free-requires
-    add-i
-    element-write-used
-    loop-less
-    loop-again
-    cast-list
-    mul-list
-    slice-write-list
-    add-k
-    loop-less-2
-    loop-again-2
-    same_length
-    returns)
+    (tie.spec invariant-loop decreases-loop loop-i-init past_used-low-requires first_free-j-requires overflow_add-i bounds-used-j loop-i-smaller-then-j-m loop-i-preserved-then-j-m overflow_cast-list offset_bounds-list-k bounds-list-k overflow_add-k loop-i-smaller loop-i-preserved shape_of-list returns)

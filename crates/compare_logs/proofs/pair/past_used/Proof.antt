@@ -12,37 +12,28 @@ invariant-loop used low m i₀ i = (i ≤ m) × UsedBelow used i
 abbrev decreases-loop : tie.decreases-loop
 decreases-loop used low m i₀ i = m - i
 
-loop-holds : tie.Need-loop-init invariant-loop decreases-loop
-loop-holds c = (omega arith, c.requires.0)
+loop-i-init : tie.Need-loop-i-init invariant-loop decreases-loop
+loop-i-init c = (omega arith, c.requires.0)
 
-element-copy-out-if1 : tie.Need-element-copy-out-if1 invariant-loop decreases-loop
-element-copy-out-if1 c = omega arith
+bounds-used-i : tie.Need-bounds-used-i invariant-loop decreases-loop
+bounds-used-i c = omega arith
+
+returns-then-used-i-eq0 : tie.Need-returns-then-used-i-eq0 invariant-loop decreases-loop
+returns-then-used-i-eq0 c = (c.loop-i.invariant.1, c.loop-i.invariant.0)
+
+overflow_add-i : tie.Need-overflow_add-i invariant-loop decreases-loop
+overflow_add-i c = omega arith
+
+loop-i-smaller : tie.Need-loop-i-smaller invariant-loop decreases-loop
+loop-i-smaller c = omega arith
+
+loop-i-preserved : tie.Need-loop-i-preserved invariant-loop decreases-loop
+loop-i-preserved c = (omega arith, below_more _ _ c.loop-i.invariant.1 c.if-used-i-eq0.false)
 
 returns : tie.Need-returns invariant-loop decreases-loop
-returns c = (c.before.before.before.loop.invariant.1, c.before.before.before.loop.invariant.0)
-
-add-i : tie.Need-overflow-add-i invariant-loop decreases-loop
-add-i c = omega arith
-
-loop-less : tie.Need-loop-smaller invariant-loop decreases-loop
-loop-less c = omega arith
-
-loop-again : tie.Need-loop-preserved invariant-loop decreases-loop
-loop-again c = (omega arith, below_more _ _ c.before.before.before.loop.invariant.1 c.if1.false)
-
-returns-2 : tie.Need-returns-2 invariant-loop decreases-loop
-returns-2 c = (c.before.loop.invariant.1, c.before.loop.invariant.0)
+returns c = (c.loop-i.invariant.1, c.loop-i.invariant.0)
 
 pub past_used_spec : {M : Type 1} → statement M
 past_used_spec =
     tie.close
-    (tie.spec
-    invariant-loop
-    decreases-loop
-    loop-holds
-    element-copy-out-if1
-    returns
-    add-i
-    loop-less
-    loop-again
-    returns-2)
+    (tie.spec invariant-loop decreases-loop loop-i-init bounds-used-i returns-then-used-i-eq0 overflow_add-i loop-i-smaller loop-i-preserved returns)

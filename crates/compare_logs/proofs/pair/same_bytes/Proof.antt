@@ -11,45 +11,34 @@ invariant-loop a b i₀ i = Same a b i
 abbrev decreases-loop : tie.decreases-loop
 decreases-loop a b i₀ i = i
 
+returns-then-a-b : tie.Need-returns-then-a-b invariant-loop decreases-loop
+returns-then-a-b c = same_short c.args.a.now c.args.b.now c.if-a-b.true
+
+loop-i-init : tie.Need-loop-i-init invariant-loop decreases-loop
+loop-i-init c = (omega arith, omega arith, λ k le lt. absurd (omega arith))
+
+overflow_sub-i : tie.Need-overflow_sub-i invariant-loop decreases-loop
+overflow_sub-i c = omega arith
+
+bounds-a-i : tie.Need-bounds-a-i invariant-loop decreases-loop
+bounds-a-i c = omega arith
+
+bounds-b-i : tie.Need-bounds-b-i invariant-loop decreases-loop
+bounds-b-i c = omega arith
+
+returns-then-a-i : tie.Need-returns-then-a-i invariant-loop decreases-loop
+returns-then-a-i c = same_stop c.args.a.now c.args.b.now (c.loop-i.i - 1) c.if-a-i.true
+
+loop-i-smaller : tie.Need-loop-i-smaller invariant-loop decreases-loop
+loop-i-smaller c = omega arith
+
+loop-i-preserved : tie.Need-loop-i-preserved invariant-loop decreases-loop
+loop-i-preserved c = same_more c.args.a.now c.args.b.now c.loop-i.i (omega arith) c.if-a-i.false c.loop-i.invariant
+
 returns : tie.Need-returns invariant-loop decreases-loop
-returns c = same_short c.before.args.a.now c.before.args.b.now c.if1.true
-
-loop-holds : tie.Need-loop-init invariant-loop decreases-loop
-loop-holds c = (omega arith, omega arith, λ k le lt. absurd (omega arith))
-
-sub-i : tie.Need-overflow-sub-i invariant-loop decreases-loop
-sub-i c = omega arith
-
-shared-slice-read-if2 : tie.Need-shared-slice-read-if2 invariant-loop decreases-loop
-shared-slice-read-if2 c = omega arith
-
-shared-slice-read-if2-2 : tie.Need-shared-slice-read-if2-2 invariant-loop decreases-loop
-shared-slice-read-if2-2 c = omega arith
-
-returns-2 : tie.Need-returns-2 invariant-loop decreases-loop
-returns-2 c = same_stop c.before.before.before.before.before.before.args.a.now c.before.before.before.before.before.before.args.b.now (c.before.before.before.before.loop.i - 1) c.if2.true
-
-loop-less : tie.Need-loop-smaller invariant-loop decreases-loop
-loop-less c = omega arith
-
-loop-again : tie.Need-loop-preserved invariant-loop decreases-loop
-loop-again c = same_more c.before.before.before.before.before.before.args.a.now c.before.before.before.before.before.before.args.b.now c.before.before.before.before.loop.i (omega arith) c.if2.false c.before.before.before.before.loop.invariant
-
-returns-3 : tie.Need-returns-3 invariant-loop decreases-loop
-returns-3 c = same_end c.before.before.before.args.a.now c.before.before.before.args.b.now c.before.loop.i (omega arith) c.before.loop.invariant
+returns c = same_end c.args.a.now c.args.b.now c.loop-i.i (omega arith) c.loop-i.invariant
 
 pub same_bytes_spec : {M : Type 1} → statement M
 same_bytes_spec =
     tie.close
-    (tie.spec
-    invariant-loop
-    decreases-loop
-    returns
-    loop-holds
-    sub-i
-    shared-slice-read-if2
-    shared-slice-read-if2-2
-    returns-2
-    loop-less
-    loop-again
-    returns-3)
+    (tie.spec invariant-loop decreases-loop returns-then-a-b loop-i-init overflow_sub-i bounds-a-i bounds-b-i returns-then-a-i loop-i-smaller loop-i-preserved returns)

@@ -13,41 +13,31 @@ invariant-loop keys c from n i₀ i = (from ≤ i) × (i ≤ n) × ((j : ℕ) �
 abbrev decreases-loop : tie.decreases-loop
 decreases-loop keys c from n i₀ i = n - i
 
-loop-holds : tie.Need-loop-init invariant-loop decreases-loop
-loop-holds c = (omega arith, omega arith, λ j h g. absurd (omega arith))
+loop-i-init : tie.Need-loop-i-init invariant-loop decreases-loop
+loop-i-init c = (omega arith, omega arith, λ j h g. absurd (omega arith))
 
-mul-if1 : tie.Need-overflow-mul-if1 invariant-loop decreases-loop
-mul-if1 c = omega arith
+offset_bounds-keys-i : tie.Need-offset_bounds-keys-i invariant-loop decreases-loop
+offset_bounds-keys-i c = omega arith
 
-element-copy-out-if1 : tie.Need-element-copy-out-if1 invariant-loop decreases-loop
-element-copy-out-if1 c = omega arith
+bounds-keys-i : tie.Need-bounds-keys-i invariant-loop decreases-loop
+bounds-keys-i c = omega arith
+
+returns-then-keys-i : tie.Need-returns-then-keys-i invariant-loop decreases-loop
+returns-then-keys-i c = (c.loop-i.invariant.0, c.loop-i.invariant.1, c.loop-i.invariant.2, λ h. c.if-keys-i.true)
+
+overflow_add-i : tie.Need-overflow_add-i invariant-loop decreases-loop
+overflow_add-i c = omega arith
+
+loop-i-smaller : tie.Need-loop-i-smaller invariant-loop decreases-loop
+loop-i-smaller c = omega arith
+
+loop-i-preserved : tie.Need-loop-i-preserved invariant-loop decreases-loop
+loop-i-preserved c = (omega arith, omega arith, below_more _ _ c.loop-i.invariant.2 (λ le. c.if-keys-i.false))
 
 returns : tie.Need-returns invariant-loop decreases-loop
-returns c = (c.before.before.before.loop.invariant.0, c.before.before.before.loop.invariant.1, c.before.before.before.loop.invariant.2, λ h. c.if1.true)
-
-add-i : tie.Need-overflow-add-i invariant-loop decreases-loop
-add-i c = omega arith
-
-loop-less : tie.Need-loop-smaller invariant-loop decreases-loop
-loop-less c = omega arith
-
-loop-again : tie.Need-loop-preserved invariant-loop decreases-loop
-loop-again c = (omega arith, omega arith, below_more _ _ c.before.before.before.loop.invariant.2 (λ le. c.if1.false))
-
-returns-2 : tie.Need-returns-2 invariant-loop decreases-loop
-returns-2 c = (c.before.loop.invariant.0, c.before.loop.invariant.1, c.before.loop.invariant.2, λ h. absurd (omega arith))
+returns c = (c.loop-i.invariant.0, c.loop-i.invariant.1, c.loop-i.invariant.2, λ h. absurd (omega arith))
 
 pub next_on_spec : {M : Type 1} → statement M
 next_on_spec =
     tie.close
-    (tie.spec
-    invariant-loop
-    decreases-loop
-    loop-holds
-    mul-if1
-    element-copy-out-if1
-    returns
-    add-i
-    loop-less
-    loop-again
-    returns-2)
+    (tie.spec invariant-loop decreases-loop loop-i-init offset_bounds-keys-i bounds-keys-i returns-then-keys-i overflow_add-i loop-i-smaller loop-i-preserved returns)

@@ -14,61 +14,46 @@ invariant-loop a sa ka n b sb kb m c x₀ y₀ k₀ x y k = (x ≤ n) × (y ≤ 
 abbrev decreases-loop : tie.decreases-loop
 decreases-loop a sa ka n b sb kb m c x₀ y₀ k₀ x y k = n - x
 
-loop-holds : tie.Need-loop-init invariant-loop decreases-loop
-loop-holds c = (omega arith, omega arith, omega arith, refl)
+loop-n-init : tie.Need-loop-n-init invariant-loop decreases-loop
+loop-n-init c = (omega arith, omega arith, omega arith, refl)
 
-next-on-requires : tie.Need-next-on-requires invariant-loop decreases-loop
-next-on-requires c κs = (c.loop.invariant.0, c.before.before.before.requires.0.0)
+next_on-i-requires : tie.Need-next_on-i-requires invariant-loop decreases-loop
+next_on-i-requires c κs = (c.loop-n.invariant.0, c.requires.0.0)
 
-next-on-requires-2 : tie.Need-next-on-requires-2 invariant-loop decreases-loop
-next-on-requires-2 c κs = (c.before.loop.invariant.1, c.before.before.before.before.requires.1.0)
+next_on-j-requires : tie.Need-next_on-j-requires invariant-loop decreases-loop
+next_on-j-requires c κs = (c.loop-n.invariant.1, c.requires.1.0)
 
-returns : tie.Need-returns invariant-loop decreases-loop
-returns c = place_none c.before.before.before.before.before.before.before.args.c c.before.before.before.before.before.before.before.args.a.now c.before.before.before.before.before.before.before.args.sa.now c.before.before.before.before.before.before.before.args.ka.now c.before.before.before.before.before.before.before.args.n c.before.before.before.before.loop.x c.before.before.before.next-on.result c.before.before.before.before.before.before.before.requires.0 c.before.before.before.next-on.ensures c.before.before.before.before.before.before.before.args.b.now c.before.before.before.before.before.before.before.args.sb.now c.before.before.before.before.before.before.before.args.kb.now c.before.before.before.before.before.before.before.args.m c.before.before.before.before.loop.y c.before.before.next-on2.result c.before.before.before.before.before.before.before.requires.1 c.before.before.next-on2.ensures c.before.before.before.before.loop.k c.before.before.before.before.loop.invariant.3 c.before.if1.true c.if2.true
+returns-then-m-j : tie.Need-returns-then-m-j invariant-loop decreases-loop
+returns-then-m-j c = place_none c.args.c c.args.a.now c.args.sa.now c.args.ka.now c.args.n c.loop-n.x c.next_on-i.result c.requires.0 c.next_on-i.ensures c.args.b.now c.args.sb.now c.args.kb.now c.args.m c.loop-n.y c.next_on-j.result c.requires.1 c.next_on-j.ensures c.loop-n.k c.loop-n.invariant.3 c.if-n-i.true c.if-m-j.true
 
-returns-2 : tie.Need-returns-2 invariant-loop decreases-loop
-returns-2 c = place_second c.before.before.before.before.before.before.before.args.c c.before.before.before.before.before.before.before.args.a.now c.before.before.before.before.before.before.before.args.sa.now c.before.before.before.before.before.before.before.args.ka.now c.before.before.before.before.before.before.before.args.n c.before.before.before.before.loop.x c.before.before.before.next-on.result c.before.before.before.before.before.before.before.requires.0 c.before.before.before.next-on.ensures c.before.before.before.before.before.before.before.args.b.now c.before.before.before.before.before.before.before.args.sb.now c.before.before.before.before.before.before.before.args.kb.now c.before.before.before.before.before.before.before.args.m c.before.before.before.before.loop.y c.before.before.next-on2.result c.before.before.before.before.before.before.before.requires.1 c.before.before.next-on2.ensures c.before.before.before.before.loop.k c.before.before.before.before.loop.invariant.3 c.before.if1.true c.if2.false
+returns-then-n-i : tie.Need-returns-then-n-i invariant-loop decreases-loop
+returns-then-n-i c = place_second c.args.c c.args.a.now c.args.sa.now c.args.ka.now c.args.n c.loop-n.x c.next_on-i.result c.requires.0 c.next_on-i.ensures c.args.b.now c.args.sb.now c.args.kb.now c.args.m c.loop-n.y c.next_on-j.result c.requires.1 c.next_on-j.ensures c.loop-n.k c.loop-n.invariant.3 c.if-n-i.true c.if-m-j.false
 
-returns-3 : tie.Need-returns-3 invariant-loop decreases-loop
-returns-3 c = place_first c.before.before.before.before.before.before.before.args.c c.before.before.before.before.before.before.before.args.a.now c.before.before.before.before.before.before.before.args.sa.now c.before.before.before.before.before.before.before.args.ka.now c.before.before.before.before.before.before.before.args.n c.before.before.before.before.loop.x c.before.before.before.next-on.result c.before.before.before.before.before.before.before.requires.0 c.before.before.before.next-on.ensures c.before.before.before.before.before.before.before.args.b.now c.before.before.before.before.before.before.before.args.sb.now c.before.before.before.before.before.before.before.args.kb.now c.before.before.before.before.before.before.before.args.m c.before.before.before.before.loop.y c.before.before.next-on2.result c.before.before.before.before.before.before.before.requires.1 c.before.before.next-on2.ensures c.before.before.before.before.loop.k c.before.before.before.before.loop.invariant.3 c.before.if1.false c.if3.true
+returns-then-m-j-2 : tie.Need-returns-then-m-j-2 invariant-loop decreases-loop
+returns-then-m-j-2 c = place_first c.args.c c.args.a.now c.args.sa.now c.args.ka.now c.args.n c.loop-n.x c.next_on-i.result c.requires.0 c.next_on-i.ensures c.args.b.now c.args.sb.now c.args.kb.now c.args.m c.loop-n.y c.next_on-j.result c.requires.1 c.next_on-j.ensures c.loop-n.k c.loop-n.invariant.3 c.if-n-i.false c.if-m-j-2.true
 
 equal-requires : tie.Need-equal-requires invariant-loop decreases-loop
-equal-requires c κs = (c.before.before.before.before.before.before.before.requires.0, c.before.before.before.before.before.before.before.requires.1, c.before.if1.false, c.if3.false)
+equal-requires c κs = (c.requires.0, c.requires.1, c.if-n-i.false, c.if-m-j-2.false)
 
-returns-4 : tie.Need-returns-4 invariant-loop decreases-loop
-returns-4 c = place_here c.before.before.before.before.before.before.before.before.before.args.c c.before.before.before.before.before.before.before.before.before.args.a.now c.before.before.before.before.before.before.before.before.before.args.sa.now c.before.before.before.before.before.before.before.before.before.args.ka.now c.before.before.before.before.before.before.before.before.before.args.n c.before.before.before.before.before.before.loop.x c.before.before.before.before.before.next-on.result c.before.before.before.before.before.before.before.before.before.requires.0 c.before.before.before.before.before.next-on.ensures c.before.before.before.before.before.before.before.before.before.args.b.now c.before.before.before.before.before.before.before.before.before.args.sb.now c.before.before.before.before.before.before.before.before.before.args.kb.now c.before.before.before.before.before.before.before.before.before.args.m c.before.before.before.before.before.before.loop.y c.before.before.before.before.next-on2.result c.before.before.before.before.before.before.before.before.before.requires.1 c.before.before.before.before.next-on2.ensures c.before.before.before.before.before.before.loop.k c.before.before.before.before.before.before.loop.invariant.3 c.before.before.before.if1.false c.before.before.if3.false (sym c.before.equal.ensures ∙ not-true _ c.if4.true)
+returns-then-not-equal : tie.Need-returns-then-not-equal invariant-loop decreases-loop
+returns-then-not-equal c = place_here c.args.c c.args.a.now c.args.sa.now c.args.ka.now c.args.n c.loop-n.x c.next_on-i.result c.requires.0 c.next_on-i.ensures c.args.b.now c.args.sb.now c.args.kb.now c.args.m c.loop-n.y c.next_on-j.result c.requires.1 c.next_on-j.ensures c.loop-n.k c.loop-n.invariant.3 c.if-n-i.false c.if-m-j-2.false (sym c.equal.ensures ∙ not-true _ c.if-not-equal.true-raw)
 
-add-x : tie.Need-overflow-add-x invariant-loop decreases-loop
-add-x c = omega (arith, c.before.before.before.before.before.before.before.before.before.requires.0.0)
+overflow_add-x : tie.Need-overflow_add-x invariant-loop decreases-loop
+overflow_add-x c = omega (arith, c.requires.0.0)
 
-add-y : tie.Need-overflow-add-y invariant-loop decreases-loop
-add-y c = omega (arith, c.before.before.before.before.before.before.before.before.before.requires.1.0)
+overflow_add-y : tie.Need-overflow_add-y invariant-loop decreases-loop
+overflow_add-y c = omega (arith, c.requires.1.0)
 
-add-k : tie.Need-overflow-add-k invariant-loop decreases-loop
-add-k c = omega (arith, c.before.before.before.before.before.before.before.before.before.requires.0.0, c.before.before.before.before.before.before.loop.invariant.2, c.before.before.before.before.before.before.loop.invariant.0)
+overflow_add-k : tie.Need-overflow_add-k invariant-loop decreases-loop
+overflow_add-k c = omega (arith, c.requires.0.0, c.loop-n.invariant.2, c.loop-n.invariant.0)
 
-loop-less : tie.Need-loop-smaller invariant-loop decreases-loop
-loop-less c = omega (arith, c.before.before.before.before.before.next-on.ensures.0)
+loop-n-smaller : tie.Need-loop-n-smaller invariant-loop decreases-loop
+loop-n-smaller c = omega (arith, c.next_on-i.ensures.0)
 
-loop-again : tie.Need-loop-preserved invariant-loop decreases-loop
-loop-again c = (omega arith, omega arith, omega (arith, c.before.before.before.before.before.before.loop.invariant.2, c.before.before.before.before.before.next-on.ensures.0), place_more c.before.before.before.before.before.before.before.before.before.args.c c.before.before.before.before.before.before.before.before.before.args.a.now c.before.before.before.before.before.before.before.before.before.args.sa.now c.before.before.before.before.before.before.before.before.before.args.ka.now c.before.before.before.before.before.before.before.before.before.args.n c.before.before.before.before.before.before.loop.x c.before.before.before.before.before.next-on.result c.before.before.before.before.before.before.before.before.before.requires.0 c.before.before.before.before.before.next-on.ensures c.before.before.before.before.before.before.before.before.before.args.b.now c.before.before.before.before.before.before.before.before.before.args.sb.now c.before.before.before.before.before.before.before.before.before.args.kb.now c.before.before.before.before.before.before.before.before.before.args.m c.before.before.before.before.before.before.loop.y c.before.before.before.before.next-on2.result c.before.before.before.before.before.before.before.before.before.requires.1 c.before.before.before.before.next-on2.ensures c.before.before.before.before.before.before.loop.k c.before.before.before.before.before.before.loop.invariant.3 c.before.before.before.if1.false c.before.before.if3.false (sym c.before.equal.ensures ∙ not-false _ c.if4.false))
+loop-n-preserved : tie.Need-loop-n-preserved invariant-loop decreases-loop
+loop-n-preserved c = (omega arith, omega arith, omega (arith, c.loop-n.invariant.2, c.next_on-i.ensures.0), place_more c.args.c c.args.a.now c.args.sa.now c.args.ka.now c.args.n c.loop-n.x c.next_on-i.result c.requires.0 c.next_on-i.ensures c.args.b.now c.args.sb.now c.args.kb.now c.args.m c.loop-n.y c.next_on-j.result c.requires.1 c.next_on-j.ensures c.loop-n.k c.loop-n.invariant.3 c.if-n-i.false c.if-m-j-2.false (sym c.equal.ensures ∙ not-false _ c.if-not-equal.false-raw))
 
 pub place_of_spec : {M : Type 1} → statement M
 place_of_spec =
     tie.close
-    (tie.spec
-    invariant-loop
-    decreases-loop
-    loop-holds
-    next-on-requires
-    next-on-requires-2
-    returns
-    returns-2
-    returns-3
-    equal-requires
-    returns-4
-    add-x
-    add-y
-    add-k
-    loop-less
-    loop-again)
+    (tie.spec invariant-loop decreases-loop loop-n-init next_on-i-requires next_on-j-requires returns-then-m-j returns-then-n-i returns-then-m-j-2 equal-requires returns-then-not-equal overflow_add-x overflow_add-y overflow_add-k loop-n-smaller loop-n-preserved)

@@ -14,69 +14,52 @@ invariant-loop a sa ka n b sb kb m seen places₀ c₀ places c = Storing (recor
 abbrev decreases-loop : tie.decreases-loop
 decreases-loop a sa ka n b sb kb m seen places₀ c₀ places c = channels - c
 
-loop-holds : tie.Need-loop-init invariant-loop decreases-loop
-loop-holds c = (omega arith, refl, refl)
+loop-c-init : tie.Need-loop-c-init invariant-loop decreases-loop
+loop-c-init c = (omega arith, refl, refl)
 
-element-copy-out-if1 : tie.Need-element-copy-out-if1 invariant-loop decreases-loop
-element-copy-out-if1 c = omega arith
+bounds-seen-c : tie.Need-bounds-seen-c invariant-loop decreases-loop
+bounds-seen-c c = omega arith
 
-mul-places : tie.Need-overflow-mul-places invariant-loop decreases-loop
-mul-places c = omega arith
+offset_bounds-places-c : tie.Need-offset_bounds-places-c invariant-loop decreases-loop
+offset_bounds-places-c c = omega arith
 
-slice-write-places : tie.Need-slice-write-places invariant-loop decreases-loop
-slice-write-places c = omega (arith, c.before.before.before.before.before.before.before.requires.2, c.before.before.before.loop.invariant.2)
+bounds-places-c : tie.Need-bounds-places-c invariant-loop decreases-loop
+bounds-places-c c = omega (arith, c.requires.2, c.loop-c.invariant.2)
 
-add-c : tie.Need-overflow-add-c invariant-loop decreases-loop
-add-c c = omega arith
+overflow_add-c : tie.Need-overflow_add-c invariant-loop decreases-loop
+overflow_add-c c = omega arith
 
-loop-less : tie.Need-loop-smaller invariant-loop decreases-loop
-loop-less c = omega arith
+loop-c-smaller-then-seen-c-eq0 : tie.Need-loop-c-smaller-then-seen-c-eq0 invariant-loop decreases-loop
+loop-c-smaller-then-seen-c-eq0 c = omega arith
 
-loop-again : tie.Need-loop-preserved invariant-loop decreases-loop
-loop-again c = storing_more (records_of c.before.before.before.before.before.before.before.args.a.now) (records_of c.before.before.before.before.before.before.before.args.b.now) c.before.before.before.before.before.before.before.args.places.now c.before.before.before.loop.places c.before.before.before.loop.c 0 (sym (c.before.before.before.before.before.before.before.requires.3 c.before.before.before.loop.c (omega arith) c.if1.true)) (omega arith) c.before.before.before.loop.invariant
+loop-c-preserved-then-seen-c-eq0 : tie.Need-loop-c-preserved-then-seen-c-eq0 invariant-loop decreases-loop
+loop-c-preserved-then-seen-c-eq0 c = storing_more (records_of c.args.a.now) (records_of c.args.b.now) c.args.places.now c.loop-c.places c.loop-c.c 0 (sym (c.requires.3 c.loop-c.c (omega arith) c.if-seen-c-eq0.true)) (omega arith) c.loop-c.invariant
 
-place-of-requires : tie.Need-place-of-requires invariant-loop decreases-loop
-place-of-requires c κs = (c.before.before.before.before.before.before.before.requires.0, c.before.before.before.before.before.before.before.requires.1)
+place_of-requires : tie.Need-place_of-requires invariant-loop decreases-loop
+place_of-requires c κs = (c.requires.0, c.requires.1)
 
-mul-places-2 : tie.Need-overflow-mul-places-2 invariant-loop decreases-loop
-mul-places-2 c = omega arith
+offset_bounds-places-c-in-loop-c : tie.Need-offset_bounds-places-c-in-loop-c invariant-loop decreases-loop
+offset_bounds-places-c-in-loop-c c = omega arith
 
-slice-write-places-2 : tie.Need-slice-write-places-2 invariant-loop decreases-loop
-slice-write-places-2 c = omega (arith, c.before.before.before.before.before.before.before.before.requires.2, c.before.before.before.before.loop.invariant.2)
+bounds-places-c-in-loop-c : tie.Need-bounds-places-c-in-loop-c invariant-loop decreases-loop
+bounds-places-c-in-loop-c c = omega (arith, c.requires.2, c.loop-c.invariant.2)
 
-add-c-2 : tie.Need-overflow-add-c-2 invariant-loop decreases-loop
-add-c-2 c = omega arith
+overflow_add-c-in-loop-c : tie.Need-overflow_add-c-in-loop-c invariant-loop decreases-loop
+overflow_add-c-in-loop-c c = omega arith
 
-loop-less-2 : tie.Need-loop-smaller-2 invariant-loop decreases-loop
-loop-less-2 c = omega arith
+loop-c-smaller : tie.Need-loop-c-smaller invariant-loop decreases-loop
+loop-c-smaller c = omega arith
 
-loop-again-2 : tie.Need-loop-preserved-2 invariant-loop decreases-loop
-loop-again-2 c = storing_more (records_of c.before.before.before.before.before.before.before.before.args.a.now) (records_of c.before.before.before.before.before.before.before.before.args.b.now) c.before.before.before.before.before.before.before.before.args.places.now c.before.before.before.before.loop.places c.before.before.before.before.loop.c c.place_of.result c.place_of.ensures (omega arith) c.before.before.before.before.loop.invariant
+loop-c-preserved : tie.Need-loop-c-preserved invariant-loop decreases-loop
+loop-c-preserved c = storing_more (records_of c.args.a.now) (records_of c.args.b.now) c.args.places.now c.loop-c.places c.loop-c.c c.place_of.result c.place_of.ensures (omega arith) c.loop-c.invariant
 
-same_length : tie.Need-same-length invariant-loop decreases-loop
-same_length c = c.before.loop.invariant.2
+shape_of-places : tie.Need-shape_of-places invariant-loop decreases-loop
+shape_of-places c = c.loop-c.invariant.2
 
 returns : tie.Need-returns invariant-loop decreases-loop
-returns c = storing_end (records_of c.before.before.before.before.before.args.a.now) (records_of c.before.before.before.before.before.args.b.now) c.before.before.before.before.before.args.places.now c.before.loop.places c.before.loop.c (omega arith) c.before.loop.invariant
+returns c = storing_end (records_of c.args.a.now) (records_of c.args.b.now) c.args.places.now c.loop-c.places c.loop-c.c (omega arith) c.loop-c.invariant
 
 pub store_places_spec : {M : Type 1} → statement M
 store_places_spec =
     tie.close
-    (tie.spec
-    invariant-loop
-    decreases-loop
-    loop-holds
-    element-copy-out-if1
-    mul-places
-    slice-write-places
-    add-c
-    loop-less
-    loop-again
-    place-of-requires
-    mul-places-2
-    slice-write-places-2
-    add-c-2
-    loop-less-2
-    loop-again-2
-    same_length
-    returns)
+    (tie.spec invariant-loop decreases-loop loop-c-init bounds-seen-c offset_bounds-places-c bounds-places-c overflow_add-c loop-c-smaller-then-seen-c-eq0 loop-c-preserved-then-seen-c-eq0 place_of-requires offset_bounds-places-c-in-loop-c bounds-places-c-in-loop-c overflow_add-c-in-loop-c loop-c-smaller loop-c-preserved shape_of-places returns)

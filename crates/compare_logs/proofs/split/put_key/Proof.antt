@@ -6,17 +6,17 @@ use borrow.Author.Rules.{rules}
 use Rattle.compare_logs.proofs.split.put_key.Statement.{statement}
 use Rattle.compare_logs.proofs.split.put_key.Tie as tie
 
-mul-keys : tie.Need-overflow-mul-keys
-mul-keys c = search rules
+offset_bounds-keys-i : tie.Need-offset_bounds-keys-i
+offset_bounds-keys-i c = search rules
 
-element-write-keys : tie.Need-element-write-keys
-element-write-keys c = search rules
+bounds-keys-i : tie.Need-bounds-keys-i
+bounds-keys-i c = search rules
 
-returns : tie.Need-returns
-returns c = search rules
+returns-then-i-lt-MOST : tie.Need-returns-then-i-lt-MOST
+returns-then-i-lt-MOST c = search rules
 
-returns-2 : tie.Need-returns-2
-returns-2 c = sym (set_out c.before.args.keys.now c.before.args.i c.before.args.v (omega arith))
+returns-else-i-lt-MOST : tie.Need-returns-else-i-lt-MOST
+returns-else-i-lt-MOST c = sym (set_out c.args.keys.now c.args.i c.args.v (omega arith))
 
 pub put_key_spec : {M : Type 1} → statement M
-put_key_spec = tie.close (tie.spec mul-keys element-write-keys returns returns-2)
+put_key_spec = tie.close (tie.spec offset_bounds-keys-i bounds-keys-i returns-then-i-lt-MOST returns-else-i-lt-MOST)

@@ -6,17 +6,17 @@ use borrow.Author.Rules.{rules}
 use Rattle.compare_logs.proofs.split.put_start.Statement.{statement}
 use Rattle.compare_logs.proofs.split.put_start.Tie as tie
 
-mul-starts : tie.Need-overflow-mul-starts
-mul-starts c = search rules
+offset_bounds-starts-i : tie.Need-offset_bounds-starts-i
+offset_bounds-starts-i c = search rules
 
-element-write-starts : tie.Need-element-write-starts
-element-write-starts c = search rules
+bounds-starts-i : tie.Need-bounds-starts-i
+bounds-starts-i c = search rules
 
-returns : tie.Need-returns
-returns c = search rules
+returns-then-i-lt-STARTS : tie.Need-returns-then-i-lt-STARTS
+returns-then-i-lt-STARTS c = search rules
 
-returns-2 : tie.Need-returns-2
-returns-2 c = sym (set_out c.before.args.starts.now c.before.args.i c.before.args.v (omega arith))
+returns-else-i-lt-STARTS : tie.Need-returns-else-i-lt-STARTS
+returns-else-i-lt-STARTS c = sym (set_out c.args.starts.now c.args.i c.args.v (omega arith))
 
 pub put_start_spec : {M : Type 1} → statement M
-put_start_spec = tie.close (tie.spec mul-starts element-write-starts returns returns-2)
+put_start_spec = tie.close (tie.spec offset_bounds-starts-i bounds-starts-i returns-then-i-lt-STARTS returns-else-i-lt-STARTS)

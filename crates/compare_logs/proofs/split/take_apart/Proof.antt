@@ -14,89 +14,67 @@ invariant-loop s starts₀ keys₀ at₀ n₀ starts keys at n = Told s starts k
 abbrev decreases-loop : tie.decreases-loop
 decreases-loop s starts₀ keys₀ at₀ n₀ starts keys at n = length s - at
 
-put-start-requires : tie.Need-put-start-requires invariant-loop decreases-loop
-put-start-requires c κs = omega arith
+put_start-requires : tie.Need-put_start-requires invariant-loop decreases-loop
+put_start-requires c κs = omega arith
 
-loop-holds : tie.Need-loop-init invariant-loop decreases-loop
-loop-holds c = told_by_lem c.before.before.before.args.s.now 0 0 {keys = c.before.before.before.args.keys.now} c.put-start.ensures refl (told_start c.before.before.before.args.s.now c.before.before.before.args.starts.now c.before.before.before.args.keys.now c.before.before.before.requires.0 c.before.before.before.requires.1)
+loop-at-init : tie.Need-loop-at-init invariant-loop decreases-loop
+loop-at-init c = told_by_lem c.args.s.now 0 0 {keys = c.args.keys.now} c.put_start.ensures refl (told_start c.args.s.now c.args.starts.now c.args.keys.now c.requires.0 c.requires.1)
 
-record-at-requires : tie.Need-record-at-requires invariant-loop decreases-loop
-record-at-requires c κs = search rules
+record_at-requires : tie.Need-record_at-requires invariant-loop decreases-loop
+record_at-requires c κs = search rules
 
-enum-known-e : tie.Need-enum-known-e invariant-loop decreases-loop
-enum-known-e c = search rules
+enum_known-e : tie.Need-enum_known-e invariant-loop decreases-loop
+enum_known-e c = search rules
 
-cast-put-key : tie.Need-overflow-cast-put-key invariant-loop decreases-loop
-cast-put-key c = search rules
+overflow_cast-e : tie.Need-overflow_cast-e invariant-loop decreases-loop
+overflow_cast-e c = search rules
 
-mul-put-key : tie.Need-overflow-mul-put-key invariant-loop decreases-loop
-mul-put-key c = search rules
+overflow_mul-e : tie.Need-overflow_mul-e invariant-loop decreases-loop
+overflow_mul-e c = search rules
 
-cast-put-key-2 : tie.Need-overflow-cast-put-key-2 invariant-loop decreases-loop
-cast-put-key-2 c = search rules
+overflow_cast-e-in-Record : tie.Need-overflow_cast-e-in-Record invariant-loop decreases-loop
+overflow_cast-e-in-Record c = search rules
 
-add-put-key : tie.Need-overflow-add-put-key invariant-loop decreases-loop
-add-put-key c = search rules
+overflow_add-e : tie.Need-overflow_add-e invariant-loop decreases-loop
+overflow_add-e c = search rules
 
-put-key-requires : tie.Need-put-key-requires invariant-loop decreases-loop
-put-key-requires c κs = c.before.before.before.before.before.before.before.before.loop.invariant.5
+put_key-requires : tie.Need-put_key-requires invariant-loop decreases-loop
+put_key-requires c κs = c.loop-at.invariant.5
 
-add-n : tie.Need-overflow-add-n invariant-loop decreases-loop
-add-n c = search rules
+overflow_add-n : tie.Need-overflow_add-n invariant-loop decreases-loop
+overflow_add-n c = search rules
 
-put-start-requires-2 : tie.Need-put-start-requires-2 invariant-loop decreases-loop
-put-start-requires-2 c κs = c.before.before.before.before.before.before.before.before.before.before.loop.invariant.4
+put_start-requires-in-Record : tie.Need-put_start-requires-in-Record invariant-loop decreases-loop
+put_start-requires-in-Record c κs = c.loop-at.invariant.4
 
-loop-less : tie.Need-loop-smaller invariant-loop decreases-loop
-loop-less c = omega (arith, (told_more c.before.before.before.before.before.before.before.before.before.before.before.before.before.before.before.args.s.now c.before.before.before.before.before.before.before.before.before.before.before.loop.starts c.before.before.before.before.before.before.before.before.before.before.before.loop.keys c.before.before.before.before.before.before.before.before.before.before.before.loop.at c.before.before.before.before.before.before.before.before.before.before.before.loop.n (omega arith) c.before.before.before.before.before.before.before.before.before.before.before.loop.invariant c.before.before.before.before.before.before.before.before.before.record-at.ensures c.before.before.before.before.before.before.before.e.given.0.0 (λ i. omega (arith, c.before.before.before.before.before.before.before.before.before.before.before.before.before.before.shared-slice-known.given i)) c.before.before.before.before.before.before.before.e.given.1).1)
+loop-at-smaller : tie.Need-loop-at-smaller invariant-loop decreases-loop
+loop-at-smaller c = omega (arith, (told_more c.args.s.now c.loop-at.starts c.loop-at.keys c.loop-at.at c.loop-at.n (omega arith) c.loop-at.invariant c.record_at.ensures c.in-Record.e (λ i. omega (arith, c.shared_slice_known-1.given i)) c.in-Record.is).1)
 
-loop-again : tie.Need-loop-preserved invariant-loop decreases-loop
-loop-again c = told_by_lem c.before.before.before.before.before.before.before.before.before.before.before.before.before.before.before.args.s.now _ _ c.put-start2.ensures c.before.before.put-key.ensures (told_more c.before.before.before.before.before.before.before.before.before.before.before.before.before.before.before.args.s.now c.before.before.before.before.before.before.before.before.before.before.before.loop.starts c.before.before.before.before.before.before.before.before.before.before.before.loop.keys c.before.before.before.before.before.before.before.before.before.before.before.loop.at c.before.before.before.before.before.before.before.before.before.before.before.loop.n (omega arith) c.before.before.before.before.before.before.before.before.before.before.before.loop.invariant c.before.before.before.before.before.before.before.before.before.record-at.ensures c.before.before.before.before.before.before.before.e.given.0.0 (λ i. omega (arith, c.before.before.before.before.before.before.before.before.before.before.before.before.before.before.shared-slice-known.given i)) c.before.before.before.before.before.before.before.e.given.1).0
+loop-at-preserved : tie.Need-loop-at-preserved invariant-loop decreases-loop
+loop-at-preserved c = told_by_lem c.args.s.now _ _ c.put_start-in-Record.ensures c.put_key.ensures (told_more c.args.s.now c.loop-at.starts c.loop-at.keys c.loop-at.at c.loop-at.n (omega arith) c.loop-at.invariant c.record_at.ensures c.in-Record.e (λ i. omega (arith, c.shared_slice_known-1.given i)) c.in-Record.is).0
 
-enum_told : tie.Need-enum-told invariant-loop decreases-loop
-enum_told c = search rules
+enum_told-1 : tie.Need-enum_told-1 invariant-loop decreases-loop
+enum_told-1 c = search rules
+
+returns-in-End : tie.Need-returns-in-End invariant-loop decreases-loop
+returns-in-End c = told_end c.args.s.now c.loop-at.starts c.loop-at.keys c.loop-at.at c.loop-at.n (omega arith) c.loop-at.invariant c.record_at.ensures c.in-End.is
+
+enum_known-byte : tie.Need-enum_known-byte invariant-loop decreases-loop
+enum_known-byte c = search rules
+
+returns-in-Cut : tie.Need-returns-in-Cut invariant-loop decreases-loop
+returns-in-Cut c = told_cut c.args.s.now c.loop-at.starts c.loop-at.keys c.loop-at.at c.loop-at.n (omega arith) c.loop-at.invariant c.record_at.ensures c.in-Cut.byte c.in-Cut.is
+
+enum_known-byte-in-Refused-1 : tie.Need-enum_known-byte-in-Refused-1 invariant-loop decreases-loop
+enum_known-byte-in-Refused-1 c = search rules
+
+returns-in-Refused : tie.Need-returns-in-Refused invariant-loop decreases-loop
+returns-in-Refused c = told_refused c.args.s.now c.loop-at.starts c.loop-at.keys c.loop-at.at c.loop-at.n (omega arith) c.loop-at.invariant c.record_at.ensures c.in-Refused.field-0 c.in-Refused.byte c.in-Refused.is
 
 returns : tie.Need-returns invariant-loop decreases-loop
-returns c = told_end c.before.before.before.before.before.before.before.before.args.s.now c.before.before.before.before.loop.starts c.before.before.before.before.loop.keys c.before.before.before.before.loop.at c.before.before.before.before.loop.n (omega arith) c.before.before.before.before.loop.invariant c.before.before.record-at.ensures c.enum_told.given.1
-
-enum-known-byte : tie.Need-enum-known-byte invariant-loop decreases-loop
-enum-known-byte c = search rules
-
-returns-2 : tie.Need-returns-2 invariant-loop decreases-loop
-returns-2 c = told_cut c.before.before.before.before.before.before.before.before.before.args.s.now c.before.before.before.before.before.loop.starts c.before.before.before.before.before.loop.keys c.before.before.before.before.before.loop.at c.before.before.before.before.before.loop.n (omega arith) c.before.before.before.before.before.loop.invariant c.before.before.before.record-at.ensures c.before.byte.given.0.0 c.before.byte.given.1
-
-enum-known-byte-2 : tie.Need-enum-known-byte-2 invariant-loop decreases-loop
-enum-known-byte-2 c = search rules
-
-returns-3 : tie.Need-returns-3 invariant-loop decreases-loop
-returns-3 c = told_refused c.before.before.before.before.before.before.before.before.before.args.s.now c.before.before.before.before.before.loop.starts c.before.before.before.before.before.loop.keys c.before.before.before.before.before.loop.at c.before.before.before.before.before.loop.n (omega arith) c.before.before.before.before.before.loop.invariant c.before.before.before.record-at.ensures c.before.byte2.given.0.0 c.before.byte2.given.0.1.0 c.before.byte2.given.1
-
-returns-4 : tie.Need-returns-4 invariant-loop decreases-loop
-returns-4 c = told_all c.before.before.before.before.before.args.s.now c.before.loop.starts c.before.loop.keys c.before.loop.at c.before.loop.n (omega arith) c.before.loop.invariant
+returns c = told_all c.args.s.now c.loop-at.starts c.loop-at.keys c.loop-at.at c.loop-at.n (omega arith) c.loop-at.invariant
 
 pub take_apart_spec : {M : Type 1} → statement M
 take_apart_spec =
     tie.close
-    (tie.spec
-    invariant-loop
-    decreases-loop
-    put-start-requires
-    loop-holds
-    record-at-requires
-    enum-known-e
-    cast-put-key
-    mul-put-key
-    cast-put-key-2
-    add-put-key
-    put-key-requires
-    add-n
-    put-start-requires-2
-    loop-less
-    loop-again
-    enum_told
-    returns
-    enum-known-byte
-    returns-2
-    enum-known-byte-2
-    returns-3
-    returns-4)
+    (tie.spec invariant-loop decreases-loop put_start-requires loop-at-init record_at-requires enum_known-e overflow_cast-e overflow_mul-e overflow_cast-e-in-Record overflow_add-e put_key-requires overflow_add-n put_start-requires-in-Record loop-at-smaller loop-at-preserved enum_told-1 returns-in-End enum_known-byte returns-in-Cut enum_known-byte-in-Refused-1 returns-in-Refused returns)

@@ -11,29 +11,29 @@ invariant-loop bytes records out₀ p₀ at₀ left₀ out p at left = length ou
 abbrev decreases-loop : tie.decreases-loop
 decreases-loop bytes records out₀ p₀ at₀ left₀ out p at left = left
 
-put-count-requires : tie.Need-put-count-requires invariant-loop decreases-loop
-put-count-requires c κs = search rules
+put_count-p-requires : tie.Need-put_count-p-requires invariant-loop decreases-loop
+put_count-p-requires c κs = search rules
 
-loop-holds : tie.Need-loop-init invariant-loop decreases-loop
-loop-holds c = search rules
+loop-left-init : tie.Need-loop-left-init invariant-loop decreases-loop
+loop-left-init c = search rules
 
-sub-left : tie.Need-overflow-sub-left invariant-loop decreases-loop
-sub-left c = search rules
+overflow_sub-left : tie.Need-overflow_sub-left invariant-loop decreases-loop
+overflow_sub-left c = search rules
 
-half-full-requires : tie.Need-half-full-requires invariant-loop decreases-loop
-half-full-requires c κs = search rules
+half_full-p-requires : tie.Need-half_full-p-requires invariant-loop decreases-loop
+half_full-p-requires c κs = search rules
 
-put-next-requires : tie.Need-put-next-requires invariant-loop decreases-loop
-put-next-requires c κs = search rules
+put_next-r-requires : tie.Need-put_next-r-requires invariant-loop decreases-loop
+put_next-r-requires c κs = search rules
 
-loop-less : tie.Need-loop-smaller invariant-loop decreases-loop
-loop-less c = search rules
+loop-left-smaller : tie.Need-loop-left-smaller invariant-loop decreases-loop
+loop-left-smaller c = search rules
 
-loop-again : tie.Need-loop-preserved invariant-loop decreases-loop
-loop-again c = search rules
+loop-left-preserved : tie.Need-loop-left-preserved invariant-loop decreases-loop
+loop-left-preserved c = search rules
 
-same_length : tie.Need-same-length invariant-loop decreases-loop
-same_length c = search rules
+shape_of-out : tie.Need-shape_of-out invariant-loop decreases-loop
+shape_of-out c = search rules
 
 returns : tie.Need-returns invariant-loop decreases-loop
 returns c = search rules
@@ -41,15 +41,4 @@ returns c = search rules
 pub put_records_spec : {M : Type 1} → statement M
 put_records_spec =
     tie.close
-    (tie.spec
-    invariant-loop
-    decreases-loop
-    put-count-requires
-    loop-holds
-    sub-left
-    half-full-requires
-    put-next-requires
-    loop-less
-    loop-again
-    same_length
-    returns)
+    (tie.spec invariant-loop decreases-loop put_count-p-requires loop-left-init overflow_sub-left half_full-p-requires put_next-r-requires loop-left-smaller loop-left-preserved shape_of-out returns)

@@ -12,45 +12,34 @@ invariant-loop bytes n body₀ i₀ body i = (length body ≡ 9) × (i ≤ 9)
 abbrev decreases-loop : tie.decreases-loop
 decreases-loop bytes n body₀ i₀ body i = 9 - i
 
-loop-holds : tie.Need-loop-init invariant-loop decreases-loop
-loop-holds c = search rules
+loop-i-init : tie.Need-loop-i-init invariant-loop decreases-loop
+loop-i-init c = search rules
+
+returns-then-i-n : tie.Need-returns-then-i-n invariant-loop decreases-loop
+returns-then-i-n c = search rules
+
+returns-then-i-bytes : tie.Need-returns-then-i-bytes invariant-loop decreases-loop
+returns-then-i-bytes c = search rules
+
+bounds-bytes-i : tie.Need-bounds-bytes-i invariant-loop decreases-loop
+bounds-bytes-i c = search rules
+
+bounds-body-i : tie.Need-bounds-body-i invariant-loop decreases-loop
+bounds-body-i c = search rules
+
+overflow_add-i : tie.Need-overflow_add-i invariant-loop decreases-loop
+overflow_add-i c = search rules
+
+loop-i-smaller : tie.Need-loop-i-smaller invariant-loop decreases-loop
+loop-i-smaller c = search rules
+
+loop-i-preserved : tie.Need-loop-i-preserved invariant-loop decreases-loop
+loop-i-preserved c = search rules
 
 returns : tie.Need-returns invariant-loop decreases-loop
 returns c = search rules
 
-returns-2 : tie.Need-returns-2 invariant-loop decreases-loop
-returns-2 c = search rules
-
-shared-slice-read-body : tie.Need-shared-slice-read-body invariant-loop decreases-loop
-shared-slice-read-body c = search rules
-
-array-write-body : tie.Need-array-write-body invariant-loop decreases-loop
-array-write-body c = search rules
-
-add-i : tie.Need-overflow-add-i invariant-loop decreases-loop
-add-i c = search rules
-
-loop-less : tie.Need-loop-smaller invariant-loop decreases-loop
-loop-less c = search rules
-
-loop-again : tie.Need-loop-preserved invariant-loop decreases-loop
-loop-again c = search rules
-
-returns-3 : tie.Need-returns-3 invariant-loop decreases-loop
-returns-3 c = search rules
-
 pub body_of_spec : {M : Type 1} → statement M
 body_of_spec =
     tie.close
-    (tie.spec
-    invariant-loop
-    decreases-loop
-    loop-holds
-    returns
-    returns-2
-    shared-slice-read-body
-    array-write-body
-    add-i
-    loop-less
-    loop-again
-    returns-3)
+    (tie.spec invariant-loop decreases-loop loop-i-init returns-then-i-n returns-then-i-bytes bounds-bytes-i bounds-body-i overflow_add-i loop-i-smaller loop-i-preserved returns)

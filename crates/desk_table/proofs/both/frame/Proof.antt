@@ -4,22 +4,22 @@ use borrow.Author.Rules.{rules}
 use Rattle.desk_table.proofs.both.frame.Statement.{statement}
 use Rattle.desk_table.proofs.both.frame.Tie as tie
 
-lend-frame-requires : tie.Need-lend-frame-requires
-lend-frame-requires c κs = search rules
+lend_frame-requires : tie.Need-lend_frame-requires
+lend_frame-requires c κs = search rules
+
+returns-then-lent : tie.Need-returns-then-lent
+returns-then-lent c = search rules
+
+frame-r-requires : tie.Need-frame-r-requires
+frame-r-requires c κs = search rules
+
+answer_word-requires : tie.Need-answer_word-requires
+answer_word-requires c κs = search rules
 
 returns : tie.Need-returns
-returns c = search rules
-
-frame-requires : tie.Need-frame-requires
-frame-requires c κs = search rules
-
-answer-word-requires : tie.Need-answer-word-requires
-answer-word-requires c κs = search rules
-
-returns-2 : tie.Need-returns-2
 unfolding frame_word
-returns-2 c = rw (← c.before.before.frame.ensures.0, c.answer_word.ensures)
+returns c = rw (← c.frame-r.ensures.0, c.answer_word.ensures)
 
 pub frame_spec : {M : Type 1} → statement M
 frame_spec =
-    tie.close (tie.spec lend-frame-requires returns frame-requires answer-word-requires returns-2)
+    tie.close (tie.spec lend_frame-requires returns-then-lent frame-r-requires answer_word-requires returns)

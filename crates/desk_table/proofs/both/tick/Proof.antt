@@ -4,22 +4,22 @@ use borrow.Author.Rules.{rules}
 use Rattle.desk_table.proofs.both.tick.Statement.{statement}
 use Rattle.desk_table.proofs.both.tick.Tie as tie
 
-lend-tick-requires : tie.Need-lend-tick-requires
-lend-tick-requires c κs = search rules
+lend_tick-requires : tie.Need-lend_tick-requires
+lend_tick-requires c κs = search rules
+
+returns-then-lent : tie.Need-returns-then-lent
+returns-then-lent c = search rules
+
+tick-r-requires : tie.Need-tick-r-requires
+tick-r-requires c κs = search rules
+
+answer_word-requires : tie.Need-answer_word-requires
+answer_word-requires c κs = search rules
 
 returns : tie.Need-returns
-returns c = search rules
-
-tick-requires : tie.Need-tick-requires
-tick-requires c κs = search rules
-
-answer-word-requires : tie.Need-answer-word-requires
-answer-word-requires c κs = search rules
-
-returns-2 : tie.Need-returns-2
 unfolding tick_word
-returns-2 c = rw (← c.before.before.tick.ensures.0, c.answer_word.ensures)
+returns c = rw (← c.tick-r.ensures.0, c.answer_word.ensures)
 
 pub tick_spec : {M : Type 1} → statement M
 tick_spec =
-    tie.close (tie.spec lend-tick-requires returns tick-requires answer-word-requires returns-2)
+    tie.close (tie.spec lend_tick-requires returns-then-lent tick-r-requires answer_word-requires returns)

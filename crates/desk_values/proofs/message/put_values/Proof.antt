@@ -12,53 +12,40 @@ invariant-loop out₀ all count p₀ i₀ out p i = (length out ≡ length out�
 abbrev decreases-loop : tie.decreases-loop
 decreases-loop out₀ all count p₀ i₀ out p i = 16 - i
 
-loop-holds : tie.Need-loop-init invariant-loop decreases-loop
-loop-holds c = search rules
+loop-i-init : tie.Need-loop-i-init invariant-loop decreases-loop
+loop-i-init c = search rules
 
-same_length : tie.Need-same-length invariant-loop decreases-loop
-same_length c = search rules
+shape_of-out-then-count-i : tie.Need-shape_of-out-then-count-i invariant-loop decreases-loop
+shape_of-out-then-count-i c = search rules
+
+returns-then-count-i : tie.Need-returns-then-count-i invariant-loop decreases-loop
+returns-then-count-i c = search rules
+
+offset_bounds-all-i : tie.Need-offset_bounds-all-i invariant-loop decreases-loop
+offset_bounds-all-i c = search rules
+
+bounds-all-i : tie.Need-bounds-all-i invariant-loop decreases-loop
+bounds-all-i c = search rules
+
+put_value-p-requires : tie.Need-put_value-p-requires invariant-loop decreases-loop
+put_value-p-requires c κs = search rules
+
+overflow_add-i : tie.Need-overflow_add-i invariant-loop decreases-loop
+overflow_add-i c = search rules
+
+loop-i-smaller : tie.Need-loop-i-smaller invariant-loop decreases-loop
+loop-i-smaller c = search rules
+
+loop-i-preserved : tie.Need-loop-i-preserved invariant-loop decreases-loop
+loop-i-preserved c = search rules
+
+shape_of-out : tie.Need-shape_of-out invariant-loop decreases-loop
+shape_of-out c = search rules
 
 returns : tie.Need-returns invariant-loop decreases-loop
 returns c = search rules
 
-mul-put-value : tie.Need-overflow-mul-put-value invariant-loop decreases-loop
-mul-put-value c = search rules
-
-array-copy-out-put-value : tie.Need-array-copy-out-put-value invariant-loop decreases-loop
-array-copy-out-put-value c = search rules
-
-put-value-requires : tie.Need-put-value-requires invariant-loop decreases-loop
-put-value-requires c κs = search rules
-
-add-i : tie.Need-overflow-add-i invariant-loop decreases-loop
-add-i c = search rules
-
-loop-less : tie.Need-loop-smaller invariant-loop decreases-loop
-loop-less c = search rules
-
-loop-again : tie.Need-loop-preserved invariant-loop decreases-loop
-loop-again c = search rules
-
-same-length-2 : tie.Need-same-length-2 invariant-loop decreases-loop
-same-length-2 c = search rules
-
-returns-2 : tie.Need-returns-2 invariant-loop decreases-loop
-returns-2 c = search rules
-
 pub put_values_spec : {M : Type 1} → statement M
 put_values_spec =
     tie.close
-    (tie.spec
-    invariant-loop
-    decreases-loop
-    loop-holds
-    same_length
-    returns
-    mul-put-value
-    array-copy-out-put-value
-    put-value-requires
-    add-i
-    loop-less
-    loop-again
-    same-length-2
-    returns-2)
+    (tie.spec invariant-loop decreases-loop loop-i-init shape_of-out-then-count-i returns-then-count-i offset_bounds-all-i bounds-all-i put_value-p-requires overflow_add-i loop-i-smaller loop-i-preserved shape_of-out returns)

@@ -12,49 +12,37 @@ invariant-loop v w i₀ i = (length v ≡ 16) × (length w ≡ 16)
 abbrev decreases-loop : tie.decreases-loop
 decreases-loop v w i₀ i = 16 - i
 
-loop-holds : tie.Need-loop-init invariant-loop decreases-loop
-loop-holds c = search rules
+loop-i-init : tie.Need-loop-i-init invariant-loop decreases-loop
+loop-i-init c = search rules
 
-mul-if1 : tie.Need-overflow-mul-if1 invariant-loop decreases-loop
-mul-if1 c = search rules
+offset_bounds-v-i : tie.Need-offset_bounds-v-i invariant-loop decreases-loop
+offset_bounds-v-i c = search rules
 
-array-copy-out-if1 : tie.Need-array-copy-out-if1 invariant-loop decreases-loop
-array-copy-out-if1 c = search rules
+bounds-v-i : tie.Need-bounds-v-i invariant-loop decreases-loop
+bounds-v-i c = search rules
 
-mul-if1-2 : tie.Need-overflow-mul-if1-2 invariant-loop decreases-loop
-mul-if1-2 c = search rules
+offset_bounds-w-i : tie.Need-offset_bounds-w-i invariant-loop decreases-loop
+offset_bounds-w-i c = search rules
 
-array-copy-out-if1-2 : tie.Need-array-copy-out-if1-2 invariant-loop decreases-loop
-array-copy-out-if1-2 c = search rules
+bounds-w-i : tie.Need-bounds-w-i invariant-loop decreases-loop
+bounds-w-i c = search rules
+
+returns-then-v-i : tie.Need-returns-then-v-i invariant-loop decreases-loop
+returns-then-v-i c = search rules
+
+overflow_add-i : tie.Need-overflow_add-i invariant-loop decreases-loop
+overflow_add-i c = search rules
+
+loop-i-smaller : tie.Need-loop-i-smaller invariant-loop decreases-loop
+loop-i-smaller c = search rules
+
+loop-i-preserved : tie.Need-loop-i-preserved invariant-loop decreases-loop
+loop-i-preserved c = search rules
 
 returns : tie.Need-returns invariant-loop decreases-loop
 returns c = search rules
 
-add-i : tie.Need-overflow-add-i invariant-loop decreases-loop
-add-i c = search rules
-
-loop-less : tie.Need-loop-smaller invariant-loop decreases-loop
-loop-less c = search rules
-
-loop-again : tie.Need-loop-preserved invariant-loop decreases-loop
-loop-again c = search rules
-
-returns-2 : tie.Need-returns-2 invariant-loop decreases-loop
-returns-2 c = search rules
-
 pub same_spec : {M : Type 1} → statement M
 same_spec =
     tie.close
-    (tie.spec
-    invariant-loop
-    decreases-loop
-    loop-holds
-    mul-if1
-    array-copy-out-if1
-    mul-if1-2
-    array-copy-out-if1-2
-    returns
-    add-i
-    loop-less
-    loop-again
-    returns-2)
+    (tie.spec invariant-loop decreases-loop loop-i-init offset_bounds-v-i bounds-v-i offset_bounds-w-i bounds-w-i returns-then-v-i overflow_add-i loop-i-smaller loop-i-preserved returns)

@@ -12,23 +12,23 @@ invariant-loop out₀ n p₀ rest₀ k₀ out p rest k = (length out ≡ length 
 abbrev decreases-loop : tie.decreases-loop
 decreases-loop out₀ n p₀ rest₀ k₀ out p rest k = 13 - k
 
-loop-holds : tie.Need-loop-init invariant-loop decreases-loop
-loop-holds c = search rules
+loop-k-init : tie.Need-loop-k-init invariant-loop decreases-loop
+loop-k-init c = search rules
 
-put-next-requires : tie.Need-put-next-requires invariant-loop decreases-loop
-put-next-requires c κs = search rules
+put_next-p-requires : tie.Need-put_next-p-requires invariant-loop decreases-loop
+put_next-p-requires c κs = search rules
 
-add-k : tie.Need-overflow-add-k invariant-loop decreases-loop
-add-k c = search rules
+overflow_add-k : tie.Need-overflow_add-k invariant-loop decreases-loop
+overflow_add-k c = search rules
 
-loop-less : tie.Need-loop-smaller invariant-loop decreases-loop
-loop-less c = search rules
+loop-k-smaller : tie.Need-loop-k-smaller invariant-loop decreases-loop
+loop-k-smaller c = search rules
 
-loop-again : tie.Need-loop-preserved invariant-loop decreases-loop
-loop-again c = search rules
+loop-k-preserved : tie.Need-loop-k-preserved invariant-loop decreases-loop
+loop-k-preserved c = search rules
 
-same_length : tie.Need-same-length invariant-loop decreases-loop
-same_length c = search rules
+shape_of-out : tie.Need-shape_of-out invariant-loop decreases-loop
+shape_of-out c = search rules
 
 returns : tie.Need-returns invariant-loop decreases-loop
 returns c = search rules
@@ -36,13 +36,4 @@ returns c = search rules
 pub put_findings_spec : {M : Type 1} → statement M
 put_findings_spec =
     tie.close
-    (tie.spec
-    invariant-loop
-    decreases-loop
-    loop-holds
-    put-next-requires
-    add-k
-    loop-less
-    loop-again
-    same_length
-    returns)
+    (tie.spec invariant-loop decreases-loop loop-k-init put_next-p-requires overflow_add-k loop-k-smaller loop-k-preserved shape_of-out returns)

@@ -11,41 +11,31 @@ invariant-loop list n at₀ left₀ at left = at ≤ length list
 abbrev decreases-loop : tie.decreases-loop
 decreases-loop list n at₀ left₀ at left = left
 
-loop-holds : tie.Need-loop-init invariant-loop decreases-loop
-loop-holds c = search rules
+loop-left-init : tie.Need-loop-left-init invariant-loop decreases-loop
+loop-left-init c = search rules
 
-part-end-requires : tie.Need-part-end-requires invariant-loop decreases-loop
-part-end-requires c κs = search rules
+part_end-e-requires : tie.Need-part_end-e-requires invariant-loop decreases-loop
+part_end-e-requires c κs = search rules
+
+returns-then-e-list : tie.Need-returns-then-e-list invariant-loop decreases-loop
+returns-then-e-list c = search rules
+
+overflow_add-at : tie.Need-overflow_add-at invariant-loop decreases-loop
+overflow_add-at c = search rules
+
+overflow_sub-left : tie.Need-overflow_sub-left invariant-loop decreases-loop
+overflow_sub-left c = search rules
+
+loop-left-smaller : tie.Need-loop-left-smaller invariant-loop decreases-loop
+loop-left-smaller c = search rules
+
+loop-left-preserved : tie.Need-loop-left-preserved invariant-loop decreases-loop
+loop-left-preserved c = search rules
 
 returns : tie.Need-returns invariant-loop decreases-loop
 returns c = search rules
 
-add_at : tie.Need-overflow-add-at invariant-loop decreases-loop
-add_at c = search rules
-
-sub-left : tie.Need-overflow-sub-left invariant-loop decreases-loop
-sub-left c = search rules
-
-loop-less : tie.Need-loop-smaller invariant-loop decreases-loop
-loop-less c = search rules
-
-loop-again : tie.Need-loop-preserved invariant-loop decreases-loop
-loop-again c = search rules
-
-returns-2 : tie.Need-returns-2 invariant-loop decreases-loop
-returns-2 c = search rules
-
 pub place_spec : {M : Type 1} → statement M
 place_spec =
     tie.close
-    (tie.spec
-    invariant-loop
-    decreases-loop
-    loop-holds
-    part-end-requires
-    returns
-    add_at
-    sub-left
-    loop-less
-    loop-again
-    returns-2)
+    (tie.spec invariant-loop decreases-loop loop-left-init part_end-e-requires returns-then-e-list overflow_add-at overflow_sub-left loop-left-smaller loop-left-preserved returns)

@@ -5,16 +5,16 @@ use borrow.Author.Rules.{rules}
 use Rattle.log_read.proofs.stage.channel_part.Statement.{statement}
 use Rattle.log_read.proofs.stage.channel_part.Tie as tie
 
+returns-then-channel-gt31 : tie.Need-returns-then-channel-gt31
+unfolding channel_part
+returns-then-channel-gt31 c = rw (lt-ltb 31 _ c.if-channel-gt31.true)
+
+identifier_at-requires : tie.Need-identifier_at-requires
+identifier_at-requires c κs = search rules
+
 returns : tie.Need-returns
 unfolding channel_part
-returns c = rw (lt-ltb 31 _ c.if1.true)
-
-identifier-at-requires : tie.Need-identifier-at-requires
-identifier-at-requires c κs = search rules
-
-returns-2 : tie.Need-returns-2
-unfolding channel_part
-returns-2 c = rw (le-ltb 31 _ c.before.if1.false) c.identifier-at.ensures
+returns c = rw (le-ltb 31 _ c.if-channel-gt31.false) c.identifier_at.ensures
 
 pub channel_part_spec : {M : Type 1} → statement M
-channel_part_spec = tie.close (tie.spec returns identifier-at-requires returns-2)
+channel_part_spec = tie.close (tie.spec returns-then-channel-gt31 identifier_at-requires returns)

@@ -7,46 +7,37 @@ use Rattle.log_read.proofs.Stages.{part_via}
 use Rattle.log_read.proofs.stage.record_from.Statement.{statement}
 use Rattle.log_read.proofs.stage.record_from.Tie as tie
 
-number-at-requires : tie.Need-number-at-requires
-number-at-requires c κs = search rules
+number_at-requires : tie.Need-number_at-requires
+number_at-requires c κs = search rules
 
-enum-known-n : tie.Need-enum-known-n
-enum-known-n c = search rules
+enum_known-n : tie.Need-enum_known-n
+enum_known-n c = search rules
 
-add-channel-at : tie.Need-overflow-add-channel-at
-add-channel-at c = search (rules, within_at c.before.before.before.before.before.args.s.now c.before.before.before.before.before.args.at c.before.n.given.0.0 c.before.n.given.0.1.0 c.before.before.before.number_at.result c.before.before.before.number_at.ensures c.before.n.given.1 c.before.before.before.before.before.requires)
+overflow_add-at : tie.Need-overflow_add-at
+overflow_add-at c = search (rules, within_at c.args.s.now c.args.at c.in-Value.n c.in-Value.size c.number_at.result c.number_at.ensures c.in-Value.is c.requires)
 
-channel-at-requires : tie.Need-channel-at-requires
-channel-at-requires c κs = within_at c.before.before.before.before.before.args.s.now c.before.before.before.before.before.args.at c.before.n.given.0.0 c.before.n.given.0.1.0 c.before.before.before.number_at.result c.before.before.before.number_at.ensures c.before.n.given.1 c.before.before.before.before.before.requires
+channel_at-requires : tie.Need-channel_at-requires
+channel_at-requires c κs = within_at c.args.s.now c.args.at c.in-Value.n c.in-Value.size c.number_at.result c.number_at.ensures c.in-Value.is c.requires
 
-enum_told : tie.Need-enum-told
-enum_told c = search rules
+enum_told-1 : tie.Need-enum_told-1
+enum_told-1 c = search rules
 
-enum-told-2 : tie.Need-enum-told-2
-enum-told-2 c = search rules
+enum_told-in-Ill : tie.Need-enum_told-in-Ill
+enum_told-in-Ill c = search rules
 
-returns : tie.Need-returns
+returns-in-Value : tie.Need-returns-in-Value
 unfolding record_at
-returns c = c.channel-at.ensures ∙ sym (part_via c.before.before.before.before.before.before.args.s.now c.before.before.before.before.before.before.args.at (time_part c.before.before.before.before.before.before.args.s.now) c.before.before.before.before.number_at.ensures c.before.before.n.given.1)
+returns-in-Value c = c.channel_at.ensures ∙ sym (part_via c.args.s.now c.args.at (time_part c.args.s.now) c.number_at.ensures c.in-Value.is)
 
-returns-2 : tie.Need-returns-2
+returns-in-Cut : tie.Need-returns-in-Cut
 unfolding record_at
-returns-2 c = sym (part_via c.before.before.before.before.args.s.now c.before.before.before.before.args.at (time_part c.before.before.before.before.args.s.now) c.before.before.number_at.ensures c.enum_told.given.1)
+returns-in-Cut c = sym (part_via c.args.s.now c.args.at (time_part c.args.s.now) c.number_at.ensures c.in-Cut.is)
 
-returns-3 : tie.Need-returns-3
+returns-in-Ill : tie.Need-returns-in-Ill
 unfolding record_at
-returns-3 c = sym (part_via c.before.before.before.before.args.s.now c.before.before.before.before.args.at (time_part c.before.before.before.before.args.s.now) c.before.before.number_at.ensures c.enum-told2.given.1)
+returns-in-Ill c = sym (part_via c.args.s.now c.args.at (time_part c.args.s.now) c.number_at.ensures c.in-Ill.is)
 
 pub record_from_spec : {M : Type 1} → statement M
 record_from_spec =
     tie.close
-    (tie.spec
-    number-at-requires
-    enum-known-n
-    add-channel-at
-    channel-at-requires
-    enum_told
-    enum-told-2
-    returns
-    returns-2
-    returns-3)
+    (tie.spec number_at-requires enum_known-n overflow_add-at channel_at-requires enum_told-1 enum_told-in-Ill returns-in-Value returns-in-Cut returns-in-Ill)

@@ -4,22 +4,22 @@ use native.Mathlib.Numerals.{unary_clauses}
 use Rattle.log_walk.proofs.file.front.Statement.{statement}
 use Rattle.log_walk.proofs.file.front.Tie as tie
 
-returns : tie.Need-returns
-returns c =
-    let a = c.before.args in
+returns-then-bytes-n : tie.Need-returns-then-bytes-n
+returns-then-bytes-n c =
+    let a = c.args in
     sym (take_all a.n a.bytes.now (omega arith))
 
-sub-result : tie.Need-overflow-sub-result
-sub-result c = search rules
+slice_bounds-result-count : tie.Need-slice_bounds-result-count
+slice_bounds-result-count c = search rules
 
-part-result-start : tie.Need-slice-bounds-result-start
-part-result-start c = search rules
+slice_bounds-result-start : tie.Need-slice_bounds-result-start
+slice_bounds-result-start c = search rules
 
-part-result-end : tie.Need-slice-bounds-result-end
-part-result-end c = search rules
+slice_bounds-result-end : tie.Need-slice_bounds-result-end
+slice_bounds-result-end c = search rules
 
-returns-2 : tie.Need-returns-2
-returns-2 c = simp unary_clauses refl
+returns : tie.Need-returns
+returns c = simp unary_clauses refl
 
 pub front_spec : {M : Type 1} → statement M
-front_spec = tie.close (tie.spec returns sub-result part-result-start part-result-end returns-2)
+front_spec = tie.close (tie.spec returns-then-bytes-n slice_bounds-result-count slice_bounds-result-start slice_bounds-result-end returns)

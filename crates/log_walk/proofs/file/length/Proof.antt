@@ -12,18 +12,18 @@ below (pos n) f t =
     absurd (let z : ⊥ = omega (arith, ltb-true n 0 e) in z)
 below (negsuc n) f t = refl
 
+returns-then-size-lt0 : tie.Need-returns-then-size-lt0
+returns-then-size-lt0 c = below c.args.size c.ranges.size c.if-size-lt0.true
+
+overflow_cast-result : tie.Need-overflow_cast-result
+overflow_cast-result c =
+    let b = not_below c.args.size c.ranges.size c.if-size-lt0.false in
+    cast_fits _ b.0 (to_z-of_z c.ranges.size ∙ b.1) b.2
+
 returns : tie.Need-returns
-returns c = below c.before.args.size c.before.ranges.size c.if1.true
-
-cast-result : tie.Need-overflow-cast-result
-cast-result c =
-    let b = not_below c.before.args.size c.before.ranges.size c.if1.false in
-    cast_fits _ b.0 (to_z-of_z c.before.ranges.size ∙ b.1) b.2
-
-returns-2 : tie.Need-returns-2
-returns-2 c =
-    let b = not_below c.before.args.size c.before.ranges.size c.if1.false in
-    ap nat_abs (to_z-of_z c.before.ranges.size ∙ b.1) ∙ sym (ap bytes_in b.1)
+returns c =
+    let b = not_below c.args.size c.ranges.size c.if-size-lt0.false in
+    ap nat_abs (to_z-of_z c.ranges.size ∙ b.1) ∙ sym (ap bytes_in b.1)
 
 pub length_spec : {M : Type 1} → statement M
-length_spec = tie.close (tie.spec returns cast-result returns-2)
+length_spec = tie.close (tie.spec returns-then-size-lt0 overflow_cast-result returns)

@@ -16,21 +16,21 @@ invariant-loop n rest₀ size₀ rest size = (size + size_of rest ≡ 1 + size_o
 abbrev decreases-loop : tie.decreases-loop
 decreases-loop n rest₀ size₀ rest size = rest
 
-loop-holds : tie.Need-loop-init invariant-loop decreases-loop
-loop-holds c = (refl, omega arith)
+loop-rest-init : tie.Need-loop-rest-init invariant-loop decreases-loop
+loop-rest-init c = (refl, omega arith)
 
-add-size : tie.Need-overflow-add-size invariant-loop decreases-loop
-add-size c = search (rules, size_le 4 c.before.before.args.n)
+overflow_add-size : tie.Need-overflow_add-size invariant-loop decreases-loop
+overflow_add-size c = search (rules, size_le 4 c.args.n)
 
-loop-less : tie.Need-loop-smaller invariant-loop decreases-loop
-loop-less c = omega arith
+loop-rest-smaller : tie.Need-loop-rest-smaller invariant-loop decreases-loop
+loop-rest-smaller c = omega arith
 
-loop-again : tie.Need-loop-preserved invariant-loop decreases-loop
-loop-again c = (omega (arith, size_more c.before.loop.rest (omega arith) (search rules)), omega arith)
+loop-rest-preserved : tie.Need-loop-rest-preserved invariant-loop decreases-loop
+loop-rest-preserved c = (omega (arith, size_more c.loop-rest.rest (omega arith) (search rules)), omega arith)
 
 returns : tie.Need-returns invariant-loop decreases-loop
-returns c = omega (arith, size_one c.before.loop.rest (omega arith))
+returns c = omega (arith, size_one c.loop-rest.rest (omega arith))
 
 pub number_size_spec : {M : Type 1} → statement M
 number_size_spec =
-    tie.close (tie.spec invariant-loop decreases-loop loop-holds add-size loop-less loop-again returns)
+    tie.close (tie.spec invariant-loop decreases-loop loop-rest-init overflow_add-size loop-rest-smaller loop-rest-preserved returns)

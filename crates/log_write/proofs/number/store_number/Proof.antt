@@ -16,57 +16,43 @@ invariant-loop out₀ at n rest₀ i₀ out rest i = Wrote out₀ at n out i res
 abbrev decreases-loop : tie.decreases-loop
 decreases-loop out₀ at n rest₀ i₀ out rest i = rest
 
-loop-holds : tie.Need-loop-init invariant-loop decreases-loop
-loop-holds c = (refl, refl, refl, omega arith)
+loop-rest-init : tie.Need-loop-rest-init invariant-loop decreases-loop
+loop-rest-init c = (refl, refl, refl, omega arith)
 
-add-out : tie.Need-overflow-add-out invariant-loop decreases-loop
-add-out c = search rules
+overflow_add-out : tie.Need-overflow_add-out invariant-loop decreases-loop
+overflow_add-out c = search rules
 
-cast-out : tie.Need-overflow-cast-out invariant-loop decreases-loop
-cast-out c = search rules
+overflow_cast-out : tie.Need-overflow_cast-out invariant-loop decreases-loop
+overflow_cast-out c = search rules
 
-slice-write-out : tie.Need-slice-write-out invariant-loop decreases-loop
-slice-write-out c = wrote_room c.before.before.args.out.now c.before.before.args.at c.before.before.args.n c.before.loop.out c.before.loop.i c.before.loop.rest c.before.before.requires (search rules) c.before.loop.invariant
+bounds-out-i : tie.Need-bounds-out-i invariant-loop decreases-loop
+bounds-out-i c = wrote_room c.args.out.now c.args.at c.args.n c.loop-rest.out c.loop-rest.i c.loop-rest.rest c.requires (search rules) c.loop-rest.invariant
 
-add-i : tie.Need-overflow-add-i invariant-loop decreases-loop
-add-i c = search (rules, slice-write-out c)
+overflow_add-i : tie.Need-overflow_add-i invariant-loop decreases-loop
+overflow_add-i c = search (rules, bounds-out-i c)
 
-loop-less : tie.Need-loop-smaller invariant-loop decreases-loop
-loop-less c = omega arith
+loop-rest-smaller : tie.Need-loop-rest-smaller invariant-loop decreases-loop
+loop-rest-smaller c = omega arith
 
-loop-again : tie.Need-loop-preserved invariant-loop decreases-loop
-loop-again c = wrote_more c.before.before.args.out.now c.before.before.args.at c.before.before.args.n c.before.loop.out c.before.loop.i c.before.loop.rest (omega arith) (search rules) c.before.loop.invariant
+loop-rest-preserved : tie.Need-loop-rest-preserved invariant-loop decreases-loop
+loop-rest-preserved c = wrote_more c.args.out.now c.args.at c.args.n c.loop-rest.out c.loop-rest.i c.loop-rest.rest (omega arith) (search rules) c.loop-rest.invariant
 
-cast-out-2 : tie.Need-overflow-cast-out-2 invariant-loop decreases-loop
-cast-out-2 c = search rules
+overflow_cast-out-2 : tie.Need-overflow_cast-out-2 invariant-loop decreases-loop
+overflow_cast-out-2 c = search rules
 
-slice-write-out-2 : tie.Need-slice-write-out-2 invariant-loop decreases-loop
-slice-write-out-2 c = wrote_room c.before.before.args.out.now c.before.before.args.at c.before.before.args.n c.before.loop.out c.before.loop.i c.before.loop.rest c.before.before.requires (search rules) c.before.loop.invariant
+bounds-out-i-2 : tie.Need-bounds-out-i-2 invariant-loop decreases-loop
+bounds-out-i-2 c = wrote_room c.args.out.now c.args.at c.args.n c.loop-rest.out c.loop-rest.i c.loop-rest.rest c.requires (search rules) c.loop-rest.invariant
 
-add-result : tie.Need-overflow-add-result invariant-loop decreases-loop
-add-result c = search (rules, slice-write-out-2 c)
+overflow_add-result : tie.Need-overflow_add-result invariant-loop decreases-loop
+overflow_add-result c = search (rules, bounds-out-i-2 c)
 
-same_length : tie.Need-same-length invariant-loop decreases-loop
-same_length c = length-set c.before.loop.out c.before.loop.i c.before.loop.rest ∙ c.before.loop.invariant.1
+shape_of-out : tie.Need-shape_of-out invariant-loop decreases-loop
+shape_of-out c = length-set c.loop-rest.out c.loop-rest.i c.loop-rest.rest ∙ c.loop-rest.invariant.1
 
 returns : tie.Need-returns invariant-loop decreases-loop
-returns c = wrote_last c.before.before.args.out.now c.before.before.args.at c.before.before.args.n c.before.loop.out c.before.loop.i c.before.loop.rest (omega arith) c.before.loop.invariant
+returns c = wrote_last c.args.out.now c.args.at c.args.n c.loop-rest.out c.loop-rest.i c.loop-rest.rest (omega arith) c.loop-rest.invariant
 
 pub store_number_spec : {M : Type 1} → statement M
 store_number_spec =
     tie.close
-    (tie.spec
-    invariant-loop
-    decreases-loop
-    loop-holds
-    add-out
-    cast-out
-    slice-write-out
-    add-i
-    loop-less
-    loop-again
-    cast-out-2
-    slice-write-out-2
-    add-result
-    same_length
-    returns)
+    (tie.spec invariant-loop decreases-loop loop-rest-init overflow_add-out overflow_cast-out bounds-out-i overflow_add-i loop-rest-smaller loop-rest-preserved overflow_cast-out-2 bounds-out-i-2 overflow_add-result shape_of-out returns)

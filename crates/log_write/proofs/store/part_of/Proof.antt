@@ -4,20 +4,20 @@ use Rattle.log_write.proofs.Stores.{identifiers_top}
 use Rattle.log_write.proofs.store.part_of.Statement.{statement}
 use Rattle.log_write.proofs.store.part_of.Tie as tie
 
-mul-result : tie.Need-overflow-mul-result
-mul-result c = omega (arith, c.before.requires, identifiers_top c.before.args.extended)
+overflow_mul-result : tie.Need-overflow_mul-result
+overflow_mul-result c = omega (arith, c.requires, identifiers_top c.args.extended)
 
-add-result : tie.Need-overflow-add-result
-add-result c = omega (arith, c.before.requires, identifiers_top c.before.args.extended)
+overflow_add-result : tie.Need-overflow_add-result
+overflow_add-result c = omega (arith, c.requires, identifiers_top c.args.extended)
 
-mul-result-2 : tie.Need-overflow-mul-result-2
-mul-result-2 c = omega (arith, c.before.requires, identifiers_top c.before.args.extended)
+overflow_mul-result-else-extended : tie.Need-overflow_mul-result-else-extended
+overflow_mul-result-else-extended c = omega (arith, c.requires, identifiers_top c.args.extended)
 
-returns : tie.Need-returns
-returns c = rw c.if1.true
+returns-then-extended : tie.Need-returns-then-extended
+returns-then-extended c = rw c.if-extended.true
 
-returns-2 : tie.Need-returns-2
-returns-2 c = rw c.if1.false
+returns-else-extended : tie.Need-returns-else-extended
+returns-else-extended c = rw c.if-extended.false
 
 pub part_of_spec : {M : Type 1} → statement M
-part_of_spec = tie.close (tie.spec mul-result add-result mul-result-2 returns returns-2)
+part_of_spec = tie.close (tie.spec overflow_mul-result overflow_add-result overflow_mul-result-else-extended returns-then-extended returns-else-extended)

@@ -13,45 +13,34 @@ invariant-loop out₀ at bytes i₀ out i = Copied out₀ at bytes out i
 abbrev decreases-loop : tie.decreases-loop
 decreases-loop out₀ at bytes i₀ out i = length bytes - i
 
-loop-holds : tie.Need-loop-init invariant-loop decreases-loop
-loop-holds c = copied_none c.args.out.now c.args.at c.args.bytes.now
+loop-i-init : tie.Need-loop-i-init invariant-loop decreases-loop
+loop-i-init c = copied_none c.args.out.now c.args.at c.args.bytes.now
 
-shared-slice-read-out : tie.Need-shared-slice-read-out invariant-loop decreases-loop
-shared-slice-read-out c = search rules
+bounds-bytes-i : tie.Need-bounds-bytes-i invariant-loop decreases-loop
+bounds-bytes-i c = search rules
 
-add-out : tie.Need-overflow-add-out invariant-loop decreases-loop
-add-out c = search rules
+overflow_add-out : tie.Need-overflow_add-out invariant-loop decreases-loop
+overflow_add-out c = search rules
 
-slice-write-out : tie.Need-slice-write-out invariant-loop decreases-loop
-slice-write-out c = search rules
+bounds-out-at : tie.Need-bounds-out-at invariant-loop decreases-loop
+bounds-out-at c = search rules
 
-add-i : tie.Need-overflow-add-i invariant-loop decreases-loop
-add-i c = search rules
+overflow_add-i : tie.Need-overflow_add-i invariant-loop decreases-loop
+overflow_add-i c = search rules
 
-loop-less : tie.Need-loop-smaller invariant-loop decreases-loop
-loop-less c = omega arith
+loop-i-smaller : tie.Need-loop-i-smaller invariant-loop decreases-loop
+loop-i-smaller c = omega arith
 
-loop-again : tie.Need-loop-preserved invariant-loop decreases-loop
-loop-again c = copied_more c.before.before.before.args.out.now c.before.before.before.args.at c.before.before.before.args.bytes.now c.before.before.loop.out c.before.before.loop.i (omega arith) c.before.before.loop.invariant
+loop-i-preserved : tie.Need-loop-i-preserved invariant-loop decreases-loop
+loop-i-preserved c = copied_more c.args.out.now c.args.at c.args.bytes.now c.loop-i.out c.loop-i.i (omega arith) c.loop-i.invariant
 
-same_length : tie.Need-same-length invariant-loop decreases-loop
-same_length c = c.before.loop.invariant.1
+shape_of-out : tie.Need-shape_of-out invariant-loop decreases-loop
+shape_of-out c = c.loop-i.invariant.1
 
 returns : tie.Need-returns invariant-loop decreases-loop
-returns c = copied_all c.before.before.args.out.now c.before.before.args.at c.before.before.args.bytes.now c.before.loop.out c.before.loop.i (omega arith) c.before.loop.invariant
+returns c = copied_all c.args.out.now c.args.at c.args.bytes.now c.loop-i.out c.loop-i.i (omega arith) c.loop-i.invariant
 
 pub store_bytes_spec : {M : Type 1} → statement M
 store_bytes_spec =
     tie.close
-    (tie.spec
-    invariant-loop
-    decreases-loop
-    loop-holds
-    shared-slice-read-out
-    add-out
-    slice-write-out
-    add-i
-    loop-less
-    loop-again
-    same_length
-    returns)
+    (tie.spec invariant-loop decreases-loop loop-i-init bounds-bytes-i overflow_add-out bounds-out-at overflow_add-i loop-i-smaller loop-i-preserved shape_of-out returns)

@@ -4,38 +4,32 @@ use Rattle.log_write.proofs.Stores.{head_stored}
 use Rattle.log_write.proofs.store.store_head.Statement.{statement}
 use Rattle.log_write.proofs.store.store_head.Tie as tie
 
-store-number-requires : tie.Need-store-number-requires
-store-number-requires c κs = search rules
+store_number-a-requires : tie.Need-store_number-a-requires
+store_number-a-requires c κs = search rules
 
-store-number-requires-2 : tie.Need-store-number-requires-2
-store-number-requires-2 c κs = search rules
+store_number-b-requires : tie.Need-store_number-b-requires
+store_number-b-requires c κs = search rules
 
-store-number-requires-3 : tie.Need-store-number-requires-3
-store-number-requires-3 c κs = search rules
+store_number-c-requires : tie.Need-store_number-c-requires
+store_number-c-requires c κs = search rules
 
-store-number-requires-4 : tie.Need-store-number-requires-4
-store-number-requires-4 c κs = search rules
+store_number-requires : tie.Need-store_number-requires
+store_number-requires c κs = search rules
 
-same_length : tie.Need-same-length
-same_length c = search rules
+shape_of-out : tie.Need-shape_of-out
+shape_of-out c = search rules
 
 returns : tie.Need-returns
 returns c =
-    let a = c.before.before.before.before.before.before.before.before.before.before.before.before.before.before.before.before.before.args in
-    let n₁ = c.before.before.before.before.before.before.before.before.before.before.before.before.before.before.store-number in
-    let n₂ = c.before.before.before.before.before.before.before.before.before.before.store-number2 in
-    let n₃ = c.before.before.before.before.before.before.store-number3 in
-    let n₄ = c.before.before.store-number4 in
+    let a = c.args in
+    let n₁ = c.store_number-a in
+    let n₂ = c.store_number-b in
+    let n₃ = c.store_number-c in
+    let n₄ = c.store_number in
     head_stored a.out.now n₁.new.0 n₂.new.0 n₃.new.0 n₄.new.0 a.time a.channel a.p a.n n₁.result n₂.result n₃.result n₄.result
     n₁.ensures n₂.ensures n₃.ensures n₄.ensures
 
 pub store_head_spec : {M : Type 1} → statement M
 store_head_spec =
     tie.close
-    (tie.spec
-    store-number-requires
-    store-number-requires-2
-    store-number-requires-3
-    store-number-requires-4
-    same_length
-    returns)
+    (tie.spec store_number-a-requires store_number-b-requires store_number-c-requires store_number-requires shape_of-out returns)

@@ -10,7 +10,7 @@ returns c =
     let b2 = b3.before.before in
     let b1 = b2.before.before in
     let b0 = b1.before.before in
-    search (rules, b0.byte.ensures, b1.byte2.ensures, b2.byte3.ensures, b3.byte4.ensures, b4.byte5.ensures, c.byte6.ensures)
+    search (rules, b0.byte.ensures, b1.byte-2.ensures, b2.byte-3.ensures, b3.byte-4.ensures, b4.byte-5.ensures, c.byte-6.ensures)
 
 pub ev_id_spec : {M : Type 1} → statement M
 ev_id_spec =

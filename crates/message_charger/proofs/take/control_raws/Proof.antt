@@ -20,25 +20,25 @@ returns c =
     let a = b.before.before in
     let v = a.before.before in
     -- the message's signed fields fit
-    let g = a.before.struct_told.given in
-    simp (to_z-of_z, sfits_of, v.word-raw.type-inv, a.short-raw.type-inv, b.short-raw2.type-inv, b1.byte-raw.type-inv, r.flag-raw.type-inv, b2.byte-raw2.type-inv, b3.byte-raw3.type-inv, c.byte-raw4.type-inv)
+    let g = a.struct_told-1.given in
+    simp (to_z-of_z, sfits_of, v.word_raw.type_inv, a.short_raw.type_inv, b.short_raw-2.type_inv, b1.byte_raw.type_inv, r.flag_raw.type_inv, b2.byte_raw-2.type_inv, b3.byte_raw-3.type_inv, c.byte_raw-4.type_inv)
     (simp (
       to_z-of_z,
       sfits_of,
       g.1.0.1,
       g.1.1.0.1,
-      v.word-raw.ensures,
-      a.short-raw.ensures,
-      b.short-raw2.ensures,
-      f.function-number.ensures,
-      b1.byte-raw.ensures,
-      r.flag-raw.ensures,
-      m.mode-number.ensures,
-      b2.byte-raw2.ensures,
-      k.contactors-number.ensures,
-      b3.byte-raw3.ensures,
-      l.lowering-number.ensures,
-      c.byte-raw4.ensures,
+      v.word_raw.ensures,
+      a.short_raw.ensures,
+      b.short_raw-2.ensures,
+      f.function_number.ensures,
+      b1.byte_raw.ensures,
+      r.flag_raw.ensures,
+      m.mode_number.ensures,
+      b2.byte_raw-2.ensures,
+      k.contactors_number.ensures,
+      b3.byte_raw-3.ensures,
+      l.lowering_number.ensures,
+      c.byte_raw-4.ensures,
     ))
 
 pub control_raws_spec : {M : Type 1} → statement M

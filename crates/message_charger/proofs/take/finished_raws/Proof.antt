@@ -7,7 +7,7 @@ use Rattle.message_charger.proofs.take.finished_raws.Tie as tie
 
 returns : tie.Need-returns
 returns c =
-    rw (c.one-raw.ensures, to_z-of_z {w = w64} (sfits_of c.before.byte-raw.type-inv), c.before.byte-raw.ensures, c.before.before.end-number.ensures)
+    rw (c.one_raw.ensures, to_z-of_z {w = w64} (sfits_of c.byte_raw.type_inv), c.byte_raw.ensures, c.end_number.ensures)
 
 pub finished_raws_spec : {M : Type 1} → statement M
 finished_raws_spec =

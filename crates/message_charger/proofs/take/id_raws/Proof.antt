@@ -13,8 +13,8 @@ returns c =
     let b2 = b3.before in
     let b1 = b2.before in
     let b0 = b1.before in
-    simp (to_z-of_z, sfits_of, b0.byte-raw.type-inv, b1.byte-raw2.type-inv, b2.byte-raw3.type-inv, b3.byte-raw4.type-inv, b4.byte-raw5.type-inv, c.byte-raw6.type-inv)
-    (simp (b0.byte-raw.ensures, b1.byte-raw2.ensures, b2.byte-raw3.ensures, b3.byte-raw4.ensures, b4.byte-raw5.ensures, c.byte-raw6.ensures))
+    simp (to_z-of_z, sfits_of, b0.byte_raw.type_inv, b1.byte_raw-2.type_inv, b2.byte_raw-3.type_inv, b3.byte_raw-4.type_inv, b4.byte_raw-5.type_inv, c.byte_raw-6.type_inv)
+    (simp (b0.byte_raw.ensures, b1.byte_raw-2.ensures, b2.byte_raw-3.ensures, b3.byte_raw-4.ensures, b4.byte_raw-5.ensures, c.byte_raw-6.ensures))
 
 pub id_raws_spec : {M : Type 1} → statement M
 id_raws_spec =

@@ -11,8 +11,8 @@ returns c =
     let d = c.before.before in
     let g = d.before in
     let v = g.before in
-    simp (to_z-of_z, sfits_of, v.word-raw.type-inv, g.word-raw2.type-inv, d.word-raw3.type-inv, c.short-raw.type-inv)
-    (search (rules, v.word-raw.ensures, g.word-raw2.ensures, d.word-raw3.ensures, c.short-raw.ensures))
+    simp (to_z-of_z, sfits_of, v.word_raw.type_inv, g.word_raw-2.type_inv, d.word_raw-3.type_inv, c.short_raw.type_inv)
+    (search (rules, v.word_raw.ensures, g.word_raw-2.ensures, d.word_raw-3.ensures, c.short_raw.ensures))
 
 pub parameters_raws_spec : {M : Type 1} → statement M
 parameters_raws_spec =

@@ -10,8 +10,8 @@ unfolding pad
 returns c =
     let n = c.before in
     let p = n.before in
-    simp (to_z-of_z, sfits_of, p.byte-raw.type-inv, c.byte-raw2.type-inv)
-    (search (rules, p.before.protocol-number.ensures, p.byte-raw.ensures, n.plug-number.ensures, c.byte-raw2.ensures))
+    simp (to_z-of_z, sfits_of, p.byte_raw.type_inv, c.byte_raw-2.type_inv)
+    (search (rules, p.protocol_number.ensures, p.byte_raw.ensures, n.plug_number.ensures, c.byte_raw-2.ensures))
 
 pub session_raws_spec : {M : Type 1} → statement M
 session_raws_spec =

@@ -15,21 +15,21 @@ returns c =
     let a = m.before.before in
     let v = a.before.before in
     -- the message's signed fields fit
-    let g = a.before.struct_told.given in
-    simp (to_z-of_z, sfits_of, v.word-raw.type-inv, a.short-raw.type-inv, m.celsius-raw.type-inv, t.celsius-raw2.type-inv, b.byte-raw.type-inv, c.kilohms-raw.type-inv)
+    let g = a.struct_told-1.given in
+    simp (to_z-of_z, sfits_of, v.word_raw.type_inv, a.short_raw.type_inv, m.celsius_raw.type_inv, t.celsius_raw-2.type_inv, b.byte_raw.type_inv, c.kilohms_raw.type_inv)
     (simp (
       to_z-of_z,
       sfits_of,
       g.1.0.1,
       g.1.1.0.1,
       g.1.1.1.0.1,
-      v.word-raw.ensures,
-      a.short-raw.ensures,
-      m.celsius-raw.ensures,
-      t.celsius-raw2.ensures,
-      e.enable-number.ensures,
-      b.byte-raw.ensures,
-      c.kilohms-raw.ensures,
+      v.word_raw.ensures,
+      a.short_raw.ensures,
+      m.celsius_raw.ensures,
+      t.celsius_raw-2.ensures,
+      e.enable_number.ensures,
+      b.byte_raw.ensures,
+      c.kilohms_raw.ensures,
     ))
 
 pub status_raws_spec : {M : Type 1} → statement M

@@ -12,13 +12,13 @@ returns c =
     simp (
       to_z-of_z,
       sfits_of,
-      x1.before.natural-arg.given,
-      x4.before.word_arg.given,
-      c.before.natural-arg2.given,
+      x1.natural-arg-1.given,
+      x4.word-arg-1.given,
+      c.natural-arg-2-1.given,
       x1.natural.ensures,
-      x2.pilot-of.ensures,
+      x2.pilot_of.ensures,
       x4.word.ensures,
-      c.natural2.ensures,
+      c.natural-2.ensures,
     )
 
 pub ccs_spec : {M : Type 1} → statement M

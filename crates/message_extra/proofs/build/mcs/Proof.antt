@@ -13,14 +13,14 @@ returns c =
     simp (
       to_z-of_z,
       sfits_of,
-      x1.before.natural-arg.given,
-      x4.before.natural-arg2.given,
-      c.before.natural-arg3.given,
+      x1.natural-arg-1.given,
+      x4.natural-arg-2-1.given,
+      c.natural-arg-3-1.given,
       x1.natural.ensures,
-      x2.ce-of.ensures,
-      x4.natural2.ensures,
-      x5.mating-of.ensures,
-      c.natural3.ensures,
+      x2.ce_of.ensures,
+      x4.natural-2.ensures,
+      x5.mating_of.ensures,
+      c.natural-3.ensures,
     )
 
 pub mcs_spec : {M : Type 1} → statement M

@@ -16,32 +16,32 @@ returns c =
     let x5 = x7.before.before in
     let x3 = x5.before.before in
     let x1 = x3.before.before in
-    simp (to_z-of_z, sfits_of, x11.celsius.type-inv, x13.celsius2.type-inv, x15.celsius3.type-inv, x17.celsius4.type-inv, x19.celsius5.type-inv, c.celsius6.type-inv)
+    simp (to_z-of_z, sfits_of, x11.celsius.type_inv, x13.celsius-2.type_inv, x15.celsius-3.type_inv, x17.celsius-4.type_inv, x19.celsius-5.type_inv, c.celsius-6.type_inv)
     (simp (
       to_z-of_z,
       sfits_of,
-      x1.before.flag-arg.given,
-      x3.before.flag-arg2.given,
-      x5.before.flag-arg3.given,
-      x7.before.flag-arg4.given,
-      x9.before.natural-arg.given,
-      x11.before.celsius-arg.given,
-      x13.before.celsius-arg2.given,
-      x15.before.celsius-arg3.given,
-      x17.before.celsius-arg4.given,
-      x19.before.celsius-arg5.given,
-      c.before.celsius-arg6.given,
+      x1.flag-arg-1.given,
+      x3.flag-arg-2-1.given,
+      x5.flag-arg-3-1.given,
+      x7.flag-arg-4-1.given,
+      x9.natural-arg-1.given,
+      x11.celsius-arg-1.given,
+      x13.celsius-arg-2-1.given,
+      x15.celsius-arg-3-1.given,
+      x17.celsius-arg-4-1.given,
+      x19.celsius-arg-5-1.given,
+      c.celsius-arg-6-1.given,
       x1.flag.ensures,
-      x3.flag2.ensures,
-      x5.flag3.ensures,
-      x7.flag4.ensures,
+      x3.flag-2.ensures,
+      x5.flag-3.ensures,
+      x7.flag-4.ensures,
       x9.natural.ensures,
       x11.celsius.ensures,
-      x13.celsius2.ensures,
-      x15.celsius3.ensures,
-      x17.celsius4.ensures,
-      x19.celsius5.ensures,
-      c.celsius6.ensures,
+      x13.celsius-2.ensures,
+      x15.celsius-3.ensures,
+      x17.celsius-4.ensures,
+      x19.celsius-5.ensures,
+      c.celsius-6.ensures,
     ))
 
 pub spcc_spec : {M : Type 1} → statement M

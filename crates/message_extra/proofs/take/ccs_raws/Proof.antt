@@ -11,12 +11,12 @@ returns c =
     let x2 = c.before in
     let x1 = x2.before in
     let x0 = x1.before in
-    simp (to_z-of_z, sfits_of, x1.byte-raw.type-inv, x2.word-raw.type-inv, c.wide-raw.type-inv)
+    simp (to_z-of_z, sfits_of, x1.byte_raw.type_inv, x2.word_raw.type_inv, c.wide_raw.type_inv)
     (simp (
-      x0.pilot-number.ensures,
-      x1.byte-raw.ensures,
-      x2.word-raw.ensures,
-      c.wide-raw.ensures,
+      x0.pilot_number.ensures,
+      x1.byte_raw.ensures,
+      x2.word_raw.ensures,
+      c.wide_raw.ensures,
     ))
 
 pub ccs_raws_spec : {M : Type 1} → statement M

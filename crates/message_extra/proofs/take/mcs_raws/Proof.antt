@@ -12,13 +12,13 @@ returns c =
     let x2 = x3.before in
     let x1 = x2.before in
     let x0 = x1.before in
-    simp (to_z-of_z, sfits_of, x1.byte-raw.type-inv, x3.byte-raw2.type-inv, c.wide-raw.type-inv)
+    simp (to_z-of_z, sfits_of, x1.byte_raw.type_inv, x3.byte_raw-2.type_inv, c.wide_raw.type_inv)
     (simp (
-      x0.ce-number.ensures,
-      x1.byte-raw.ensures,
-      x2.mating-number.ensures,
-      x3.byte-raw2.ensures,
-      c.wide-raw.ensures,
+      x0.ce_number.ensures,
+      x1.byte_raw.ensures,
+      x2.mating_number.ensures,
+      x3.byte_raw-2.ensures,
+      c.wide_raw.ensures,
     ))
 
 pub mcs_raws_spec : {M : Type 1} → statement M

@@ -16,32 +16,32 @@ returns c =
     let x5 = x7.before.before in
     let x3 = x5.before.before in
     let x1 = x3.before.before in
-    simp (to_z-of_z, sfits_of, x15.celsius.type-inv, x17.celsius2.type-inv, x19.celsius3.type-inv, c.celsius4.type-inv)
+    simp (to_z-of_z, sfits_of, x15.celsius.type_inv, x17.celsius-2.type_inv, x19.celsius-3.type_inv, c.celsius-4.type_inv)
     (simp (
       to_z-of_z,
       sfits_of,
-      x1.before.flag-arg.given,
-      x3.before.flag-arg2.given,
-      x5.before.flag-arg3.given,
-      x7.before.flag-arg4.given,
-      x9.before.flag-arg5.given,
-      x11.before.flag-arg6.given,
-      x13.before.natural-arg.given,
-      x15.before.celsius-arg.given,
-      x17.before.celsius-arg2.given,
-      x19.before.celsius-arg3.given,
-      c.before.celsius-arg4.given,
+      x1.flag-arg-1.given,
+      x3.flag-arg-2-1.given,
+      x5.flag-arg-3-1.given,
+      x7.flag-arg-4-1.given,
+      x9.flag-arg-5-1.given,
+      x11.flag-arg-6-1.given,
+      x13.natural-arg-1.given,
+      x15.celsius-arg-1.given,
+      x17.celsius-arg-2-1.given,
+      x19.celsius-arg-3-1.given,
+      c.celsius-arg-4-1.given,
       x1.flag.ensures,
-      x3.flag2.ensures,
-      x5.flag3.ensures,
-      x7.flag4.ensures,
-      x9.flag5.ensures,
-      x11.flag6.ensures,
+      x3.flag-2.ensures,
+      x5.flag-3.ensures,
+      x7.flag-4.ensures,
+      x9.flag-5.ensures,
+      x11.flag-6.ensures,
       x13.natural.ensures,
       x15.celsius.ensures,
-      x17.celsius2.ensures,
-      x19.celsius3.ensures,
-      c.celsius4.ensures,
+      x17.celsius-2.ensures,
+      x19.celsius-3.ensures,
+      c.celsius-4.ensures,
     ))
 
 pub cui_spec : {M : Type 1} → statement M

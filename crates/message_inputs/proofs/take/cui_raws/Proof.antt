@@ -19,8 +19,8 @@ returns c =
     let x1 = x2.before in
     let x0 = x1.before in
     -- the message's signed fields fit
-    let g = x8.before.struct_told.given in
-    simp (to_z-of_z, sfits_of, x0.flag-raw.type-inv, x1.flag-raw2.type-inv, x2.flag-raw3.type-inv, x3.flag-raw4.type-inv, x4.flag-raw5.type-inv, x5.flag-raw6.type-inv, x6.wide-raw.type-inv, x8.celsius-raw.type-inv, x10.celsius-raw2.type-inv, x12.celsius-raw3.type-inv, c.celsius-raw4.type-inv)
+    let g = x8.struct_told-1.given in
+    simp (to_z-of_z, sfits_of, x0.flag_raw.type_inv, x1.flag_raw-2.type_inv, x2.flag_raw-3.type_inv, x3.flag_raw-4.type_inv, x4.flag_raw-5.type_inv, x5.flag_raw-6.type_inv, x6.wide_raw.type_inv, x8.celsius_raw.type_inv, x10.celsius_raw-2.type_inv, x12.celsius_raw-3.type_inv, c.celsius_raw-4.type_inv)
     (simp (
       to_z-of_z,
       sfits_of,
@@ -28,17 +28,17 @@ returns c =
       g.1.1.1.1.1.1.1.1.0.1,
       g.1.1.1.1.1.1.1.1.1.0.1,
       g.1.1.1.1.1.1.1.1.1.1.0.1,
-      x0.flag-raw.ensures,
-      x1.flag-raw2.ensures,
-      x2.flag-raw3.ensures,
-      x3.flag-raw4.ensures,
-      x4.flag-raw5.ensures,
-      x5.flag-raw6.ensures,
-      x6.wide-raw.ensures,
-      x8.celsius-raw.ensures,
-      x10.celsius-raw2.ensures,
-      x12.celsius-raw3.ensures,
-      c.celsius-raw4.ensures,
+      x0.flag_raw.ensures,
+      x1.flag_raw-2.ensures,
+      x2.flag_raw-3.ensures,
+      x3.flag_raw-4.ensures,
+      x4.flag_raw-5.ensures,
+      x5.flag_raw-6.ensures,
+      x6.wide_raw.ensures,
+      x8.celsius_raw.ensures,
+      x10.celsius_raw-2.ensures,
+      x12.celsius_raw-3.ensures,
+      c.celsius_raw-4.ensures,
     ))
 
 pub cui_raws_spec : {M : Type 1} → statement M

@@ -16,22 +16,22 @@ returns c =
     let x1 = x2.before in
     let x0 = x1.before in
     -- the message's signed fields fit
-    let g = x6.before.struct_told.given in
-    simp (to_z-of_z, sfits_of, x0.flag-raw.type-inv, x1.flag-raw2.type-inv, x2.flag-raw3.type-inv, x3.flag-raw4.type-inv, x4.wide-raw.type-inv, x6.celsius-raw.type-inv, x8.celsius-raw2.type-inv, c.celsius-raw3.type-inv)
+    let g = x6.struct_told-1.given in
+    simp (to_z-of_z, sfits_of, x0.flag_raw.type_inv, x1.flag_raw-2.type_inv, x2.flag_raw-3.type_inv, x3.flag_raw-4.type_inv, x4.wide_raw.type_inv, x6.celsius_raw.type_inv, x8.celsius_raw-2.type_inv, c.celsius_raw-3.type_inv)
     (simp (
       to_z-of_z,
       sfits_of,
       g.1.1.1.1.1.0.1,
       g.1.1.1.1.1.1.0.1,
       g.1.1.1.1.1.1.1.0.1,
-      x0.flag-raw.ensures,
-      x1.flag-raw2.ensures,
-      x2.flag-raw3.ensures,
-      x3.flag-raw4.ensures,
-      x4.wide-raw.ensures,
-      x6.celsius-raw.ensures,
-      x8.celsius-raw2.ensures,
-      c.celsius-raw3.ensures,
+      x0.flag_raw.ensures,
+      x1.flag_raw-2.ensures,
+      x2.flag_raw-3.ensures,
+      x3.flag_raw-4.ensures,
+      x4.wide_raw.ensures,
+      x6.celsius_raw.ensures,
+      x8.celsius_raw-2.ensures,
+      c.celsius_raw-3.ensures,
     ))
 
 pub secc_raws_spec : {M : Type 1} → statement M

@@ -20,8 +20,8 @@ returns c =
     let x1 = x2.before in
     let x0 = x1.before in
     -- the message's signed fields fit
-    let g = x0.before.struct_told.given in
-    simp (to_z-of_z, sfits_of, x0.short-raw.type-inv, x1.flag-raw.type-inv, x2.flag-raw2.type-inv, x3.short-raw2.type-inv, x4.flag-raw3.type-inv, x5.flag-raw4.type-inv, x6.short-raw3.type-inv, x7.flag-raw5.type-inv, x8.flag-raw6.type-inv, x9.short-raw4.type-inv, x10.flag-raw7.type-inv, c.flag-raw8.type-inv)
+    let g = x0.struct_told-1.given in
+    simp (to_z-of_z, sfits_of, x0.short_raw.type_inv, x1.flag_raw.type_inv, x2.flag_raw-2.type_inv, x3.short_raw-2.type_inv, x4.flag_raw-3.type_inv, x5.flag_raw-4.type_inv, x6.short_raw-3.type_inv, x7.flag_raw-5.type_inv, x8.flag_raw-6.type_inv, x9.short_raw-4.type_inv, x10.flag_raw-7.type_inv, c.flag_raw-8.type_inv)
     (simp (
       to_z-of_z,
       sfits_of,
@@ -29,18 +29,18 @@ returns c =
       g.1.1.1.0.1,
       g.1.1.1.1.1.1.0.1,
       g.1.1.1.1.1.1.1.1.1.0.1,
-      x0.short-raw.ensures,
-      x1.flag-raw.ensures,
-      x2.flag-raw2.ensures,
-      x3.short-raw2.ensures,
-      x4.flag-raw3.ensures,
-      x5.flag-raw4.ensures,
-      x6.short-raw3.ensures,
-      x7.flag-raw5.ensures,
-      x8.flag-raw6.ensures,
-      x9.short-raw4.ensures,
-      x10.flag-raw7.ensures,
-      c.flag-raw8.ensures,
+      x0.short_raw.ensures,
+      x1.flag_raw.ensures,
+      x2.flag_raw-2.ensures,
+      x3.short_raw-2.ensures,
+      x4.flag_raw-3.ensures,
+      x5.flag_raw-4.ensures,
+      x6.short_raw-3.ensures,
+      x7.flag_raw-5.ensures,
+      x8.flag_raw-6.ensures,
+      x9.short_raw-4.ensures,
+      x10.flag_raw-7.ensures,
+      c.flag_raw-8.ensures,
     ))
 
 pub probes_raws_spec : {M : Type 1} → statement M

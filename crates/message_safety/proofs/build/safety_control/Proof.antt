@@ -12,14 +12,14 @@ returns c =
     simp (
       to_z-of_z,
       sfits_of,
-      x0.before.duty-arg.given,
-      x1.before.flag-arg.given,
-      x2.before.flag-arg2.given,
-      c.before.flag-arg3.given,
+      x0.duty-arg-1.given,
+      x1.flag-arg-1.given,
+      x2.flag-arg-2-1.given,
+      c.flag-arg-3-1.given,
       x0.duty.ensures,
       x1.flag.ensures,
-      x2.flag2.ensures,
-      c.flag3.ensures,
+      x2.flag-2.ensures,
+      c.flag-3.ensures,
     )
 
 pub safety_control_spec : {M : Type 1} → statement M

@@ -11,12 +11,12 @@ returns c =
     let x2 = c.before in
     let x1 = x2.before in
     let x0 = x1.before in
-    simp (to_z-of_z, sfits_of, x0.word-raw.type-inv, x1.flag-raw.type-inv, x2.flag-raw2.type-inv, c.flag-raw3.type-inv)
+    simp (to_z-of_z, sfits_of, x0.word_raw.type_inv, x1.flag_raw.type_inv, x2.flag_raw-2.type_inv, c.flag_raw-3.type_inv)
     (simp (
-      x0.word-raw.ensures,
-      x1.flag-raw.ensures,
-      x2.flag-raw2.ensures,
-      c.flag-raw3.ensures,
+      x0.word_raw.ensures,
+      x1.flag_raw.ensures,
+      x2.flag_raw-2.ensures,
+      c.flag_raw-3.ensures,
     ))
 
 pub safety_control_raws_spec : {M : Type 1} → statement M

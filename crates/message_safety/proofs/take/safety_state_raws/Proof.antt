@@ -24,25 +24,25 @@ returns c =
     let x2 = x3.before in
     let x1 = x2.before in
     let x0 = x1.before in
-    simp (to_z-of_z, sfits_of, x0.word-raw.type-inv, x1.flag-raw.type-inv, x3.byte-raw.type-inv, x4.flag-raw2.type-inv, x5.flag-raw3.type-inv, x7.byte-raw2.type-inv, x8.flag-raw4.type-inv, x9.flag-raw5.type-inv, x10.flag-raw6.type-inv, x11.flag-raw7.type-inv, x12.flag-raw8.type-inv, x13.flag-raw9.type-inv, x14.flag-raw10.type-inv, x15.flag-raw11.type-inv, c.flag-raw12.type-inv)
+    simp (to_z-of_z, sfits_of, x0.word_raw.type_inv, x1.flag_raw.type_inv, x3.byte_raw.type_inv, x4.flag_raw-2.type_inv, x5.flag_raw-3.type_inv, x7.byte_raw-2.type_inv, x8.flag_raw-4.type_inv, x9.flag_raw-5.type_inv, x10.flag_raw-6.type_inv, x11.flag_raw-7.type_inv, x12.flag_raw-8.type_inv, x13.flag_raw-9.type_inv, x14.flag_raw-10.type_inv, x15.flag_raw-11.type_inv, c.flag_raw-12.type_inv)
     (simp (
-      x0.word-raw.ensures,
-      x1.flag-raw.ensures,
-      x2.cp-number.ensures,
-      x3.byte-raw.ensures,
-      x4.flag-raw2.ensures,
-      x5.flag-raw3.ensures,
-      x6.pp-number.ensures,
-      x7.byte-raw2.ensures,
-      x8.flag-raw4.ensures,
-      x9.flag-raw5.ensures,
-      x10.flag-raw6.ensures,
-      x11.flag-raw7.ensures,
-      x12.flag-raw8.ensures,
-      x13.flag-raw9.ensures,
-      x14.flag-raw10.ensures,
-      x15.flag-raw11.ensures,
-      c.flag-raw12.ensures,
+      x0.word_raw.ensures,
+      x1.flag_raw.ensures,
+      x2.cp_number.ensures,
+      x3.byte_raw.ensures,
+      x4.flag_raw-2.ensures,
+      x5.flag_raw-3.ensures,
+      x6.pp_number.ensures,
+      x7.byte_raw-2.ensures,
+      x8.flag_raw-4.ensures,
+      x9.flag_raw-5.ensures,
+      x10.flag_raw-6.ensures,
+      x11.flag_raw-7.ensures,
+      x12.flag_raw-8.ensures,
+      x13.flag_raw-9.ensures,
+      x14.flag_raw-10.ensures,
+      x15.flag_raw-11.ensures,
+      c.flag_raw-12.ensures,
     ))
 
 pub safety_state_raws_spec : {M : Type 1} → statement M

@@ -13,15 +13,15 @@ returns c =
     simp (
       to_z-of_z,
       sfits_of,
-      x1.before.flag-arg.given,
-      x3.before.flag-arg2.given,
-      x5.before.flag-arg3.given,
-      x7.before.flag-arg4.given,
-      c.before.natural-arg.given,
+      x1.flag-arg-1.given,
+      x3.flag-arg-2-1.given,
+      x5.flag-arg-3-1.given,
+      x7.flag-arg-4-1.given,
+      c.natural-arg-1.given,
       x1.flag.ensures,
-      x3.flag2.ensures,
-      x5.flag3.ensures,
-      x7.flag4.ensures,
+      x3.flag-2.ensures,
+      x5.flag-3.ensures,
+      x7.flag-4.ensures,
       c.natural.ensures,
     )
 

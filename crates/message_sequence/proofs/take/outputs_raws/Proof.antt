@@ -12,13 +12,13 @@ returns c =
     let x2 = x3.before in
     let x1 = x2.before in
     let x0 = x1.before in
-    simp (to_z-of_z, sfits_of, x0.flag-raw.type-inv, x1.flag-raw2.type-inv, x2.flag-raw3.type-inv, x3.flag-raw4.type-inv, c.wide-raw.type-inv)
+    simp (to_z-of_z, sfits_of, x0.flag_raw.type_inv, x1.flag_raw-2.type_inv, x2.flag_raw-3.type_inv, x3.flag_raw-4.type_inv, c.wide_raw.type_inv)
     (simp (
-      x0.flag-raw.ensures,
-      x1.flag-raw2.ensures,
-      x2.flag-raw3.ensures,
-      x3.flag-raw4.ensures,
-      c.wide-raw.ensures,
+      x0.flag_raw.ensures,
+      x1.flag_raw-2.ensures,
+      x2.flag_raw-3.ensures,
+      x3.flag_raw-4.ensures,
+      c.wide_raw.ensures,
     ))
 
 pub outputs_raws_spec : {M : Type 1} → statement M

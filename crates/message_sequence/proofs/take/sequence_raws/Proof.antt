@@ -19,20 +19,20 @@ returns c =
     let x2 = x3.before in
     let x1 = x2.before in
     let x0 = x1.before in
-    simp (to_z-of_z, sfits_of, x1.byte-raw.type-inv, x3.byte-raw2.type-inv, x5.byte-raw3.type-inv, x7.byte-raw4.type-inv, x9.byte-raw5.type-inv, c.byte-raw6.type-inv)
+    simp (to_z-of_z, sfits_of, x1.byte_raw.type_inv, x3.byte_raw-2.type_inv, x5.byte_raw-3.type_inv, x7.byte_raw-4.type_inv, x9.byte_raw-5.type_inv, c.byte_raw-6.type_inv)
     (simp (
-      x0.permission-number.ensures,
-      x1.byte-raw.ensures,
-      x2.button-number.ensures,
-      x3.byte-raw2.ensures,
-      x4.step-number.ensures,
-      x5.byte-raw3.ensures,
-      x6.validity-number.ensures,
-      x7.byte-raw4.ensures,
-      x8.step-number2.ensures,
-      x9.byte-raw5.ensures,
-      x10.button-number2.ensures,
-      c.byte-raw6.ensures,
+      x0.permission_number.ensures,
+      x1.byte_raw.ensures,
+      x2.button_number.ensures,
+      x3.byte_raw-2.ensures,
+      x4.step_number.ensures,
+      x5.byte_raw-3.ensures,
+      x6.validity_number.ensures,
+      x7.byte_raw-4.ensures,
+      x8.step_number-2.ensures,
+      x9.byte_raw-5.ensures,
+      x10.button_number-2.ensures,
+      c.byte_raw-6.ensures,
     ))
 
 pub sequence_raws_spec : {M : Type 1} → statement M

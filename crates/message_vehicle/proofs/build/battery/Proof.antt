@@ -13,16 +13,16 @@ returns c =
     simp (
       to_z-of_z,
       sfits_of,
-      x0.before.word_arg.given,
-      x1.before.byte-arg.given,
-      x2.before.byte-arg2.given,
-      x3.before.byte-arg3.given,
-      c.before.byte-arg4.given,
+      x0.word-arg-1.given,
+      x1.byte-arg-1.given,
+      x2.byte-arg-2-1.given,
+      x3.byte-arg-3-1.given,
+      c.byte-arg-4-1.given,
       x0.word.ensures,
       x1.byte.ensures,
-      x2.byte2.ensures,
-      x3.byte3.ensures,
-      c.byte4.ensures,
+      x2.byte-2.ensures,
+      x3.byte-3.ensures,
+      c.byte-4.ensures,
     )
 
 pub battery_spec : {M : Type 1} → statement M

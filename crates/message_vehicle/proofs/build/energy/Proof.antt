@@ -8,16 +8,16 @@ returns : tie.Need-returns
 returns c =
     let x1 = c.before.before in
     let x0 = x1.before.before in
-    simp (to_z-of_z, sfits_of, x0.short.type-inv, x1.short2.type-inv, c.short3.type-inv)
+    simp (to_z-of_z, sfits_of, x0.short.type_inv, x1.short-2.type_inv, c.short-3.type_inv)
     (simp (
       to_z-of_z,
       sfits_of,
-      x0.before.short-arg.given,
-      x1.before.short-arg2.given,
-      c.before.short-arg3.given,
+      x0.short-arg-1.given,
+      x1.short-arg-2-1.given,
+      c.short-arg-3-1.given,
       x0.short.ensures,
-      x1.short2.ensures,
-      c.short3.ensures,
+      x1.short-2.ensures,
+      c.short-3.ensures,
     ))
 
 pub energy_spec : {M : Type 1} → statement M

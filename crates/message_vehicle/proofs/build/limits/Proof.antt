@@ -12,14 +12,14 @@ returns c =
     simp (
       to_z-of_z,
       sfits_of,
-      x0.before.word_arg.given,
-      x1.before.word-arg2.given,
-      x2.before.word-arg3.given,
-      c.before.word-arg4.given,
+      x0.word-arg-1.given,
+      x1.word-arg-2-1.given,
+      x2.word-arg-3-1.given,
+      c.word-arg-4-1.given,
       x0.word.ensures,
-      x1.word2.ensures,
-      x2.word3.ensures,
-      c.word4.ensures,
+      x1.word-2.ensures,
+      x2.word-3.ensures,
+      c.word-4.ensures,
     )
 
 pub limits_spec : {M : Type 1} → statement M

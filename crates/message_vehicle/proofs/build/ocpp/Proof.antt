@@ -6,11 +6,11 @@ use Rattle.message_vehicle.proofs.build.ocpp.Tie as tie
 
 returns : tie.Need-returns
 returns c =
-    simp (to_z-of_z, sfits_of, c.short.type-inv)
+    simp (to_z-of_z, sfits_of, c.short.type_inv)
     (simp (
       to_z-of_z,
       sfits_of,
-      c.before.short-arg.given,
+      c.short-arg-1.given,
       c.short.ensures,
     ))
 

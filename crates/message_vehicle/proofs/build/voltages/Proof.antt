@@ -11,12 +11,12 @@ returns c =
     simp (
       to_z-of_z,
       sfits_of,
-      x0.before.word_arg.given,
-      x1.before.word-arg2.given,
-      c.before.word-arg3.given,
+      x0.word-arg-1.given,
+      x1.word-arg-2-1.given,
+      c.word-arg-3-1.given,
       x0.word.ensures,
-      x1.word2.ensures,
-      c.word3.ensures,
+      x1.word-2.ensures,
+      c.word-3.ensures,
     )
 
 pub voltages_spec : {M : Type 1} → statement M

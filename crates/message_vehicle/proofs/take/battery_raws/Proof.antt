@@ -12,13 +12,13 @@ returns c =
     let x2 = x3.before in
     let x1 = x2.before in
     let x0 = x1.before in
-    simp (to_z-of_z, sfits_of, x0.word-raw.type-inv, x1.byte-raw.type-inv, x2.byte-raw2.type-inv, x3.byte-raw3.type-inv, c.byte-raw4.type-inv)
+    simp (to_z-of_z, sfits_of, x0.word_raw.type_inv, x1.byte_raw.type_inv, x2.byte_raw-2.type_inv, x3.byte_raw-3.type_inv, c.byte_raw-4.type_inv)
     (simp (
-      x0.word-raw.ensures,
-      x1.byte-raw.ensures,
-      x2.byte-raw2.ensures,
-      x3.byte-raw3.ensures,
-      c.byte-raw4.ensures,
+      x0.word_raw.ensures,
+      x1.byte_raw.ensures,
+      x2.byte_raw-2.ensures,
+      x3.byte_raw-3.ensures,
+      c.byte_raw-4.ensures,
     ))
 
 pub battery_raws_spec : {M : Type 1} → statement M

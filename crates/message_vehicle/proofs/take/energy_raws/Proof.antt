@@ -11,17 +11,17 @@ returns c =
     let x1 = c.before.before in
     let x0 = x1.before.before in
     -- the message's signed fields fit
-    let g = x0.before.struct_told.given in
-    simp (to_z-of_z, sfits_of, x0.short-raw.type-inv, x1.short-raw2.type-inv, c.short-raw3.type-inv)
+    let g = x0.struct_told-1.given in
+    simp (to_z-of_z, sfits_of, x0.short_raw.type_inv, x1.short_raw-2.type_inv, c.short_raw-3.type_inv)
     (simp (
       to_z-of_z,
       sfits_of,
       g.0.1,
       g.1.0.1,
       g.1.1.0.1,
-      x0.short-raw.ensures,
-      x1.short-raw2.ensures,
-      c.short-raw3.ensures,
+      x0.short_raw.ensures,
+      x1.short_raw-2.ensures,
+      c.short_raw-3.ensures,
     ))
 
 pub energy_raws_spec : {M : Type 1} → statement M

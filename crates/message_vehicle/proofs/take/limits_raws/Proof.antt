@@ -11,12 +11,12 @@ returns c =
     let x2 = c.before in
     let x1 = x2.before in
     let x0 = x1.before in
-    simp (to_z-of_z, sfits_of, x0.word-raw.type-inv, x1.word-raw2.type-inv, x2.word-raw3.type-inv, c.word-raw4.type-inv)
+    simp (to_z-of_z, sfits_of, x0.word_raw.type_inv, x1.word_raw-2.type_inv, x2.word_raw-3.type_inv, c.word_raw-4.type_inv)
     (simp (
-      x0.word-raw.ensures,
-      x1.word-raw2.ensures,
-      x2.word-raw3.ensures,
-      c.word-raw4.ensures,
+      x0.word_raw.ensures,
+      x1.word_raw-2.ensures,
+      x2.word_raw-3.ensures,
+      c.word_raw-4.ensures,
     ))
 
 pub limits_raws_spec : {M : Type 1} → statement M

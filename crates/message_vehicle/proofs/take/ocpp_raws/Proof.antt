@@ -9,13 +9,13 @@ returns : tie.Need-returns
 unfolding pad
 returns c =
     -- the message's signed fields fit
-    let g = c.before.struct_told.given in
-    simp (to_z-of_z, sfits_of, c.short-raw.type-inv)
+    let g = c.struct_told-1.given in
+    simp (to_z-of_z, sfits_of, c.short_raw.type_inv)
     (simp (
       to_z-of_z,
       sfits_of,
       g.0.1,
-      c.short-raw.ensures,
+      c.short_raw.ensures,
     ))
 
 pub ocpp_raws_spec : {M : Type 1} → statement M

@@ -10,11 +10,11 @@ unfolding pad
 returns c =
     let x1 = c.before in
     let x0 = x1.before in
-    simp (to_z-of_z, sfits_of, x0.word-raw.type-inv, x1.word-raw2.type-inv, c.word-raw3.type-inv)
+    simp (to_z-of_z, sfits_of, x0.word_raw.type_inv, x1.word_raw-2.type_inv, c.word_raw-3.type_inv)
     (simp (
-      x0.word-raw.ensures,
-      x1.word-raw2.ensures,
-      c.word-raw3.ensures,
+      x0.word_raw.ensures,
+      x1.word_raw-2.ensures,
+      c.word_raw-3.ensures,
     ))
 
 pub voltages_raws_spec : {M : Type 1} → statement M

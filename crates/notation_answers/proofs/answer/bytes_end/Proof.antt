@@ -11,31 +11,25 @@ use Rattle.notation_answers.proofs.answer.bytes_end.Tie as tie
 slice-aggregate-put : tie.Need-slice-aggregate-put
 slice-aggregate-put c = search rules
 
-put-requires : tie.Need-put-requires
-put-requires c κs = search rules
+put-p-requires : tie.Need-put-p-requires
+put-p-requires c κs = search rules
 
-put-hex-requires : tie.Need-put-hex-requires
-put-hex-requires c κs = search rules
+put_hex-q-requires : tie.Need-put_hex-q-requires
+put_hex-q-requires c κs = search rules
 
-line-end-requires : tie.Need-line-end-requires
-line-end-requires c κs = search rules
+line_end-requires : tie.Need-line_end-requires
+line_end-requires c κs = search rules
 
-same_length : tie.Need-same-length
-same_length c = search rules
+shape_of-out : tie.Need-shape_of-out
+shape_of-out c = search rules
 
 returns : tie.Need-returns
 returns c =
-    let a = c.before.before.before.before.before.before.before.before.before.before.before.before.before.before.before.args in
+    let a = c.args in
     let bs = hex_words a.bytes.now in
-    then a.out.now a.pen ((space ∷ []) ∷ []) (bs ++ end_words) (one _ _ _ c.before.before.before.before.before.before.before.before.before.before.put.ensures) (then _ _ bs end_words c.before.before.before.before.before.before.put-hex.ensures c.before.before.line-end.ensures)
+    then a.out.now a.pen ((space ∷ []) ∷ []) (bs ++ end_words) (one _ _ _ c.put-p.ensures) (then _ _ bs end_words c.put_hex-q.ensures c.line_end.ensures)
 
 pub bytes_end_spec : {M : Type 1} → statement M
 bytes_end_spec =
     tie.close
-    (tie.spec
-    slice-aggregate-put
-    put-requires
-    put-hex-requires
-    line-end-requires
-    same_length
-    returns)
+    (tie.spec put-p-requires put_hex-q-requires line_end-requires shape_of-out returns)

@@ -10,11 +10,11 @@ slice-aggregate-put c = search rules
 put-requires : tie.Need-put-requires
 put-requires c κs = search rules
 
-same_length : tie.Need-same-length
-same_length c = search rules
+shape_of-out : tie.Need-shape_of-out
+shape_of-out c = search rules
 
 returns : tie.Need-returns
-returns c = one c.before.before.before.before.before.before.args.out.now c.before.before.before.before.before.before.args.pen _ c.before.before.put.ensures
+returns c = one c.args.out.now c.args.pen _ c.put.ensures
 
 pub line_end_spec : {M : Type 1} → statement M
-line_end_spec = tie.close (tie.spec slice-aggregate-put put-requires same_length returns)
+line_end_spec = tie.close (tie.spec put-requires shape_of-out returns)

@@ -5,19 +5,19 @@ use borrow.Author.Rules.{rules}
 use Rattle.notation_answers.proofs.answer.refusal.Statement.{statement}
 use Rattle.notation_answers.proofs.answer.refusal.Tie as tie
 
-refusal-name-requires : tie.Need-refusal-name-requires
-refusal-name-requires c κs = search rules
+refusal_name-p-requires : tie.Need-refusal_name-p-requires
+refusal_name-p-requires c κs = search rules
 
-line-end-requires : tie.Need-line-end-requires
-line-end-requires c κs = search rules
+line_end-requires : tie.Need-line_end-requires
+line_end-requires c κs = search rules
 
-same_length : tie.Need-same-length
-same_length c = search rules
+shape_of-out : tie.Need-shape_of-out
+shape_of-out c = search rules
 
 returns : tie.Need-returns
 returns c =
-    let a = c.before.before.before.before.before.before.before.before.before.args in
-    then a.out.now a.pen (refusal_words a.w) end_words c.before.before.before.before.before.before.refusal-name.ensures c.before.before.line-end.ensures
+    let a = c.args in
+    then a.out.now a.pen (refusal_words a.w) end_words c.refusal_name-p.ensures c.line_end.ensures
 
 pub refusal_spec : {M : Type 1} → statement M
-refusal_spec = tie.close (tie.spec refusal-name-requires line-end-requires same_length returns)
+refusal_spec = tie.close (tie.spec refusal_name-p-requires line_end-requires shape_of-out returns)

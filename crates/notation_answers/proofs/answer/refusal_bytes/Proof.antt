@@ -5,20 +5,20 @@ use borrow.Author.Rules.{rules}
 use Rattle.notation_answers.proofs.answer.refusal_bytes.Statement.{statement}
 use Rattle.notation_answers.proofs.answer.refusal_bytes.Tie as tie
 
-refusal-name-requires : tie.Need-refusal-name-requires
-refusal-name-requires c κs = search rules
+refusal_name-p-requires : tie.Need-refusal_name-p-requires
+refusal_name-p-requires c κs = search rules
 
-bytes-end-requires : tie.Need-bytes-end-requires
-bytes-end-requires c κs = search rules
+bytes_end-requires : tie.Need-bytes_end-requires
+bytes_end-requires c κs = search rules
 
-same_length : tie.Need-same-length
-same_length c = search rules
+shape_of-out : tie.Need-shape_of-out
+shape_of-out c = search rules
 
 returns : tie.Need-returns
 returns c =
-    let a = c.before.before.before.before.before.before.before.before.before.before.args in
-    then a.out.now a.pen (refusal_words a.w) (bytes_words a.bytes.now) c.before.before.before.before.before.before.refusal-name.ensures c.before.before.bytes-end.ensures
+    let a = c.args in
+    then a.out.now a.pen (refusal_words a.w) (bytes_words a.bytes.now) c.refusal_name-p.ensures c.bytes_end.ensures
 
 pub refusal_bytes_spec : {M : Type 1} → statement M
 refusal_bytes_spec =
-    tie.close (tie.spec refusal-name-requires bytes-end-requires same_length returns)
+    tie.close (tie.spec refusal_name-p-requires bytes_end-requires shape_of-out returns)

@@ -23,33 +23,26 @@ slice-aggregate-put c = search rules
 put-requires : tie.Need-put-requires
 put-requires c κs = search rules
 
-same_length : tie.Need-same-length
-same_length c = search rules
+shape_of-out-then-word-lt65536 : tie.Need-shape_of-out-then-word-lt65536
+shape_of-out-then-word-lt65536 c = search rules
+
+returns-then-word-lt65536 : tie.Need-returns-then-word-lt65536
+returns-then-word-lt65536 c =
+    let a = c.args in
+    like a.out.now a.pen (accepted a.word c.if-word-lt65536.true) (one a.out.now a.pen (capital_a ∷ line_feed ∷ []) c.put.ensures)
+
+refused_word-requires : tie.Need-refused_word-requires
+refused_word-requires c κs = search rules
+
+shape_of-out : tie.Need-shape_of-out
+shape_of-out c = search rules
 
 returns : tie.Need-returns
 returns c =
-    let a = c.before.before.before.before.before.before.before.args in
-    like a.out.now a.pen (accepted a.word c.before.before.before.before.before.if1.true) (one a.out.now a.pen (capital_a ∷ line_feed ∷ []) c.before.before.put.ensures)
-
-refused-word-requires : tie.Need-refused-word-requires
-refused-word-requires c κs = search rules
-
-same-length-2 : tie.Need-same-length-2
-same-length-2 c = search rules
-
-returns-2 : tie.Need-returns-2
-returns-2 c =
-    let a = c.before.before.before.before.before.before.args in
-    like a.out.now a.pen (refused a.word c.before.before.before.before.if1.false) c.before.before.refused-word.ensures
+    let a = c.args in
+    like a.out.now a.pen (refused a.word c.if-word-lt65536.false) c.refused_word.ensures
 
 pub setting_spec : {M : Type 1} → statement M
 setting_spec =
     tie.close
-    (tie.spec
-    slice-aggregate-put
-    put-requires
-    same_length
-    returns
-    refused-word-requires
-    same-length-2
-    returns-2)
+    (tie.spec put-requires shape_of-out-then-word-lt65536 returns-then-word-lt65536 refused_word-requires shape_of-out returns)

@@ -13,41 +13,33 @@ use Rattle.notation_endings.proofs.ending.bad.Tie as tie
 slice-aggregate-named : tie.Need-slice-aggregate-named
 slice-aggregate-named c = search rules
 
-refusal-number-requires : tie.Need-refusal-number-requires
-refusal-number-requires c κs = search rules
+refusal_number-requires : tie.Need-refusal_number-requires
+refusal_number-requires c κs = search rules
 
-named-requires : tie.Need-named-requires
-named-requires c κs = search rules
+named-p-requires : tie.Need-named-p-requires
+named-p-requires c κs = search rules
 
 slice-aggregate-put : tie.Need-slice-aggregate-put
 slice-aggregate-put c = search rules
 
-put-requires : tie.Need-put-requires
-put-requires c κs = search rules
+put-q-requires : tie.Need-put-q-requires
+put-q-requires c κs = search rules
 
-put-decimal-requires : tie.Need-put-decimal-requires
-put-decimal-requires c κs = search rules
+put_decimal-requires : tie.Need-put_decimal-requires
+put_decimal-requires c κs = search rules
 
-same_length : tie.Need-same-length
-same_length c = search rules
+shape_of-out : tie.Need-shape_of-out
+shape_of-out c = search rules
 
 returns : tie.Need-returns
 returns c =
-    let a = c.before.before.before.before.before.before.before.before.before.before.before.before.before.before.before.before.args in
-    let number = c.before.before.before.before.before.before.before.before.before.before.before.before.refusal-number.ensures in
-    let named = c.before.before.before.before.before.before.before.before.before.before.before.named.ensures in
+    let a = c.args in
+    let number = c.refusal_number.ensures in
+    let named = c.named-p.ensures in
     then a.out.now a.pen (named_words bad_name (number_of a.why)) (named_words at_sign a.at) (like a.out.now a.pen (ap (named_words bad_name) number) named)
-    (then _ _ (at_sign ∷ []) (numeral 10 a.at ∷ []) (one _ _ _ c.before.before.before.before.before.before.put.ensures) (one _ _ _ c.before.before.put-decimal.ensures))
+    (then _ _ (at_sign ∷ []) (numeral 10 a.at ∷ []) (one _ _ _ c.put-q.ensures) (one _ _ _ c.put_decimal.ensures))
 
 pub bad_spec : {M : Type 1} → statement M
 bad_spec =
     tie.close
-    (tie.spec
-    slice-aggregate-named
-    refusal-number-requires
-    named-requires
-    slice-aggregate-put
-    put-requires
-    put-decimal-requires
-    same_length
-    returns)
+    (tie.spec refusal_number-requires named-p-requires put-q-requires put_decimal-requires shape_of-out returns)

@@ -10,20 +10,20 @@ use Rattle.notation_endings.proofs.ending.cut.Tie as tie
 slice-aggregate-put : tie.Need-slice-aggregate-put
 slice-aggregate-put c = search rules
 
-put-requires : tie.Need-put-requires
-put-requires c κs = search rules
+put-p-requires : tie.Need-put-p-requires
+put-p-requires c κs = search rules
 
-put-decimal-requires : tie.Need-put-decimal-requires
-put-decimal-requires c κs = search rules
+put_decimal-requires : tie.Need-put_decimal-requires
+put_decimal-requires c κs = search rules
 
-same_length : tie.Need-same-length
-same_length c = search rules
+shape_of-out : tie.Need-shape_of-out
+shape_of-out c = search rules
 
 returns : tie.Need-returns
 returns c =
-    let a = c.before.before.before.before.before.before.before.before.before.before.args in
-    then a.out.now a.pen (cut_name ∷ []) (numeral 10 a.at ∷ []) (one _ _ _ c.before.before.before.before.before.before.put.ensures) (one _ _ _ c.before.before.put-decimal.ensures)
+    let a = c.args in
+    then a.out.now a.pen (cut_name ∷ []) (numeral 10 a.at ∷ []) (one _ _ _ c.put-p.ensures) (one _ _ _ c.put_decimal.ensures)
 
 pub cut_spec : {M : Type 1} → statement M
 cut_spec =
-    tie.close (tie.spec slice-aggregate-put put-requires put-decimal-requires same_length returns)
+    tie.close (tie.spec put-p-requires put_decimal-requires shape_of-out returns)

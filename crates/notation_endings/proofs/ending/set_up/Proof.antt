@@ -10,21 +10,21 @@ use Rattle.notation_endings.proofs.ending.set_up.Tie as tie
 slice-aggregate-named : tie.Need-slice-aggregate-named
 slice-aggregate-named c = search rules
 
-refusal-number-requires : tie.Need-refusal-number-requires
-refusal-number-requires c κs = search rules
+refusal_number-requires : tie.Need-refusal_number-requires
+refusal_number-requires c κs = search rules
 
 named-requires : tie.Need-named-requires
 named-requires c κs = search rules
 
-same_length : tie.Need-same-length
-same_length c = search rules
+shape_of-out : tie.Need-shape_of-out
+shape_of-out c = search rules
 
 returns : tie.Need-returns
 returns c =
-    let a = c.before.before.before.before.before.before.before.args in
-    like a.out.now a.pen (ap (named_words set_up_name) c.before.before.before.refusal-number.ensures) c.before.before.named.ensures
+    let a = c.args in
+    like a.out.now a.pen (ap (named_words set_up_name) c.refusal_number.ensures) c.named.ensures
 
 pub set_up_spec : {M : Type 1} → statement M
 set_up_spec =
     tie.close
-    (tie.spec slice-aggregate-named refusal-number-requires named-requires same_length returns)
+    (tie.spec refusal_number-requires named-requires shape_of-out returns)

@@ -5,46 +5,37 @@ use borrow.Author.Rules.{rules}
 use Rattle.notation_read.proofs.fields.take_head.Statement.{statement}
 use Rattle.notation_read.proofs.fields.take_head.Tie as tie
 
-take-id-requires : tie.Need-take-id-requires
-take-id-requires c κs = search rules
+take_id-requires : tie.Need-take_id-requires
+take_id-requires c κs = search rules
 
-enum-known-id : tie.Need-enum-known-id
-enum-known-id c = search rules
+enum_known-id : tie.Need-enum_known-id
+enum_known-id c = search rules
 
-enum_told : tie.Need-enum-told
-enum_told c = search rules
+enum_told-1 : tie.Need-enum_told-1
+enum_told-1 c = search rules
+
+returns-in_default : tie.Need-returns-in_default
+unfolding head_of
+returns-in_default c = ap (with_id c.args.s.now) (sym c.in_default.is ∙ c.take_id.ensures)
+
+take_form-requires : tie.Need-take_form-requires
+take_form-requires c κs = search rules
+
+enum_known-form : tie.Need-enum_known-form
+enum_known-form c = search rules
+
+enum_told-in_default-take_form : tie.Need-enum_told-in_default-take_form
+enum_told-in_default-take_form c = search rules
+
+returns-in_default-take_form : tie.Need-returns-in_default-take_form
+unfolding head_of
+returns-in_default-take_form c = ap (with_form c.in-Is.id) (sym c.in_default-take_form.is ∙ c.take_form.ensures) ∙ ap (with_id c.args.s.now) (sym c.in-Is.is ∙ c.take_id.ensures)
 
 returns : tie.Need-returns
 unfolding head_of
-returns c = ap (with_id c.before.before.before.before.args.s.now) (sym c.enum_told.given.1 ∙ c.before.before.take-id.ensures)
-
-take-form-requires : tie.Need-take-form-requires
-take-form-requires c κs = search rules
-
-enum-known-form : tie.Need-enum-known-form
-enum-known-form c = search rules
-
-enum-told-2 : tie.Need-enum-told-2
-enum-told-2 c = search rules
-
-returns-2 : tie.Need-returns-2
-unfolding head_of
-returns-2 c = ap (with_form c.before.before.before.before.id.given.0.0) (sym c.enum-told2.given.1 ∙ c.before.before.take-form.ensures) ∙ ap (with_id c.before.before.before.before.before.before.before.before.args.s.now) (sym c.before.before.before.before.id.given.1 ∙ c.before.before.before.before.before.before.take-id.ensures)
-
-returns-3 : tie.Need-returns-3
-unfolding head_of
-returns-3 c = ap (with_form c.before.before.before.before.before.id.given.0.0) (sym c.before.form.given.1 ∙ c.before.before.before.take-form.ensures) ∙ ap (with_id c.before.before.before.before.before.before.before.before.before.args.s.now) (sym c.before.before.before.before.before.id.given.1 ∙ c.before.before.before.before.before.before.before.take-id.ensures)
+returns c = ap (with_form c.in-Is.id) (sym c.in-Is-take_form.is ∙ c.take_form.ensures) ∙ ap (with_id c.args.s.now) (sym c.in-Is.is ∙ c.take_id.ensures)
 
 pub take_head_spec : {M : Type 1} → statement M
 take_head_spec =
     tie.close
-    (tie.spec
-    take-id-requires
-    enum-known-id
-    enum_told
-    returns
-    take-form-requires
-    enum-known-form
-    enum-told-2
-    returns-2
-    returns-3)
+    (tie.spec take_id-requires enum_known-id enum_told-1 returns-in_default take_form-requires enum_known-form enum_told-in_default-take_form returns-in_default-take_form returns)

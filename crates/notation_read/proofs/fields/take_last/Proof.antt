@@ -9,34 +9,34 @@ use Rattle.notation_read.proofs.fields.take_last.Statement.{statement}
 use Rattle.notation_read.proofs.fields.take_last.Tie as tie
 
 -- by the variant that the field was told as
-told : {b : Field} (c : tie.After-take-u32) → c.take-u32.result ≡ b → last_by c.before.before.args.s.now b ≡ last_of c.before.before.args.s.now c.before.before.args.at
+told : {b : Field} (c : tie.After-take_u32) → c.take_u32.result ≡ b → last_by c.args.s.now b ≡ last_of c.args.s.now c.args.at
 unfolding last_of
-told c e = ap (last_by c.before.before.args.s.now) (sym e ∙ c.take-u32.ensures)
+told c e = ap (last_by c.args.s.now) (sym e ∙ c.take_u32.ensures)
 
-take-u32-requires : tie.Need-take-u32-requires
-take-u32-requires c κs = search rules
+take_u32-requires : tie.Need-take_u32-requires
+take_u32-requires c κs = search rules
 
-enum-known-n : tie.Need-enum-known-n
-enum-known-n c = search rules
+enum_known-n : tie.Need-enum_known-n
+enum_known-n c = search rules
 
-enum_told : tie.Need-enum-told
-enum_told c = search rules
+enum_told-1 : tie.Need-enum_told-1
+enum_told-1 c = search rules
+
+returns-in_default : tie.Need-returns-in_default
+returns-in_default c = told c.before.before c.in_default.is
+
+returns-then-next-s : tie.Need-returns-then-next-s
+returns-then-next-s c =
+    let k = c.n-1.given in
+    let s = c.args.s.now in
+    rw (← told c.before.before.before.before k.1, le-leb k.0.1.0 (length s) c.if-next-s.true)
 
 returns : tie.Need-returns
-returns c = told c.before.before c.enum_told.given.1
-
-returns-2 : tie.Need-returns-2
-returns-2 c =
-    let k = c.before.before.n.given in
-    let s = c.before.before.before.before.before.before.args.s.now in
-    rw (← told c.before.before.before.before k.1, le-leb k.0.1.0 (length s) c.if1.true)
-
-returns-3 : tie.Need-returns-3
-returns-3 c =
-    let k = c.before.before.n.given in
-    let s = c.before.before.before.before.before.before.args.s.now in
-    rw (← told c.before.before.before.before k.1, lt-leb k.0.1.0 (length s) c.if1.false)
+returns c =
+    let k = c.n-1.given in
+    let s = c.args.s.now in
+    rw (← told c.before.before.before.before k.1, lt-leb k.0.1.0 (length s) c.if-next-s.false)
 
 pub take_last_spec : {M : Type 1} → statement M
 take_last_spec =
-    tie.close (tie.spec take-u32-requires enum-known-n enum_told returns returns-2 returns-3)
+    tie.close (tie.spec take_u32-requires enum_known-n enum_told-1 returns-in_default returns-then-next-s returns)

@@ -17,47 +17,40 @@ in_line : (s room : List ℕ) (at : ℕ) → at ≤ length s
 unfolding rest_of rest_in
 in_line s room at h = (rw (le-leb at (length s) h), rw (le-leb at (length s) h))
 
-returns : tie.Need-returns
+returns-then-at-s : tie.Need-returns-then-at-s
 unfolding rest_of rest_in
-returns c =
-    let a = c.before.before.before.args in
-    let e = lt-leb a.at (length a.s.now) c.if1.true in
+returns-then-at-s c =
+    let a = c.args in
+    let e = lt-leb a.at (length a.s.now) c.if-at-s.true in
     (rw e, rw e)
 
-sub-hex-bytes : tie.Need-overflow-sub-hex-bytes
-sub-hex-bytes c = search rules
+slice_bounds-hex_bytes-count : tie.Need-slice_bounds-hex_bytes-count
+slice_bounds-hex_bytes-count c = search rules
 
-part-hex-bytes-start : tie.Need-slice-bounds-hex-bytes-start
-part-hex-bytes-start c = search rules
+slice_bounds-hex_bytes-start : tie.Need-slice_bounds-hex_bytes-start
+slice_bounds-hex_bytes-start c = search rules
 
-part-hex-bytes-end : tie.Need-slice-bounds-hex-bytes-end
-part-hex-bytes-end c = search rules
+slice_bounds-hex_bytes-end : tie.Need-slice_bounds-hex_bytes-end
+slice_bounds-hex_bytes-end c = search rules
 
-hex-bytes-requires : tie.Need-hex-bytes-requires
-hex-bytes-requires c κs = search rules
+hex_bytes-requires : tie.Need-hex_bytes-requires
+hex_bytes-requires c κs = search rules
 
-same_length : tie.Need-same-length
-same_length c = search rules
+shape_of-room : tie.Need-shape_of-room
+shape_of-room c = search rules
 
-returns-2 : tie.Need-returns-2
-returns-2 c =
-    let a = c.before.before.before.before.before.before.before.before.args in
+returns : tie.Need-returns
+returns c =
+    let a = c.args in
     let s = a.s.now in
-    let h = c.before.before.before.before.before.if1.false in
+    let h = c.if-at-s.false in
     let rest : take (length s - a.at) (drop a.at s) ≡ drop a.at s = take_all (length s - a.at) (drop a.at s) (omega (arith, length-drop a.at s)) in
     let e = in_line s a.room.now a.at h in (
-      c.before.before.hex-bytes.ensures.0 ∙ ap (λ (l : List ℕ). bytes_in l (length a.room.now)) rest ∙ e.0,
-      c.before.before.hex-bytes.ensures.1 ∙ ap (λ (l : List ℕ). stored_in l a.room.now) rest ∙ e.1,
+      c.hex_bytes.ensures.0 ∙ ap (λ (l : List ℕ). bytes_in l (length a.room.now)) rest ∙ e.0,
+      c.hex_bytes.ensures.1 ∙ ap (λ (l : List ℕ). stored_in l a.room.now) rest ∙ e.1,
     )
 
 pub take_rest_spec : {M : Type 1} → statement M
 take_rest_spec =
     tie.close
-    (tie.spec
-    returns
-    sub-hex-bytes
-    part-hex-bytes-start
-    part-hex-bytes-end
-    hex-bytes-requires
-    same_length
-    returns-2)
+    (tie.spec returns-then-at-s slice_bounds-hex_bytes-count slice_bounds-hex_bytes-start slice_bounds-hex_bytes-end hex_bytes-requires shape_of-room returns)

@@ -9,35 +9,35 @@ use Rattle.notation_read.proofs.heard.tick_line.Statement.{statement}
 use Rattle.notation_read.proofs.heard.tick_line.Tie as tie
 
 -- by the variant that the fields were told as
-stamped : {b : Stamp} (c : tie.After-take-stamp) → c.take-stamp.result ≡ b → tick_by c.before.before.args.s.now b ≡ tick_of c.before.before.args.s.now c.before.before.args.at
+stamped : {b : Stamp} (c : tie.After-take_stamp) → c.take_stamp.result ≡ b → tick_by c.args.s.now b ≡ tick_of c.args.s.now c.args.at
 unfolding tick_of
-stamped c e = ap (tick_by c.before.before.args.s.now) (sym e ∙ c.take-stamp.ensures)
+stamped c e = ap (tick_by c.args.s.now) (sym e ∙ c.take_stamp.ensures)
 
-take-stamp-requires : tie.Need-take-stamp-requires
-take-stamp-requires c κs = search rules
+take_stamp-requires : tie.Need-take_stamp-requires
+take_stamp-requires c κs = search rules
 
-enum-known-channel : tie.Need-enum-known-channel
-enum-known-channel c = search rules
+enum_known-channel : tie.Need-enum_known-channel
+enum_known-channel c = search rules
 
-enum_told : tie.Need-enum-told
-enum_told c = search rules
+enum_told-1 : tie.Need-enum_told-1
+enum_told-1 c = search rules
+
+returns-in_default : tie.Need-returns-in_default
+returns-in_default c = stamped c.before.before c.in_default.is
+
+returns-then-next-s : tie.Need-returns-then-next-s
+returns-then-next-s c =
+    let k = c.channel-1.given in
+    let s = c.args.s.now in
+    rw (← stamped c.before.before.before.before k.1, le-leb k.0.1.1.0 (length s) c.if-next-s.true)
 
 returns : tie.Need-returns
-returns c = stamped c.before.before c.enum_told.given.1
-
-returns-2 : tie.Need-returns-2
-returns-2 c =
-    let k = c.before.before.channel.given in
-    let s = c.before.before.before.before.before.before.args.s.now in
-    rw (← stamped c.before.before.before.before k.1, le-leb k.0.1.1.0 (length s) c.if1.true)
-
-returns-3 : tie.Need-returns-3
-returns-3 c =
-    let k = c.before.before.channel.given in
-    let s = c.before.before.before.before.before.before.args.s.now in
-    rw (← stamped c.before.before.before.before k.1, lt-leb k.0.1.1.0 (length s) c.if1.false)
+returns c =
+    let k = c.channel-1.given in
+    let s = c.args.s.now in
+    rw (← stamped c.before.before.before.before k.1, lt-leb k.0.1.1.0 (length s) c.if-next-s.false)
 
 pub tick_line_spec : {M : Type 1} → statement M
 tick_line_spec =
     tie.close
-    (tie.spec take-stamp-requires enum-known-channel enum_told returns returns-2 returns-3)
+    (tie.spec take_stamp-requires enum_known-channel enum_told-1 returns-in_default returns-then-next-s returns)

@@ -7,16 +7,16 @@ use Rattle.notation_read.specs.Script.{skipped}
 use Rattle.notation_read.proofs.script.is_skipped.Statement.{statement}
 use Rattle.notation_read.proofs.script.is_skipped.Tie as tie
 
+returns-then-s-eq0 : tie.Need-returns-then-s-eq0
+unfolding skipped
+returns-then-s-eq0 c = sym (ap skipped (none c.args.s.now (omega arith)))
+
+bounds-s-0 : tie.Need-bounds-s-0
+bounds-s-0 c = search rules
+
 returns : tie.Need-returns
 unfolding skipped
-returns c = sym (ap skipped (none c.before.args.s.now (omega arith)))
-
-shared-slice-read-result : tie.Need-shared-slice-read-result
-shared-slice-read-result c = search rules
-
-returns-2 : tie.Need-returns-2
-unfolding skipped
-returns-2 c = sym (ap skipped (some c.before.before.args.s.now (omega arith)))
+returns c = sym (ap skipped (some c.args.s.now (omega arith)))
 
 pub is_skipped_spec : {M : Type 1} → statement M
-is_skipped_spec = tie.close (tie.spec returns shared-slice-read-result returns-2)
+is_skipped_spec = tie.close (tie.spec returns-then-s-eq0 bounds-s-0 returns)

@@ -8,69 +8,56 @@ use Rattle.notation_setup.proofs.setup.setup_line.Statement.{statement}
 use Rattle.notation_setup.proofs.setup.setup_line.Tie as tie
 
 -- by the variant that each field was told as
-told1 : {b : Field} (c : tie.After-take-u32) → c.take-u32.result ≡ b → for_post c.before.before.args.s.now b ≡ setup_of c.before.before.args.s.now c.before.before.args.at
+told1 : {b : Field} (c : tie.After-take_u32) → c.take_u32.result ≡ b → for_post c.args.s.now b ≡ setup_of c.args.s.now c.args.at
 unfolding setup_of
-told1 c e = ap (for_post c.before.before.args.s.now) (sym e ∙ c.take-u32.ensures)
+told1 c e = ap (for_post c.args.s.now) (sym e ∙ c.take_u32.ensures)
 
-told2 : {b : Field} (c : tie.After-take-u322) → c.take-u322.result ≡ b → on_channel c.before.before.before.before.before.before.args.s.now c.before.before.post.given.0.0 b ≡ setup_of c.before.before.before.before.before.before.args.s.now c.before.before.before.before.before.before.args.at
-told2 c e = ap (on_channel c.before.before.before.before.before.before.args.s.now c.before.before.post.given.0.0) (sym e ∙ c.take-u322.ensures) ∙ told1 c.before.before.before.before c.before.before.post.given.1
+told2 : {b : Field} (c : tie.After-take_u32-2) → c.take_u32-2.result ≡ b → on_channel c.args.s.now c.in-Is.post b ≡ setup_of c.args.s.now c.args.at
+told2 c e = ap (on_channel c.args.s.now c.in-Is.post) (sym e ∙ c.take_u32-2.ensures) ∙ told1 c.before.before.before.before c.in-Is.is
 
-told3 : {b : Limits} (c : tie.After-take-limits) → c.take-limits.result ≡ b → with_limits c.before.before.before.before.before.before.post.given.0.0 c.before.before.channel.given.0.0 b ≡ setup_of c.before.before.before.before.before.before.before.before.before.before.args.s.now c.before.before.before.before.before.before.before.before.before.before.args.at
-told3 c e = ap (with_limits c.before.before.before.before.before.before.post.given.0.0 c.before.before.channel.given.0.0) (sym e ∙ c.take-limits.ensures) ∙ told2 c.before.before.before.before c.before.before.channel.given.1
+told3 : {b : Limits} (c : tie.After-take_limits) → c.take_limits.result ≡ b → with_limits c.in-Is.post c.in-Is-take_u32.channel b ≡ setup_of c.args.s.now c.args.at
+told3 c e = ap (with_limits c.in-Is.post c.in-Is-take_u32.channel) (sym e ∙ c.take_limits.ensures) ∙ told2 c.before.before.before.before c.in-Is-take_u32.is
 
-take-u32-requires : tie.Need-take-u32-requires
-take-u32-requires c κs = search rules
+take_u32-requires : tie.Need-take_u32-requires
+take_u32-requires c κs = search rules
 
-enum-known-post : tie.Need-enum-known-post
-enum-known-post c = search rules
+enum_known-post : tie.Need-enum_known-post
+enum_known-post c = search rules
 
-enum_told : tie.Need-enum-told
-enum_told c = search rules
+enum_told-1 : tie.Need-enum_told-1
+enum_told-1 c = search rules
+
+returns-in_default : tie.Need-returns-in_default
+returns-in_default c = told1 c.before.before c.in_default.is
+
+take_u32-requires-2 : tie.Need-take_u32-requires-2
+take_u32-requires-2 c κs = search rules
+
+enum_known-channel : tie.Need-enum_known-channel
+enum_known-channel c = search rules
+
+enum_told-in_default-take_u32 : tie.Need-enum_told-in_default-take_u32
+enum_told-in_default-take_u32 c = search rules
+
+returns-in_default-take_u32 : tie.Need-returns-in_default-take_u32
+returns-in_default-take_u32 c = told2 c.before.before c.in_default-take_u32.is
+
+take_limits-requires : tie.Need-take_limits-requires
+take_limits-requires c κs = search rules
+
+enum_known-voltage : tie.Need-enum_known-voltage
+enum_known-voltage c = search rules
+
+enum_told-in_default-take_limits : tie.Need-enum_told-in_default-take_limits
+enum_told-in_default-take_limits c = search rules
+
+returns-in_default-take_limits : tie.Need-returns-in_default-take_limits
+returns-in_default-take_limits c = told3 c.before.before c.in_default-take_limits.is
 
 returns : tie.Need-returns
-returns c = told1 c.before.before c.enum_told.given.1
-
-take-u32-requires-2 : tie.Need-take-u32-requires-2
-take-u32-requires-2 c κs = search rules
-
-enum-known-channel : tie.Need-enum-known-channel
-enum-known-channel c = search rules
-
-enum-told-2 : tie.Need-enum-told-2
-enum-told-2 c = search rules
-
-returns-2 : tie.Need-returns-2
-returns-2 c = told2 c.before.before c.enum-told2.given.1
-
-take-limits-requires : tie.Need-take-limits-requires
-take-limits-requires c κs = search rules
-
-enum-known-voltage : tie.Need-enum-known-voltage
-enum-known-voltage c = search rules
-
-enum-told-3 : tie.Need-enum-told-3
-enum-told-3 c = search rules
-
-returns-3 : tie.Need-returns-3
-returns-3 c = told3 c.before.before c.enum-told3.given.1
-
-returns-4 : tie.Need-returns-4
-returns-4 c = told3 c.before.before.before c.before.voltage.given.1
+returns c = told3 c.before.before.before c.in-Is-take_limits.is
 
 pub setup_line_spec : {M : Type 1} → statement M
 setup_line_spec =
     tie.close
-    (tie.spec
-    take-u32-requires
-    enum-known-post
-    enum_told
-    returns
-    take-u32-requires-2
-    enum-known-channel
-    enum-told-2
-    returns-2
-    take-limits-requires
-    enum-known-voltage
-    enum-told-3
-    returns-3
-    returns-4)
+    (tie.spec take_u32-requires enum_known-post enum_told-1 returns-in_default take_u32-requires-2 enum_known-channel enum_told-in_default-take_u32 returns-in_default-take_u32 take_limits-requires enum_known-voltage enum_told-in_default-take_limits returns-in_default-take_limits returns)

@@ -10,7 +10,7 @@ returns c =
     simp (
       to_z-of_z,
       sfits_of,
-      x1.before.natural-arg.given,
+      x1.natural-arg-1.given,
       x1.natural.ensures,
       c.end_of_lem.ensures,
     )

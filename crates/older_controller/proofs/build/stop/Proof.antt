@@ -10,9 +10,9 @@ returns c =
     simp (
       to_z-of_z,
       sfits_of,
-      x1.before.natural-arg.given,
+      x1.natural-arg-1.given,
       x1.natural.ensures,
-      c.origin-of.ensures,
+      c.origin_of.ensures,
     )
 
 pub stop_spec : {M : Type 1} → statement M

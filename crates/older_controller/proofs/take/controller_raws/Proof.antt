@@ -9,10 +9,10 @@ returns : tie.Need-returns
 unfolding pad
 returns c =
     let x0 = c.before in
-    simp (to_z-of_z, sfits_of, c.byte-raw.type-inv)
+    simp (to_z-of_z, sfits_of, c.byte_raw.type_inv)
     (simp (
-      x0.state-number.ensures,
-      c.byte-raw.ensures,
+      x0.state_number.ensures,
+      c.byte_raw.ensures,
     ))
 
 pub controller_raws_spec : {M : Type 1} → statement M

@@ -13,14 +13,14 @@ returns c =
     let x2 = x3.before in
     let x1 = x2.before in
     let x0 = x1.before in
-    simp (to_z-of_z, sfits_of, x0.byte-raw.type-inv, x1.byte-raw2.type-inv, x2.byte-raw3.type-inv, x3.byte-raw4.type-inv, x4.byte-raw5.type-inv, c.byte-raw6.type-inv)
+    simp (to_z-of_z, sfits_of, x0.byte_raw.type_inv, x1.byte_raw-2.type_inv, x2.byte_raw-3.type_inv, x3.byte_raw-4.type_inv, x4.byte_raw-5.type_inv, c.byte_raw-6.type_inv)
     (simp (
-      x0.byte-raw.ensures,
-      x1.byte-raw2.ensures,
-      x2.byte-raw3.ensures,
-      x3.byte-raw4.ensures,
-      x4.byte-raw5.ensures,
-      c.byte-raw6.ensures,
+      x0.byte_raw.ensures,
+      x1.byte_raw-2.ensures,
+      x2.byte_raw-3.ensures,
+      x3.byte_raw-4.ensures,
+      x4.byte_raw-5.ensures,
+      c.byte_raw-6.ensures,
     ))
 
 pub id_raws_spec : {M : Type 1} → statement M

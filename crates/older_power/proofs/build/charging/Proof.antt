@@ -8,13 +8,13 @@ returns : tie.Need-returns
 returns c =
     let x3 = c.before.before in
     let x1 = x3.before.before in
-    simp (to_z-of_z, sfits_of, x3.short.type-inv)
+    simp (to_z-of_z, sfits_of, x3.short.type_inv)
     (simp (
       to_z-of_z,
       sfits_of,
-      x1.before.word_arg.given,
-      x3.before.short-arg.given,
-      c.before.byte-arg.given,
+      x1.word-arg-1.given,
+      x3.short-arg-1.given,
+      c.byte-arg-1.given,
       x1.word.ensures,
       x3.short.ensures,
       c.byte.ensures,

@@ -9,7 +9,7 @@ returns c =
     simp (
       to_z-of_z,
       sfits_of,
-      c.before.word_arg.given,
+      c.word-arg-1.given,
       c.word.ensures,
     )
 

@@ -10,10 +10,10 @@ returns c =
     simp (
       to_z-of_z,
       sfits_of,
-      x1.before.word_arg.given,
-      c.before.word-arg2.given,
+      x1.word-arg-1.given,
+      c.word-arg-2-1.given,
       x1.word.ensures,
-      c.word2.ensures,
+      c.word-2.ensures,
     )
 
 pub precharge_spec : {M : Type 1} → statement M

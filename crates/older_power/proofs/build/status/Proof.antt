@@ -12,22 +12,22 @@ returns c =
     let x5 = x7.before.before in
     let x3 = x5.before.before in
     let x1 = x3.before.before in
-    simp (to_z-of_z, sfits_of, x3.short.type-inv, x5.celsius.type-inv, x7.celsius2.type-inv)
+    simp (to_z-of_z, sfits_of, x3.short.type_inv, x5.celsius.type_inv, x7.celsius-2.type_inv)
     (simp (
       to_z-of_z,
       sfits_of,
-      x1.before.word_arg.given,
-      x3.before.short-arg.given,
-      x5.before.celsius-arg.given,
-      x7.before.celsius-arg2.given,
-      x9.before.natural-arg.given,
-      c.before.kilohms-arg.given,
+      x1.word-arg-1.given,
+      x3.short-arg-1.given,
+      x5.celsius-arg-1.given,
+      x7.celsius-arg-2-1.given,
+      x9.natural-arg-1.given,
+      c.kilohms-arg-1.given,
       x1.word.ensures,
       x3.short.ensures,
       x5.celsius.ensures,
-      x7.celsius2.ensures,
+      x7.celsius-2.ensures,
       x9.natural.ensures,
-      x10.enable-of.ensures,
+      x10.enable_of.ensures,
       c.kilohms.ensures,
     ))
 

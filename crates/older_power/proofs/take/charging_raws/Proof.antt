@@ -11,15 +11,15 @@ returns c =
     let x2 = c.before in
     let x0 = x2.before.before in
     -- the message's signed fields fit
-    let g = x2.before.struct_told.given in
-    simp (to_z-of_z, sfits_of, x0.word-raw.type-inv, x2.short-raw.type-inv, c.byte-raw.type-inv)
+    let g = x2.struct_told-1.given in
+    simp (to_z-of_z, sfits_of, x0.word_raw.type_inv, x2.short_raw.type_inv, c.byte_raw.type_inv)
     (simp (
       to_z-of_z,
       sfits_of,
       g.1.0.1,
-      x0.word-raw.ensures,
-      x2.short-raw.ensures,
-      c.byte-raw.ensures,
+      x0.word_raw.ensures,
+      x2.short_raw.ensures,
+      c.byte_raw.ensures,
     ))
 
 pub charging_raws_spec : {M : Type 1} → statement M

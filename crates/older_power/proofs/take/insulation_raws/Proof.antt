@@ -8,8 +8,8 @@ use Rattle.older_power.proofs.take.insulation_raws.Tie as tie
 returns : tie.Need-returns
 unfolding pad
 returns c =
-    simp (to_z-of_z, sfits_of, c.word-raw.type-inv)
-    (simp c.word-raw.ensures)
+    simp (to_z-of_z, sfits_of, c.word_raw.type_inv)
+    (simp c.word_raw.ensures)
 
 pub insulation_raws_spec : {M : Type 1} → statement M
 insulation_raws_spec =

@@ -9,10 +9,10 @@ returns : tie.Need-returns
 unfolding pad
 returns c =
     let x0 = c.before in
-    simp (to_z-of_z, sfits_of, x0.word-raw.type-inv, c.word-raw2.type-inv)
+    simp (to_z-of_z, sfits_of, x0.word_raw.type_inv, c.word_raw-2.type_inv)
     (simp (
-      x0.word-raw.ensures,
-      c.word-raw2.ensures,
+      x0.word_raw.ensures,
+      c.word_raw-2.ensures,
     ))
 
 pub precharge_raws_spec : {M : Type 1} → statement M

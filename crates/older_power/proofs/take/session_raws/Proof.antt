@@ -15,16 +15,16 @@ returns c =
     let x2 = x3.before in
     let x1 = x2.before in
     let x0 = x1.before in
-    simp (to_z-of_z, sfits_of, x1.byte-raw.type-inv, x3.byte-raw2.type-inv, x4.word-raw.type-inv, x5.word-raw2.type-inv, x6.capacity-raw.type-inv, c.byte-raw3.type-inv)
+    simp (to_z-of_z, sfits_of, x1.byte_raw.type_inv, x3.byte_raw-2.type_inv, x4.word_raw.type_inv, x5.word_raw-2.type_inv, x6.capacity_raw.type_inv, c.byte_raw-3.type_inv)
     (simp (
-      x0.protocol-number.ensures,
-      x1.byte-raw.ensures,
-      x2.plug-number.ensures,
-      x3.byte-raw2.ensures,
-      x4.word-raw.ensures,
-      x5.word-raw2.ensures,
-      x6.capacity-raw.ensures,
-      c.byte-raw3.ensures,
+      x0.protocol_number.ensures,
+      x1.byte_raw.ensures,
+      x2.plug_number.ensures,
+      x3.byte_raw-2.ensures,
+      x4.word_raw.ensures,
+      x5.word_raw-2.ensures,
+      x6.capacity_raw.ensures,
+      c.byte_raw-3.ensures,
     ))
 
 pub session_raws_spec : {M : Type 1} → statement M

@@ -15,21 +15,21 @@ returns c =
     let x2 = x4.before.before in
     let x0 = x2.before.before in
     -- the message's signed fields fit
-    let g = x2.before.struct_told.given in
-    simp (to_z-of_z, sfits_of, x0.word-raw.type-inv, x2.short-raw.type-inv, x4.celsius-raw.type-inv, x6.celsius-raw2.type-inv, x8.byte-raw.type-inv, c.kilohms-raw.type-inv)
+    let g = x2.struct_told-1.given in
+    simp (to_z-of_z, sfits_of, x0.word_raw.type_inv, x2.short_raw.type_inv, x4.celsius_raw.type_inv, x6.celsius_raw-2.type_inv, x8.byte_raw.type_inv, c.kilohms_raw.type_inv)
     (simp (
       to_z-of_z,
       sfits_of,
       g.1.0.1,
       g.1.1.0.1,
       g.1.1.1.0.1,
-      x0.word-raw.ensures,
-      x2.short-raw.ensures,
-      x4.celsius-raw.ensures,
-      x6.celsius-raw2.ensures,
-      x7.enable-number.ensures,
-      x8.byte-raw.ensures,
-      c.kilohms-raw.ensures,
+      x0.word_raw.ensures,
+      x2.short_raw.ensures,
+      x4.celsius_raw.ensures,
+      x6.celsius_raw-2.ensures,
+      x7.enable_number.ensures,
+      x8.byte_raw.ensures,
+      c.kilohms_raw.ensures,
     ))
 
 pub status_raws_spec : {M : Type 1} → statement M

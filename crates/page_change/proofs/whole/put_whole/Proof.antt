@@ -12,23 +12,23 @@ use Rattle.payload.proofs.Stored.{stored_in_lem}
 use Rattle.page_change.proofs.whole.put_whole.Statement.{statement}
 use Rattle.page_change.proofs.whole.put_whole.Tie as tie
 
-add-end : tie.Need-overflow-add-end
-add-end c = search rules
+overflow_add-end : tie.Need-overflow_add-end
+overflow_add-end c = search rules
 
-sub-store : tie.Need-overflow-sub-store
-sub-store c = search rules
+slice_bounds-store-count : tie.Need-slice_bounds-store-count
+slice_bounds-store-count c = search rules
 
-part-store-start : tie.Need-slice-bounds-store-start
-part-store-start c = search rules
+slice_bounds-store-start : tie.Need-slice_bounds-store-start
+slice_bounds-store-start c = search rules
 
-part-store-end : tie.Need-slice-bounds-store-end
-part-store-end c = search rules
+slice_bounds-store-end : tie.Need-slice_bounds-store-end
+slice_bounds-store-end c = search rules
 
 store-requires : tie.Need-store-requires
 store-requires c κs = search rules
 
-same_length : tie.Need-same-length
-same_length c = search rules
+shape_of-bytes : tie.Need-shape_of-bytes
+shape_of-bytes c = search rules
 
 returns : tie.Need-returns
 returns c =
@@ -42,11 +42,11 @@ returns c =
     = mid_len a (a + k) bs s.requires ∙ omega arith in
     let gone : drop s.args.k (take (s.args.at + s.args.k - s.args.at) (drop s.args.at s.args.bytes.now)) ≡ []
     = drop_of_length-le part {i = s.args.k} (le_of_eq size) in
-    let stored : c.before.before.store.new.1.0 ≡ bytes_of s.args.big s.args.k s.args.v
-    = c.before.before.store.ensures ∙ stored_in_lem s.args.big k s.args.v part (omega (arith, size)) ∙ ap (λ (l : List ℕ). new ++ l) gone ∙ append-nil new in
+    let stored : c.store.new.1.0 ≡ bytes_of s.args.big s.args.k s.args.v
+    = c.store.ensures ∙ stored_in_lem s.args.big k s.args.v part (omega (arith, size)) ∙ ap (λ (l : List ℕ). new ++ l) gone ∙ append-nil new in
     ap₂ (λ (l r : List ℕ). take a bs ++ (l ++ r)) stored (Post-is a (a + k) bs (le-add_right a k))
 
 pub put_whole_spec : {M : Type 1} → statement M
 put_whole_spec =
     tie.close
-    (tie.spec add-end sub-store part-store-start part-store-end store-requires same_length returns)
+    (tie.spec overflow_add-end slice_bounds-store-count slice_bounds-store-start slice_bounds-store-end store-requires shape_of-bytes returns)

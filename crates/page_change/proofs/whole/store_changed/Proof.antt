@@ -24,32 +24,32 @@ edges r b e t =
     (eqb-true (r.width % 8) 0 p.0, eqb-true (r.start % 8) (edge r.big) p.1)
 
 -- of the signal that is stored by itself
-whole : (c : tie.Then1) → (let r = c.before.before.before.args.r in (r.width % 8 ≡ 0) × (r.start % 8 ≡ edge r.big))
-whole c = edges c.before.before.before.args.r c.before.is_whole.result c.before.is_whole.ensures c.if1.true
+whole : (c : tie.Then-is_whole) → (let r = c.args.r in (r.width % 8 ≡ 0) × (r.start % 8 ≡ edge r.big))
+whole c = edges c.args.r c.is_whole.result c.is_whole.ensures c.if-is_whole.true
 
-facts : (c : tie.Then1) → (let a = c.before.before.before.args in WholeFacts a.r.big (length a.bytes.now) a.r.start a.r.width)
+facts : (c : tie.Then-is_whole) → (let a = c.args in WholeFacts a.r.big (length a.bytes.now) a.r.start a.r.width)
 facts c =
     let s = c.before.before.before in
     let w = whole c in
     whole_facts s.args.r.big (length s.args.bytes.now) s.args.r.start s.args.r.width w.1 w.0 s.requires.1
 
-is-whole-requires : tie.Need-is-whole-requires
-is-whole-requires c κs = search rules
+is_whole-requires : tie.Need-is_whole-requires
+is_whole-requires c κs = search rules
 
-cast-put-whole : tie.Need-overflow-cast-put-whole
-cast-put-whole c = search rules
+overflow_cast-r : tie.Need-overflow_cast-r
+overflow_cast-r c = search rules
 
-cast-put-whole-2 : tie.Need-overflow-cast-put-whole-2
-cast-put-whole-2 c = search rules
+overflow_cast-r-then-is_whole : tie.Need-overflow_cast-r-then-is_whole
+overflow_cast-r-then-is_whole c = search rules
 
-put-whole-requires : tie.Need-put-whole-requires
-put-whole-requires c κs = omega (arith, (facts c.before.before.before).fits)
+put_whole-requires : tie.Need-put_whole-requires
+put_whole-requires c κs = omega (arith, (facts c.before.before.before).fits)
 
-same_length : tie.Need-same-length
-same_length c = search rules
+shape_of-bytes-then-is_whole : tie.Need-shape_of-bytes-then-is_whole
+shape_of-bytes-then-is_whole c = search rules
 
-returns : tie.Need-returns
-returns c =
+returns-then-is_whole : tie.Need-returns-then-is_whole
+returns-then-is_whole c =
     let p = c.before.before in
     let t = p.before.before.before.before in
     let k = t.before.before in
@@ -58,31 +58,22 @@ returns c =
     let bs = s.args.bytes.now in
     let w = whole t in
     p.put_whole.ensures
-    ∙ sym (whole_stored r.big bs r.start r.width s.args.v (λ i. omega (arith, k.slice-known.given i)) s.requires.1 w.1 w.0 s.requires.0 s.requires.2)
+    ∙ sym (whole_stored r.big bs r.start r.width s.args.v (λ i. omega (arith, k.slice_known-1.given i)) s.requires.1 w.1 w.0 s.requires.0 s.requires.2)
     ∙ ap (bytes_of r.big (length bs)) (sym s.requires.3)
 
 store-requires : tie.Need-store-requires
 store-requires c κs = search rules
 
-same-length-2 : tie.Need-same-length-2
-same-length-2 c = search rules
+shape_of-bytes : tie.Need-shape_of-bytes
+shape_of-bytes c = search rules
 
-returns-2 : tie.Need-returns-2
-returns-2 c =
+returns : tie.Need-returns
+returns c =
     let p = c.before.before in
-    let a = p.before.before.before.before.before.args in
+    let a = p.args in
     p.store.ensures ∙ stored_all a.r.big a.bytes.now a.m
 
 pub store_changed_spec : {M : Type 1} → statement M
 store_changed_spec =
     tie.close
-    (tie.spec
-    is-whole-requires
-    cast-put-whole
-    cast-put-whole-2
-    put-whole-requires
-    same_length
-    returns
-    store-requires
-    same-length-2
-    returns-2)
+    (tie.spec is_whole-requires overflow_cast-r overflow_cast-r-then-is_whole put_whole-requires shape_of-bytes-then-is_whole returns-then-is_whole store-requires shape_of-bytes returns)

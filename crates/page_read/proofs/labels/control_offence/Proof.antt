@@ -6,26 +6,26 @@ use Rattle.page_read.specs.Steps.{offence_of}
 use Rattle.page_read.proofs.labels.control_offence.Statement.{statement}
 use Rattle.page_read.proofs.labels.control_offence.Tie as tie
 
-offence-at-requires : tie.Need-offence-at-requires
-offence-at-requires c κs = search rules
+offence_at-lowering-requires : tie.Need-offence_at-lowering-requires
+offence_at-lowering-requires c κs = search rules
 
-offence-at-requires-2 : tie.Need-offence-at-requires-2
-offence-at-requires-2 c κs = search rules
+offence_at-contactors-requires : tie.Need-offence_at-contactors-requires
+offence_at-contactors-requires c κs = search rules
 
-offence-at-requires-3 : tie.Need-offence-at-requires-3
-offence-at-requires-3 c κs = search rules
+offence_at-mode-requires : tie.Need-offence_at-mode-requires
+offence_at-mode-requires c κs = search rules
 
-offence-at-requires-4 : tie.Need-offence-at-requires-4
-offence-at-requires-4 c κs = search rules
+offence_at-requires : tie.Need-offence_at-requires
+offence_at-requires c κs = search rules
 
 returns : tie.Need-returns
 unfolding rows of_kind offence_of
 returns c =
-    let p = c.offence-at4.ensures in
-    let q = c.before.offence-at3.ensures in
-    let r = c.before.before.offence-at2.ensures in
-    let s = c.before.before.before.offence-at.ensures in
+    let p = c.offence_at.ensures in
+    let q = c.offence_at-mode.ensures in
+    let r = c.offence_at-contactors.ensures in
+    let s = c.offence_at-lowering.ensures in
     cc
 
 pub control_offence_spec : {M : Type 1} → statement M
-control_offence_spec = tie.close (tie.spec offence-at-requires offence-at-requires-2 offence-at-requires-3 offence-at-requires-4 returns)
+control_offence_spec = tie.close (tie.spec offence_at-lowering-requires offence_at-contactors-requires offence_at-mode-requires offence_at-requires returns)

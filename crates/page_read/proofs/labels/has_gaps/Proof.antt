@@ -22,4 +22,4 @@ has_gaps_spec =
     (λ c. at_key has_gaps 27 c.match.keys5)
     (λ c. at_key has_gaps 30 c.match.keys6)
     (λ c. at_key has_gaps 39 c.match.keys7)
-    (λ c. let r = c.match.rest in none c.before.args.kind r.0.0.0.0.0.0.1 r.0.0.0.0.0.1 r.0.0.0.0.1 r.0.0.0.1 r.0.0.1 r.0.1 r.1))
+    (λ c. let r = c.match.rest in none c.args.kind r.0.0.0.0.0.0.1 r.0.0.0.0.0.1 r.0.0.0.0.1 r.0.0.0.1 r.0.0.1 r.0.1 r.1))

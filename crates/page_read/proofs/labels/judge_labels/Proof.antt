@@ -6,26 +6,26 @@ use Rattle.page_read.specs.Steps.{judged_by}
 use Rattle.page_read.proofs.labels.judge_labels.Statement.{statement}
 use Rattle.page_read.proofs.labels.judge_labels.Tie as tie
 
-offence-requires : tie.Need-offence-requires
-offence-requires c κs = search rules
+offence-o-requires : tie.Need-offence-o-requires
+offence-o-requires c κs = search rules
 
-enum-known-o : tie.Need-enum-known-o
-enum-known-o c = search rules
+enum_known-o : tie.Need-enum_known-o
+enum_known-o c = search rules
 
-enum_told : tie.Need-enum-told
-enum_told c = search rules
+enum_told-1 : tie.Need-enum_told-1
+enum_told-1 c = search rules
+
+returns-in-Start : tie.Need-returns-in-Start
+returns-in-Start c =
+    let f = c.before.before.before in
+    let a = f.args in
+    ap (λ (o : Offence). judged_by a.kind a.n o 0) (sym c.in-Start.is ∙ f.offence-o.ensures)
 
 returns : tie.Need-returns
 returns c =
-    let f = c.before.before.before in
-    let a = f.before.args in
-    ap (λ (o : Offence). judged_by a.kind a.n o 0) (sym c.before.o.given.1 ∙ f.offence.ensures)
-
-returns-2 : tie.Need-returns-2
-returns-2 c =
     let f = c.before.before in
-    let a = f.before.args in
-    ap (λ (o : Offence). judged_by a.kind a.n o 0) (sym c.enum_told.given.1 ∙ f.offence.ensures)
+    let a = f.args in
+    ap (λ (o : Offence). judged_by a.kind a.n o 0) (sym c.in_default.is ∙ f.offence-o.ensures)
 
 pub judge_labels_spec : {M : Type 1} → statement M
-judge_labels_spec = tie.close (tie.spec offence-requires enum-known-o returns enum_told returns-2)
+judge_labels_spec = tie.close (tie.spec offence-o-requires enum_known-o returns-in-Start enum_told-1 returns)

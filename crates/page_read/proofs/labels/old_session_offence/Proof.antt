@@ -6,18 +6,18 @@ use Rattle.page_read.specs.Steps.{offence_of}
 use Rattle.page_read.proofs.labels.old_session_offence.Statement.{statement}
 use Rattle.page_read.proofs.labels.old_session_offence.Tie as tie
 
-offence-at-requires : tie.Need-offence-at-requires
-offence-at-requires c κs = search rules
+offence_at-plug-requires : tie.Need-offence_at-plug-requires
+offence_at-plug-requires c κs = search rules
 
-offence-at-requires-2 : tie.Need-offence-at-requires-2
-offence-at-requires-2 c κs = search rules
+offence_at-requires : tie.Need-offence_at-requires
+offence_at-requires c κs = search rules
 
 returns : tie.Need-returns
 unfolding rows of_kind offence_of
 returns c =
-    let p = c.offence-at2.ensures in
-    let q = c.before.offence-at.ensures in
+    let p = c.offence_at.ensures in
+    let q = c.offence_at-plug.ensures in
     cc
 
 pub old_session_offence_spec : {M : Type 1} → statement M
-old_session_offence_spec = tie.close (tie.spec offence-at-requires offence-at-requires-2 returns)
+old_session_offence_spec = tie.close (tie.spec offence_at-plug-requires offence_at-requires returns)

@@ -10,41 +10,41 @@ use Rattle.page_read.proofs.signals.offence_at.Statement.{statement}
 use Rattle.page_read.proofs.signals.offence_at.Tie as tie
 
 -- the row of a fine line is fine
-fine : (c : tie.After-row-of) → Fine c.row_of.result
-fine c = subst Fine (sym c.row_of.ensures) c.before.requires
+fine : (c : tie.After-row_of-r) → Fine c.row_of-r.result
+fine c = subst Fine (sym c.row_of-r.ensures) c.requires
 
-row-of-requires : tie.Need-row-of-requires
-row-of-requires c κs = search rules
+row_of-r-requires : tie.Need-row_of-r-requires
+row_of-r-requires c κs = search rules
 
-signal-bits-requires : tie.Need-signal-bits-requires
-signal-bits-requires c κs = fine c
+signal_bits-requires : tie.Need-signal_bits-requires
+signal_bits-requires c κs = fine c
 
-label-holds-requires : tie.Need-label-holds-requires
-label-holds-requires c κs = search rules
+label_holds-requires : tie.Need-label_holds-requires
+label_holds-requires c κs = search rules
 
-held : (c : tie.After-label-holds) → (
-    let a = c.before.before.before.args in
-    takes (row_of a.l).labels (bits_at a.n (row_of a.l)) ≡ c.label-holds.result)
+held : (c : tie.After-label_holds) → (
+    let a = c.args in
+    takes (row_of a.l).labels (bits_at a.n (row_of a.l)) ≡ c.label_holds.result)
 held c =
     let r = c.before.before in
     sym
-    (c.label-holds.ensures
-    ∙ ap (takes r.row_of.result.labels) c.before.signal-bits.ensures
-    ∙ ap (λ (x : Row). takes x.labels (bits_at r.before.args.n x)) r.row_of.ensures)
+    (c.label_holds.ensures
+    ∙ ap (takes r.row_of-r.result.labels) c.signal_bits.ensures
+    ∙ ap (λ (x : Row). takes x.labels (bits_at r.args.n x)) r.row_of-r.ensures)
+
+returns-then-label_holds : tie.Need-returns-then-label_holds
+returns-then-label_holds c = rw (held c.before, c.if-label_holds.true)
+
+start_bit-requires : tie.Need-start_bit-requires
+start_bit-requires c κs = search rules
 
 returns : tie.Need-returns
-returns c = rw (held c.before, c.if1.true)
-
-start-bit-requires : tie.Need-start-bit-requires
-start-bit-requires c κs = search rules
-
-returns-2 : tie.Need-returns-2
-returns-2 c =
+returns c =
     let r = c.before.before.before.before in
-    rw (held c.before.before, c.before.if1.false)
-    (ap Start (start_row r.row_of.result (fine r) c.start-bit.result c.start-bit.ensures ∙ ap (λ (x : Row). x.start) r.row_of.ensures))
+    rw (held c.before.before, c.if-label_holds.false)
+    (ap Start (start_row r.row_of-r.result (fine r) c.start_bit.result c.start_bit.ensures ∙ ap (λ (x : Row). x.start) r.row_of-r.ensures))
 
 pub offence_at_spec : {M : Type 1} → statement M
 offence_at_spec =
     tie.close
-    (tie.spec row-of-requires signal-bits-requires label-holds-requires returns start-bit-requires returns-2)
+    (tie.spec row_of-r-requires signal_bits-requires label_holds-requires returns-then-label_holds start_bit-requires returns)

@@ -28,52 +28,52 @@ invariant-rows at kind n rest₀ i₀ rest i =
 abbrev decreases-rows : tie.decreases-rows
 decreases-rows at kind n rest₀ i₀ rest i = row_count - i
 
-rows-holds : tie.Need-rows-init invariant-rows decreases-rows
-rows-holds c = (refl, refl)
+rows-init : tie.Need-rows-init invariant-rows decreases-rows
+rows-init c = (refl, refl)
 
-row-to-sift-requires : tie.Need-row-to-sift-requires invariant-rows decreases-rows
-row-to-sift-requires c κs = search rules
+row_to_sift-r-requires : tie.Need-row_to_sift-r-requires invariant-rows decreases-rows
+row_to_sift-r-requires c κs = search rules
 
-signal-bits-requires : tie.Need-signal-bits-requires invariant-rows decreases-rows
-signal-bits-requires c κs = fine_at _ _ (omega arith) c.before.before.row-to-sift.ensures
+signal_bits-requires : tie.Need-signal_bits-requires invariant-rows decreases-rows
+signal_bits-requires c κs = fine_at _ _ (omega arith) c.row_to_sift-r.ensures
 
-label-holds-requires : tie.Need-label-holds-requires invariant-rows decreases-rows
-label-holds-requires c κs = search rules
+label_holds-requires : tie.Need-label_holds-requires invariant-rows decreases-rows
+label_holds-requires c κs = search rules
 
-start-bit-requires : tie.Need-start-bit-requires invariant-rows decreases-rows
-start-bit-requires c κs = search rules
+start_bit-requires : tie.Need-start_bit-requires invariant-rows decreases-rows
+start_bit-requires c κs = search rules
 
-put-requires : tie.Need-put-requires invariant-rows decreases-rows
-put-requires c κs = search rules
+put-rest-requires : tie.Need-put-rest-requires invariant-rows decreases-rows
+put-rest-requires c κs = search rules
 
-add-i : tie.Need-overflow-add-i invariant-rows decreases-rows
-add-i c = omega arith
+overflow_add-i : tie.Need-overflow_add-i invariant-rows decreases-rows
+overflow_add-i c = omega arith
 
-rows-less : tie.Need-rows-smaller invariant-rows decreases-rows
-rows-less c = omega arith
+rows-smaller : tie.Need-rows-smaller invariant-rows decreases-rows
+rows-smaller c = omega arith
 
-held : (c : tie.After-label-holds invariant-rows decreases-rows) → (
+held : (c : tie.After-label_holds invariant-rows decreases-rows) → (
     let k = c.before.before.before.before in
-    takes k.row-to-sift.result.labels (bits_at k.before.before.before.args.n k.row-to-sift.result) ≡ c.label-holds.result)
+    takes k.row_to_sift-r.result.labels (bits_at k.args.n k.row_to_sift-r.result) ≡ c.label_holds.result)
 held c =
-    let r = c.before.before.before.before.row-to-sift.result in
-    sym (c.label-holds.ensures ∙ ap (takes r.labels) c.before.signal-bits.ensures)
+    let r = c.row_to_sift-r.result in
+    sym (c.label_holds.ensures ∙ ap (takes r.labels) c.signal_bits.ensures)
 
-rows-again : tie.Need-rows-preserved invariant-rows decreases-rows
+rows-preserved : tie.Need-rows-preserved invariant-rows decreases-rows
 unfolding offence_of cleared
-rows-again c =
+rows-preserved c =
     let x = c.before in
     let t = x.before in
     let q = t.before.before in
     let k = q.before.before in
     let a = k.before.before in
-    let g = a.before.args in
-    let r = k.row-to-sift.result in
-    let f = fine_at a.rows.i r (omega arith) k.row-to-sift.ensures in
-    let e = block_in g.kind a.rows.i r (omega arith) k.row-to-sift.ensures q.if2.false in (
-      sym (ap (offence_of g.n) e ∙ rw (held t, not-false t.label-holds.result x.if3.false)) ∙ a.rows.invariant.0,
+    let g = a.args in
+    let r = k.row_to_sift-r.result in
+    let f = fine_at a.rows.i r (omega arith) k.row_to_sift-r.ensures in
+    let e = block_in g.kind a.rows.i r (omega arith) k.row_to_sift-r.ensures q.if-r-kind.false in (
+      sym (ap (offence_of g.n) e ∙ rw (held t, not-false t.label_holds.result x.if-not-label_holds.false-raw)) ∙ a.rows.invariant.0,
       ap (cleared (block g.kind (drop (a.rows.i + 1) rows)))
-          (c.put.ensures
+          (c.put-rest.ensures
           ∙ put_in a.rows.rest (lowest r) r.width 0 f.0 f.2 (pow_pos r.width))
           ∙ sym (ap (λ (l : List Row). cleared l a.rows.rest) e)
           ∙ a.rows.invariant.1,
@@ -85,53 +85,39 @@ ended : (kind n rest : ℕ) (l m : List Row) → l ≡ [] → offence_of n l ≡
 unfolding offence_of cleared
 ended kind n rest l m e o s = ap₂ (judged_by kind n) (sym (ap (offence_of n) e) ∙ o) (sym (ap (λ (x : List Row). cleared x rest) e) ∙ s)
 
-returns : tie.Need-returns invariant-rows decreases-rows
-returns c =
+returns-then-i-ge-ROW_COUNT : tie.Need-returns-then-i-ge-ROW_COUNT invariant-rows decreases-rows
+returns-then-i-ge-ROW_COUNT c =
     let a = c.before in
-    let g = a.before.args in
+    let g = a.args in
     ended g.kind g.n a.rows.rest (block g.kind (drop a.rows.i rows)) (block g.kind (drop g.at rows))
-    (block_end g.kind a.rows.i c.if1.true) a.rows.invariant.0 a.rows.invariant.1
+    (block_end g.kind a.rows.i c.if-i-ge-ROW_COUNT.true) a.rows.invariant.0 a.rows.invariant.1
 
-returns-2 : tie.Need-returns-2 invariant-rows decreases-rows
-returns-2 c =
+returns-then-r-kind : tie.Need-returns-then-r-kind invariant-rows decreases-rows
+returns-then-r-kind c =
     let k = c.before.before in
     let a = k.before.before in
-    let g = a.before.args in
+    let g = a.args in
     ended g.kind g.n a.rows.rest (block g.kind (drop a.rows.i rows)) (block g.kind (drop g.at rows))
-    (block_out g.kind a.rows.i k.row-to-sift.result (omega arith) k.row-to-sift.ensures c.if2.true) a.rows.invariant.0 a.rows.invariant.1
+    (block_out g.kind a.rows.i k.row_to_sift-r.result (omega arith) k.row_to_sift-r.ensures c.if-r-kind.true) a.rows.invariant.0 a.rows.invariant.1
 
-returns-3 : tie.Need-returns-3 invariant-rows decreases-rows
+returns-then-not-label_holds : tie.Need-returns-then-not-label_holds invariant-rows decreases-rows
 unfolding offence_of
-returns-3 c =
+returns-then-not-label_holds c =
     let b = c.before in
     let t = b.before in
     let q = t.before.before in
     let k = q.before.before in
     let a = k.before.before in
-    let g = a.before.args in
+    let g = a.args in
     let l = block g.kind (drop g.at rows) in
-    let e = block_in g.kind a.rows.i k.row-to-sift.result (omega arith) k.row-to-sift.ensures q.if2.false in
-    let first : Start k.row-to-sift.result.start ≡ offence_of g.n l =
-    sym (ap (offence_of g.n) e ∙ rw (held t, not-true t.label-holds.result b.if3.true)) ∙ a.rows.invariant.0 in
+    let e = block_in g.kind a.rows.i k.row_to_sift-r.result (omega arith) k.row_to_sift-r.ensures q.if-r-kind.false in
+    let first : Start k.row_to_sift-r.result.start ≡ offence_of g.n l =
+    sym (ap (offence_of g.n) e ∙ rw (held t, not-true t.label_holds.result b.if-not-label_holds.true-raw)) ∙ a.rows.invariant.0 in
     ap (λ (s : ℕ). judged_by g.kind g.n (Start s) (cleared l g.n))
-    (start_row k.row-to-sift.result (fine_at _ _ (omega arith) k.row-to-sift.ensures) c.start-bit.result c.start-bit.ensures)
+    (start_row k.row_to_sift-r.result (fine_at _ _ (omega arith) k.row_to_sift-r.ensures) c.start_bit.result c.start_bit.ensures)
     ∙ ap (λ (o : Offence). judged_by g.kind g.n o (cleared l g.n)) first
 
 pub sifted_spec : {M : Type 1} → statement M
 sifted_spec =
     tie.close
-    (tie.spec
-    invariant-rows
-    decreases-rows
-    rows-holds
-    row-to-sift-requires
-    signal-bits-requires
-    label-holds-requires
-    start-bit-requires
-    put-requires
-    add-i
-    rows-less
-    rows-again
-    returns
-    returns-2
-    returns-3)
+    (tie.spec invariant-rows decreases-rows rows-init row_to_sift-r-requires signal_bits-requires label_holds-requires start_bit-requires put-rest-requires overflow_add-i rows-smaller rows-preserved returns-then-i-ge-ROW_COUNT returns-then-r-kind returns-then-not-label_holds)

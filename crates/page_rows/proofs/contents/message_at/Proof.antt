@@ -53,4 +53,4 @@ message_at_spec =
     (λ c. at_key message_of 40 c.match.keys41)
     (λ c. at_key message_of 41 c.match.keys42)
     (λ c. at_key message_of 42 c.match.keys43)
-    (λ c. sym (get_or-eq_default messages no_message (past_keys message_count c.before.args.kind c.match.rest))))
+    (λ c. sym (get_or-eq_default messages no_message (past_keys message_count c.args.kind c.match.rest))))

@@ -46,4 +46,4 @@ line_at_spec =
     (λ c. at_key row_at 203 c.match.keys35)
     (λ c. at_key row_at 204 c.match.keys36)
     (λ c. at_key row_at 205 c.match.keys37)
-    (λ c. absurd (no_key 169 37 c.before.args.i c.before.requires.0 c.before.requires.1 c.match.rest)))
+    (λ c. absurd (no_key 169 37 c.args.i c.requires.0 c.requires.1 c.match.rest)))

@@ -87,4 +87,4 @@ line_at_spec =
     (λ c. at_key row_at 136 c.match.keys76)
     (λ c. at_key row_at 137 c.match.keys77)
     (λ c. at_key row_at 138 c.match.keys78)
-    (λ c. absurd (no_key 61 78 c.before.args.i c.before.requires.0 c.before.requires.1 c.match.rest)))
+    (λ c. absurd (no_key 61 78 c.args.i c.requires.0 c.requires.1 c.match.rest)))

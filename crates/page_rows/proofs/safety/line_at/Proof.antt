@@ -40,4 +40,4 @@ line_at_spec =
     (λ c. at_key row_at 58 c.match.keys29)
     (λ c. at_key row_at 59 c.match.keys30)
     (λ c. at_key row_at 60 c.match.keys31)
-    (λ c. absurd (no_key 30 31 c.before.args.i c.before.requires.0 c.before.requires.1 c.match.rest)))
+    (λ c. absurd (no_key 30 31 c.args.i c.requires.0 c.requires.1 c.match.rest)))

@@ -8,71 +8,55 @@ use Rattle.page_rows.proofs.ChargerRows.{charger_row}
 use Rattle.page_rows.proofs.table.row_to_seek.Statement.{statement}
 use Rattle.page_rows.proofs.table.row_to_seek.Tie as tie
 
+returns-then-i-ge-ROW_COUNT : tie.Need-returns-then-i-ge-ROW_COUNT
+returns-then-i-ge-ROW_COUNT c = sym (get_or-eq_default rows no_row (rw rows_length c.if-i-ge-ROW_COUNT.true))
+
+line_at-requires : tie.Need-line_at-requires
+line_at-requires c κs = search rules
+
+row_of-requires : tie.Need-row_of-requires
+row_of-requires c κs = search rules
+
+returns-then-i-lt-END : tie.Need-returns-then-i-lt-END
+returns-then-i-lt-END c = c.row_of.ensures ∙ c.line_at.ensures ∙ charger_row _ c.if-i-lt-END.true
+
+line_at-requires-then-i-lt-END-2 : tie.Need-line_at-requires-then-i-lt-END-2
+line_at-requires-then-i-lt-END-2 c κs = (c.if-i-lt-END.false, c.if-i-lt-END-2.true)
+
+row_of-requires-then-i-lt-END-2 : tie.Need-row_of-requires-then-i-lt-END-2
+row_of-requires-then-i-lt-END-2 c κs = search rules
+
+returns-then-i-lt-END-2 : tie.Need-returns-then-i-lt-END-2
+returns-then-i-lt-END-2 c = c.row_of-then-i-lt-END-2.ensures ∙ c.line_at-then-i-lt-END-2.ensures
+
+line_at-requires-then-i-lt-END-3 : tie.Need-line_at-requires-then-i-lt-END-3
+line_at-requires-then-i-lt-END-3 c κs = (c.if-i-lt-END-2.false, c.if-i-lt-END-3.true)
+
+row_of-requires-then-i-lt-END-3 : tie.Need-row_of-requires-then-i-lt-END-3
+row_of-requires-then-i-lt-END-3 c κs = search rules
+
+returns-then-i-lt-END-3 : tie.Need-returns-then-i-lt-END-3
+returns-then-i-lt-END-3 c = c.row_of-then-i-lt-END-3.ensures ∙ c.line_at-then-i-lt-END-3.ensures
+
+line_at-requires-then-i-lt-END-4 : tie.Need-line_at-requires-then-i-lt-END-4
+line_at-requires-then-i-lt-END-4 c κs = (c.if-i-lt-END-3.false, c.if-i-lt-END-4.true)
+
+row_of-requires-then-i-lt-END-4 : tie.Need-row_of-requires-then-i-lt-END-4
+row_of-requires-then-i-lt-END-4 c κs = search rules
+
+returns-then-i-lt-END-4 : tie.Need-returns-then-i-lt-END-4
+returns-then-i-lt-END-4 c = c.row_of-then-i-lt-END-4.ensures ∙ c.line_at-then-i-lt-END-4.ensures
+
+line_at-requires-2 : tie.Need-line_at-requires-2
+line_at-requires-2 c κs = (c.if-i-lt-END-4.false, c.if-i-ge-ROW_COUNT.false)
+
+row_of-requires-2 : tie.Need-row_of-requires-2
+row_of-requires-2 c κs = search rules
+
 returns : tie.Need-returns
-returns c = sym (get_or-eq_default rows no_row (rw rows_length c.if1.true))
-
-line-at-requires : tie.Need-line-at-requires
-line-at-requires c κs = search rules
-
-row-of-requires : tie.Need-row-of-requires
-row-of-requires c κs = search rules
-
-returns-2 : tie.Need-returns-2
-returns-2 c = c.row_of.ensures ∙ c.before.line_at.ensures ∙ charger_row _ c.before.before.if2.true
-
-line-at-requires-2 : tie.Need-line-at-requires-2
-line-at-requires-2 c κs = (c.before.if2.false, c.if3.true)
-
-row-of-requires-2 : tie.Need-row-of-requires-2
-row-of-requires-2 c κs = search rules
-
-returns-3 : tie.Need-returns-3
-returns-3 c = c.row-of2.ensures ∙ c.before.line-at2.ensures
-
-line-at-requires-3 : tie.Need-line-at-requires-3
-line-at-requires-3 c κs = (c.before.if3.false, c.if4.true)
-
-row-of-requires-3 : tie.Need-row-of-requires-3
-row-of-requires-3 c κs = search rules
-
-returns-4 : tie.Need-returns-4
-returns-4 c = c.row-of3.ensures ∙ c.before.line-at3.ensures
-
-line-at-requires-4 : tie.Need-line-at-requires-4
-line-at-requires-4 c κs = (c.before.if4.false, c.if5.true)
-
-row-of-requires-4 : tie.Need-row-of-requires-4
-row-of-requires-4 c κs = search rules
-
-returns-5 : tie.Need-returns-5
-returns-5 c = c.row-of4.ensures ∙ c.before.line-at4.ensures
-
-line-at-requires-5 : tie.Need-line-at-requires-5
-line-at-requires-5 c κs = (c.if5.false, c.before.before.before.before.if1.false)
-
-row-of-requires-5 : tie.Need-row-of-requires-5
-row-of-requires-5 c κs = search rules
-
-returns-6 : tie.Need-returns-6
-returns-6 c = c.row-of5.ensures ∙ c.before.line-at5.ensures
+returns c = c.row_of-2.ensures ∙ c.line_at-2.ensures
 
 pub row_to_seek_spec : {M : Type 1} → statement M
 row_to_seek_spec =
     tie.close
-    (tie.spec
-    returns
-    line-at-requires
-    row-of-requires
-    returns-2
-    line-at-requires-2
-    row-of-requires-2
-    returns-3
-    line-at-requires-3
-    row-of-requires-3
-    returns-4
-    line-at-requires-4
-    row-of-requires-4
-    returns-5
-    line-at-requires-5
-    row-of-requires-5
-    returns-6)
+    (tie.spec returns-then-i-ge-ROW_COUNT line_at-requires row_of-requires returns-then-i-lt-END line_at-requires-then-i-lt-END-2 row_of-requires-then-i-lt-END-2 returns-then-i-lt-END-2 line_at-requires-then-i-lt-END-3 row_of-requires-then-i-lt-END-3 returns-then-i-lt-END-3 line_at-requires-then-i-lt-END-4 row_of-requires-then-i-lt-END-4 returns-then-i-lt-END-4 line_at-requires-2 row_of-requires-2 returns)

@@ -39,4 +39,4 @@ line_at_spec =
     (λ c. at_key row_at 166 c.match.keys28)
     (λ c. at_key row_at 167 c.match.keys29)
     (λ c. at_key row_at 168 c.match.keys30)
-    (λ c. absurd (no_key 139 30 c.before.args.i c.before.requires.0 c.before.requires.1 c.match.rest)))
+    (λ c. absurd (no_key 139 30 c.args.i c.requires.0 c.requires.1 c.match.rest)))

@@ -18,67 +18,55 @@ invariant-messages id extended wanted all k₀ k = (j : ℕ) → j < k → kind_
 abbrev decreases-messages : tie.decreases-messages
 decreases-messages id extended wanted all k₀ k = kind_count - k
 
-messages-holds : tie.Need-messages-init invariant-messages decreases-messages
-messages-holds c j h e = absurd (omega arith)
+messages-init : tie.Need-messages-init invariant-messages decreases-messages
+messages-init c j h e = absurd (omega arith)
 
-mul-m : tie.Need-overflow-mul-m invariant-messages decreases-messages
-mul-m c = search rules
+offset_bounds-messages-k : tie.Need-offset_bounds-messages-k invariant-messages decreases-messages
+offset_bounds-messages-k c = search rules
 
-array-copy-out-m : tie.Need-array-copy-out-m invariant-messages decreases-messages
-array-copy-out-m c = search rules
+bounds-messages-k : tie.Need-bounds-messages-k invariant-messages decreases-messages
+bounds-messages-k c = search rules
+
+key-wanted-requires : tie.Need-key-wanted-requires invariant-messages decreases-messages
+key-wanted-requires c κs = search rules
 
 key-requires : tie.Need-key-requires invariant-messages decreases-messages
 key-requires c κs = search rules
 
-key-requires-2 : tie.Need-key-requires-2 invariant-messages decreases-messages
-key-requires-2 c κs = search rules
+overflow_add-k : tie.Need-overflow_add-k invariant-messages decreases-messages
+overflow_add-k c = omega arith
 
-add-k : tie.Need-overflow-add-k invariant-messages decreases-messages
-add-k c = omega arith
+messages-smaller : tie.Need-messages-smaller invariant-messages decreases-messages
+messages-smaller c = omega arith
 
-messages-less : tie.Need-messages-smaller invariant-messages decreases-messages
-messages-less c = omega arith
-
-messages-again : tie.Need-messages-preserved invariant-messages decreases-messages
-messages-again c =
+messages-preserved : tie.Need-messages-preserved invariant-messages decreases-messages
+messages-preserved c =
     let n = c.before in
     let a = n.before.before.before in
     let w = a.before in
-    let g = w.before.args in
+    let g = w.args in
     let k = a.messages.k in
     one_more_lem (λ j. kind_key j ≡ key_of g.id g.extended) k a.messages.invariant
-    (λ e. c.if2.false (n.key2.ensures ∙ ap (λ (m : Message). key_of m.0 m.1) (newer_message k (omega arith)) ∙ e ∙ sym w.key.ensures))
+    (λ e. c.if-key-wanted.false (n.key.ensures ∙ ap (λ (m : Message). key_of m.0 m.1) (newer_message k (omega arith)) ∙ e ∙ sym w.key-wanted.ensures))
 
-returns : tie.Need-returns invariant-messages decreases-messages
-returns c =
+returns-then-k-ge-KIND_COUNT : tie.Need-returns-then-k-ge-KIND_COUNT invariant-messages decreases-messages
+returns-then-k-ge-KIND_COUNT c =
     let a = c.before in
-    let g = a.before.before.args in
+    let g = a.args in
     scan_none 0 kind_count g.id g.extended
-    (λ j low high e. a.messages.invariant j (omega (arith, c.if1.true)) e)
+    (λ j low high e. a.messages.invariant j (omega (arith, c.if-k-ge-KIND_COUNT.true)) e)
 
-returns-2 : tie.Need-returns-2 invariant-messages decreases-messages
-returns-2 c =
+returns-then-key-wanted : tie.Need-returns-then-key-wanted invariant-messages decreases-messages
+returns-then-key-wanted c =
     let n = c.before in
     let a = n.before.before.before in
     let w = a.before in
-    let g = w.before.args in
+    let g = w.args in
     let k = a.messages.k in
     scan_found 0 kind_count g.id g.extended k (omega arith) (omega arith) (omega arith)
-    (ap (λ (m : Message). key_of m.0 m.1) (sym (newer_message k (omega arith))) ∙ sym n.key2.ensures ∙ c.if2.true ∙ w.key.ensures)
+    (ap (λ (m : Message). key_of m.0 m.1) (sym (newer_message k (omega arith))) ∙ sym n.key.ensures ∙ c.if-key-wanted.true ∙ w.key-wanted.ensures)
 
 pub kind_with_id_spec : {M : Type 1} → statement M
 kind_with_id_spec =
     tie.close
-    (tie.spec
-    invariant-messages
-    decreases-messages
-    key-requires
-    messages-holds
-    mul-m
-    array-copy-out-m
-    key-requires-2
-    add-k
-    messages-less
-    messages-again
-    returns
-    returns-2)
+    (tie.spec invariant-messages decreases-messages key-wanted-requires messages-init offset_bounds-messages-k bounds-messages-k key-requires overflow_add-k messages-smaller messages-preserved returns-then-k-ge-KIND_COUNT returns-then-key-wanted)

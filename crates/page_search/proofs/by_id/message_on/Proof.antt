@@ -6,50 +6,43 @@ use borrow.Author.Rules.{rules}
 use Rattle.page_search.proofs.by_id.message_on.Statement.{statement}
 use Rattle.page_search.proofs.by_id.message_on.Tie as tie
 
-with-id-requires : tie.Need-with-id-requires
-with-id-requires c κs = search rules
+with_id-requires : tie.Need-with_id-requires
+with_id-requires c κs = search rules
 
-enum-known-kind : tie.Need-enum-known-kind
-enum-known-kind c = search rules
+enum_known-kind : tie.Need-enum_known-kind
+enum_known-kind c = search rules
 
-enum_told : tie.Need-enum-told
-enum_told c = search rules
+enum_told-1 : tie.Need-enum_told-1
+enum_told-1 c = search rules
+
+returns-in_default : tie.Need-returns-in_default
+returns-in_default c =
+    let f = c.before.before in
+    let a = f.args in
+    message_none a.iface (first_at (has_id a.id a.extended) 0 rows) (sym f.with_id.ensures ∙ c.in_default.is)
+
+is_on-requires : tie.Need-is_on-requires
+is_on-requires c κs = search rules
+
+returns-then-is_on : tie.Need-returns-then-is_on
+returns-then-is_on c =
+    let k = c.before.before.before in
+    let f = k.before.before in
+    let a = f.args in
+    let g = k.kind-1.given.0 in
+    message_own a.iface (first_at (has_id a.id a.extended) 0 rows) g.0 g.1.0 g.1.1.0 g.1.1.1.0 (sym f.with_id.ensures ∙ k.in-At.is)
+    (sym c.is_on.ensures ∙ c.if-is_on.true)
 
 returns : tie.Need-returns
 returns c =
-    let f = c.before.before in
-    let a = f.before.args in
-    message_none a.iface (first_at (has_id a.id a.extended) 0 rows) (sym f.with-id.ensures ∙ c.enum_told.given.1)
-
-is-on-requires : tie.Need-is-on-requires
-is-on-requires c κs = search rules
-
-returns-2 : tie.Need-returns-2
-returns-2 c =
     let k = c.before.before.before in
     let f = k.before.before in
-    let a = f.before.args in
-    let g = k.kind.given.0 in
-    message_own a.iface (first_at (has_id a.id a.extended) 0 rows) g.0 g.1.0 g.1.1.0 g.1.1.1.0 (sym f.with-id.ensures ∙ k.kind.given.1)
-    (sym c.before.is-on.ensures ∙ c.if1.true)
-
-returns-3 : tie.Need-returns-3
-returns-3 c =
-    let k = c.before.before.before in
-    let f = k.before.before in
-    let a = f.before.args in
-    let g = k.kind.given.0 in
-    message_other a.iface (first_at (has_id a.id a.extended) 0 rows) g.0 g.1.0 g.1.1.0 g.1.1.1.0 (sym f.with-id.ensures ∙ k.kind.given.1)
-    (sym c.before.is-on.ensures ∙ c.if1.false)
+    let a = f.args in
+    let g = k.kind-1.given.0 in
+    message_other a.iface (first_at (has_id a.id a.extended) 0 rows) g.0 g.1.0 g.1.1.0 g.1.1.1.0 (sym f.with_id.ensures ∙ k.in-At.is)
+    (sym c.is_on.ensures ∙ c.if-is_on.false)
 
 pub message_on_spec : {M : Type 1} → statement M
 message_on_spec =
     tie.close
-    (tie.spec
-    with-id-requires
-    enum-known-kind
-    enum_told
-    returns
-    is-on-requires
-    returns-2
-    returns-3)
+    (tie.spec with_id-requires enum_known-kind enum_told-1 returns-in_default is_on-requires returns-then-is_on returns)

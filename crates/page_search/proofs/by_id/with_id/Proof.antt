@@ -10,34 +10,34 @@ use Rattle.page_table.proofs.Heads.{kind_message, kind_nothing}
 use Rattle.page_search.proofs.by_id.with_id.Statement.{statement}
 use Rattle.page_search.proofs.by_id.with_id.Tie as tie
 
-any-kind-with-id-requires : tie.Need-any-kind-with-id-requires
-any-kind-with-id-requires c κs = search rules
+any_kind_with_id-requires : tie.Need-any_kind_with_id-requires
+any_kind_with_id-requires c κs = search rules
 
-enum-known-k : tie.Need-enum-known-k
-enum-known-k c = search rules
+enum_known-k : tie.Need-enum_known-k
+enum_known-k c = search rules
 
-enum_told : tie.Need-enum-told
-enum_told c = search rules
+enum_told-1 : tie.Need-enum_told-1
+enum_told-1 c = search rules
+
+returns-in_default : tie.Need-returns-in_default
+returns-in_default c =
+    let f = c.before.before in
+    let a = f.args in
+    kind_nothing (first_at (has_id a.id a.extended) 0 rows) (sym f.any_kind_with_id.ensures ∙ c.in_default.is)
+
+message_at-m-requires : tie.Need-message_at-m-requires
+message_at-m-requires c κs = search rules
 
 returns : tie.Need-returns
 returns c =
-    let f = c.before.before in
-    let a = f.before.args in
-    kind_nothing (first_at (has_id a.id a.extended) 0 rows) (sym f.any-kind-with-id.ensures ∙ c.enum_told.given.1)
-
-message-at-requires : tie.Need-message-at-requires
-message-at-requires c κs = search rules
-
-returns-2 : tie.Need-returns-2
-returns-2 c =
     let k = c.before.before in
     let f = k.before.before in
-    let a = f.before.args in
-    let kind = k.k.given.0.0 in
-    ap (λ (m : Message). message.At kind m.4 m.2 m.3) c.message-at.ensures
-    ∙ kind_message kind (first_at (has_id a.id a.extended) 0 rows) (sym f.any-kind-with-id.ensures ∙ k.k.given.1) (id_kind_lem a.id a.extended)
+    let a = f.args in
+    let kind = k.in-At.k in
+    ap (λ (m : Message). message.At kind m.4 m.2 m.3) c.message_at-m.ensures
+    ∙ kind_message kind (first_at (has_id a.id a.extended) 0 rows) (sym f.any_kind_with_id.ensures ∙ k.in-At.is) (id_kind_lem a.id a.extended)
 
 pub with_id_spec : {M : Type 1} → statement M
 with_id_spec =
     tie.close
-    (tie.spec any-kind-with-id-requires enum-known-k enum_told returns message-at-requires returns-2)
+    (tie.spec any_kind_with_id-requires enum_known-k enum_told-1 returns-in_default message_at-m-requires returns)

@@ -7,16 +7,16 @@ use Rattle.page_table.proofs.Heads.{first_place, no_kind}
 use Rattle.page_search.proofs.by_kind.first_of_kind.Statement.{statement}
 use Rattle.page_search.proofs.by_kind.first_of_kind.Tie as tie
 
+returns-then-kind-ge-MESSAGE_COUNT : tie.Need-returns-then-kind-ge-MESSAGE_COUNT
+returns-then-kind-ge-MESSAGE_COUNT c = sym (no_kind c.args.kind c.if-kind-ge-MESSAGE_COUNT.true)
+
+message_at-requires : tie.Need-message_at-requires
+message_at-requires c κs = search rules
+
 returns : tie.Need-returns
-returns c = sym (no_kind c.before.args.kind c.if1.true)
-
-message-at-requires : tie.Need-message-at-requires
-message-at-requires c κs = search rules
-
-returns-2 : tie.Need-returns-2
-returns-2 c =
+returns c =
     let t = c.before in
-    ap (λ (m : Message). At m.4) c.message-at.ensures ∙ sym (first_place t.before.args.kind t.if1.false)
+    ap (λ (m : Message). At m.4) c.message_at.ensures ∙ sym (first_place t.args.kind t.if-kind-ge-MESSAGE_COUNT.false)
 
 pub first_of_kind_spec : {M : Type 1} → statement M
-first_of_kind_spec = tie.close (tie.spec returns message-at-requires returns-2)
+first_of_kind_spec = tie.close (tie.spec returns-then-kind-ge-MESSAGE_COUNT message_at-requires returns)

@@ -45,101 +45,87 @@ invariant-rows kind start at i₀ i = first_at (is_signal kind start) i (block k
 abbrev decreases-rows : tie.decreases-rows
 decreases-rows kind start at i₀ i = row_count - i
 
-first-of-kind-requires : tie.Need-first-of-kind-requires invariant-rows decreases-rows
-first-of-kind-requires c κs = search rules
+first_of_kind-requires : tie.Need-first_of_kind-requires invariant-rows decreases-rows
+first_of_kind-requires c κs = search rules
 
-enum-known-at : tie.Need-enum-known-at invariant-rows decreases-rows
-enum-known-at c = search rules
+enum_known-at : tie.Need-enum_known-at invariant-rows decreases-rows
+enum_known-at c = search rules
 
-enum_told : tie.Need-enum-told invariant-rows decreases-rows
-enum_told c = search rules
+enum_told-1 : tie.Need-enum_told-1 invariant-rows decreases-rows
+enum_told-1 c = search rules
 
-returns : tie.Need-returns invariant-rows decreases-rows
-returns c =
+returns-in_default : tie.Need-returns-in_default invariant-rows decreases-rows
+returns-in_default c =
     let f = c.before.before in
-    let g = f.before.args in
-    kind_nothing g.kind (is_signal g.kind g.start) (no_kind g.kind g.start) (sym f.first-of-kind.ensures ∙ c.enum_told.given.1)
+    let g = f.args in
+    kind_nothing g.kind (is_signal g.kind g.start) (no_kind g.kind g.start) (sym f.first_of_kind.ensures ∙ c.in_default.is)
 
-rows-holds : tie.Need-rows-init invariant-rows decreases-rows
-rows-holds c =
+rows-init : tie.Need-rows-init invariant-rows decreases-rows
+rows-init c =
     let k = c.before in
     let f = k.before.before in
-    let g = f.before.args in
-    kind_search g.kind (is_signal g.kind g.start) (no_kind g.kind g.start) _ (sym f.first-of-kind.ensures ∙ k.at.given.1)
+    let g = f.args in
+    kind_search g.kind (is_signal g.kind g.start) (no_kind g.kind g.start) _ (sym f.first_of_kind.ensures ∙ k.in-At.is)
 
-row-to-seek-requires : tie.Need-row-to-seek-requires invariant-rows decreases-rows
-row-to-seek-requires c κs = omega arith
+row_to_seek-r-requires : tie.Need-row_to_seek-r-requires invariant-rows decreases-rows
+row_to_seek-r-requires c κs = omega arith
 
-add-i : tie.Need-overflow-add-i invariant-rows decreases-rows
-add-i c = omega arith
+overflow_add-i : tie.Need-overflow_add-i invariant-rows decreases-rows
+overflow_add-i c = omega arith
 
-rows-less : tie.Need-rows-smaller invariant-rows decreases-rows
-rows-less c = omega arith
+rows-smaller : tie.Need-rows-smaller invariant-rows decreases-rows
+rows-smaller c = omega arith
 
 -- the arguments, from the loop's head
 asked : (a : tie.At-rows invariant-rows decreases-rows) → tie.Start invariant-rows decreases-rows
 asked a = a.before.before.before.before.before
 
-rows-again : tie.Need-rows-preserved invariant-rows decreases-rows
+rows-preserved : tie.Need-rows-preserved invariant-rows decreases-rows
 unfolding asked
-rows-again c =
+rows-preserved c =
     let q = c.before.before in
     let k = q.before.before in
     let a = k.before.before in
     let g = (asked a).args in
-    let r = k.row-to-seek.result in
+    let r = k.row_to_seek-r.result in
     let i = a.rows.i in
     first_later (is_signal g.kind g.start) i r (block g.kind (drop i rows)) (block g.kind (drop (i + 1) rows))
-    (block_in g.kind i r (omega arith) k.row-to-seek.ensures q.if2.false) (no_start g.kind g.start r c.if3.false)
+    (block_in g.kind i r (omega arith) k.row_to_seek-r.ensures q.if-r-kind.false) (no_start g.kind g.start r c.if-r-start.false)
     ∙ a.rows.invariant
 
-returns-2 : tie.Need-returns-2 invariant-rows decreases-rows
+returns-then-i-ge-ROW_COUNT : tie.Need-returns-then-i-ge-ROW_COUNT invariant-rows decreases-rows
 unfolding asked
-returns-2 c =
+returns-then-i-ge-ROW_COUNT c =
     let a = c.before in
     let g = (asked a).args in
     let i = a.rows.i in
-    first_none (is_signal g.kind g.start) i (block g.kind (drop i rows)) (block_end g.kind i c.if1.true) ∙ a.rows.invariant
+    first_none (is_signal g.kind g.start) i (block g.kind (drop i rows)) (block_end g.kind i c.if-i-ge-ROW_COUNT.true) ∙ a.rows.invariant
 
-returns-3 : tie.Need-returns-3 invariant-rows decreases-rows
+returns-then-r-kind : tie.Need-returns-then-r-kind invariant-rows decreases-rows
 unfolding asked
-returns-3 c =
+returns-then-r-kind c =
     let k = c.before.before in
     let a = k.before.before in
     let g = (asked a).args in
     let i = a.rows.i in
     first_none (is_signal g.kind g.start) i (block g.kind (drop i rows))
-    (block_out g.kind i k.row-to-seek.result (omega arith) k.row-to-seek.ensures c.if2.true)
+    (block_out g.kind i k.row_to_seek-r.result (omega arith) k.row_to_seek-r.ensures c.if-r-kind.true)
     ∙ a.rows.invariant
 
-returns-4 : tie.Need-returns-4 invariant-rows decreases-rows
+returns-then-r-start : tie.Need-returns-then-r-start invariant-rows decreases-rows
 unfolding asked
-returns-4 c =
+returns-then-r-start c =
     let q = c.before.before in
     let k = q.before.before in
     let a = k.before.before in
     let g = (asked a).args in
-    let r = k.row-to-seek.result in
+    let r = k.row_to_seek-r.result in
     let i = a.rows.i in
     first_here (is_signal g.kind g.start) i r (block g.kind (drop i rows)) (block g.kind (drop (i + 1) rows))
-    (block_in g.kind i r (omega arith) k.row-to-seek.ensures q.if2.false) (the_signal g.kind g.start r q.if2.false c.if3.true)
+    (block_in g.kind i r (omega arith) k.row_to_seek-r.ensures q.if-r-kind.false) (the_signal g.kind g.start r q.if-r-kind.false c.if-r-start.true)
     ∙ a.rows.invariant
 
 pub signal_at_spec : {M : Type 1} → statement M
 signal_at_spec =
     tie.close
-    (tie.spec
-    invariant-rows
-    decreases-rows
-    first-of-kind-requires
-    enum-known-at
-    enum_told
-    returns
-    rows-holds
-    row-to-seek-requires
-    add-i
-    rows-less
-    rows-again
-    returns-2
-    returns-3
-    returns-4)
+    (tie.spec invariant-rows decreases-rows first_of_kind-requires enum_known-at enum_told-1 returns-in_default rows-init row_to_seek-r-requires overflow_add-i rows-smaller rows-preserved returns-then-i-ge-ROW_COUNT returns-then-r-kind returns-then-r-start)

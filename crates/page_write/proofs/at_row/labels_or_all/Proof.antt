@@ -3,11 +3,11 @@ use Rattle.std.proofs.Common.{ne_eqb}
 use Rattle.page_write.proofs.at_row.labels_or_all.Statement.{statement}
 use Rattle.page_write.proofs.at_row.labels_or_all.Tie as tie
 
-returns : tie.Need-returns
-returns c = rw c.if1.true
+returns-then-labels-eq0 : tie.Need-returns-then-labels-eq0
+returns-then-labels-eq0 c = rw c.if-labels-eq0.true
 
-returns-2 : tie.Need-returns-2
-returns-2 c = rw (ne_eqb c.before.args.labels 0 c.if1.false)
+returns-else-labels-eq0 : tie.Need-returns-else-labels-eq0
+returns-else-labels-eq0 c = rw (ne_eqb c.args.labels 0 c.if-labels-eq0.false)
 
 pub labels_or_all_spec : {M : Type 1} → statement M
-labels_or_all_spec = tie.close (tie.spec returns returns-2)
+labels_or_all_spec = tie.close (tie.spec returns-then-labels-eq0 returns-else-labels-eq0)

@@ -8,23 +8,23 @@ use Rattle.page_write.proofs.AtRow.{takes_fits, low_row}
 use Rattle.page_write.proofs.at_row.put_raw.Statement.{statement}
 use Rattle.page_write.proofs.at_row.put_raw.Tie as tie
 
-ones-requires : tie.Need-ones-requires
-ones-requires c κs = search rules
+ones-most-requires : tie.Need-ones-most-requires
+ones-most-requires c κs = search rules
 
-cast-result : tie.Need-overflow-cast-result
-cast-result c = search rules
+overflow_cast-result : tie.Need-overflow_cast-result
+overflow_cast-result c = search rules
 
-shl-result : tie.Need-overflow-shl-result
-shl-result c = search rules
+overflow_shl-result : tie.Need-overflow_shl-result
+overflow_shl-result c = search rules
 
 word-requires : tie.Need-word-requires
 word-requires c κs = search rules
 
-cast-result-2 : tie.Need-overflow-cast-result-2
-cast-result-2 c = search rules
+overflow_cast-result-2 : tie.Need-overflow_cast-result-2
+overflow_cast-result-2 c = search rules
 
-shl-result-2 : tie.Need-overflow-shl-result-2
-shl-result-2 c = search rules
+overflow_shl-result-2 : tie.Need-overflow_shl-result-2
+overflow_shl-result-2 c = search rules
 
 returns : tie.Need-returns
 returns c =
@@ -35,19 +35,12 @@ returns c =
     let n = s.args.n in
     let z = s.args.z in
     let f = takes_fits r z s.requires.1 in
-    ap₂ (λ (m x : ℕ). bit_or (bit_and n ((2 ^ 64 - 1) - m * 2 ^ r.low % 2 ^ 64)) (x * 2 ^ r.low % 2 ^ 64)) o.ones.ensures
-    (low_row r s.requires.0 z s.ranges.z b.word.result o.ones.result b.word.ensures o.ones.ensures f)
+    ap₂ (λ (m x : ℕ). bit_or (bit_and n ((2 ^ 64 - 1) - m * 2 ^ r.low % 2 ^ 64)) (x * 2 ^ r.low % 2 ^ 64)) o.ones-most.ensures
+    (low_row r s.requires.0 z s.ranges.z b.word.result o.ones-most.result b.word.ensures o.ones-most.ensures f)
     ∙ put_masked n r.low r.width (bits_in r.signed r.width z) s.ranges.n.fits s.requires.0.2
     (bits_lt r.signed r.width s.requires.0.0 z f)
 
 pub put_raw_spec : {M : Type 1} → statement M
 put_raw_spec =
     tie.close
-    (tie.spec
-    ones-requires
-    cast-result
-    shl-result
-    word-requires
-    cast-result-2
-    shl-result-2
-    returns)
+    (tie.spec ones-most-requires overflow_cast-result overflow_shl-result word-requires overflow_cast-result-2 overflow_shl-result-2 returns)

@@ -46,142 +46,126 @@ decreases-rows at kind raws n₀ j₀ i₀ n j i = row_count - i
 full : (c : tie.Start invariant-rows decreases-rows) → length c.args.t3 ≡ signal_count
 full c = search rules
 
-rows-holds : tie.Need-rows-init invariant-rows decreases-rows
+rows-init : tie.Need-rows-init invariant-rows decreases-rows
 unfolding pack_from pack_of
-rows-holds c = refl
+rows-init c = refl
 
-row-at-requires : tie.Need-row-at-requires invariant-rows decreases-rows
-row-at-requires c κs = search rules
+row_at-r-requires : tie.Need-row_at-r-requires invariant-rows decreases-rows
+row_at-r-requires c κs = search rules
 
-mul-z : tie.Need-overflow-mul-z invariant-rows decreases-rows
-mul-z c = omega arith
+offset_bounds-raws-j : tie.Need-offset_bounds-raws-j invariant-rows decreases-rows
+offset_bounds-raws-j c = omega arith
 
-array-copy-out-z : tie.Need-array-copy-out-z invariant-rows decreases-rows
-array-copy-out-z c = omega arith
+bounds-raws-j : tie.Need-bounds-raws-j invariant-rows decreases-rows
+bounds-raws-j c = omega arith
 
-row-takes-requires : tie.Need-row-takes-requires invariant-rows decreases-rows
-row-takes-requires c κs =
-    let e = c.before.before.before.before.row_at.ensures in
+row_takes-requires : tie.Need-row_takes-requires invariant-rows decreases-rows
+row_takes-requires c κs =
+    let e = c.row_at-r.ensures in
     (fine_at _ _ (omega arith) e, labels_at_lem _ _ (omega arith) e)
 
 -- a turn's row and number, before those that are left
-step : (c : tie.After-z invariant-rows decreases-rows) → (
+step : (c : tie.After-z-1 invariant-rows decreases-rows) → (
     let k = c.before.before.before.before in
     let a = k.before.before in
-    let g = a.before.args in
-    pack_from a.rows.n (k.row_at.result ∷ block g.kind (drop (a.rows.i + 1) rows))
+    let g = a.args in
+    pack_from a.rows.n (k.row_at-r.result ∷ block g.kind (drop (a.rows.i + 1) rows))
     (get_or g.t3 a.rows.j (pos 0) ∷ drop (a.rows.j + 1) g.t3) ≡ pack_of (block g.kind (drop g.at rows)) g.t3)
 step c =
     let q = c.before.before in
     let k = q.before.before in
     let a = k.before.before in
-    let g = a.before.args in
-    let room : a.rows.j < length g.t3 = omega (arith, full a.before, c.before.if3.false) in
+    let g = a.args in
+    let room : a.rows.j < length g.t3 = omega (arith, full a.before, c.if-j-ge16.false) in
     sym
     (ap₂ (pack_from a.rows.n)
-    (block_in g.kind a.rows.i k.row_at.result (omega arith) k.row_at.ensures q.if2.false)
+    (block_in g.kind a.rows.i k.row_at-r.result (omega arith) k.row_at-r.ensures q.if-r-kind.false)
     (rw (add-one a.rows.j) (drop-cons g.t3 a.rows.j (pos 0) room)))
     ∙ a.rows.invariant
 
-told : (c : tie.After-row-takes invariant-rows decreases-rows) → (
+told : (c : tie.After-row_takes invariant-rows decreases-rows) → (
     let k = c.before.before.before.before.before in
     let a = k.before.before in
-    row_takes k.row_at.result (get_or a.before.args.t3 a.rows.j (pos 0)) ≡ c.row-takes.result)
+    row_takes k.row_at-r.result (get_or a.args.t3 a.rows.j (pos 0)) ≡ c.row_takes.result)
 told c =
     let k = c.before.before.before.before.before in
-    sym (c.row-takes.ensures ∙ ap (row_takes k.row_at.result) (to_z-of_z {w = w64} (record { sfits = c.before.z.given })))
+    sym (c.row_takes.ensures ∙ ap (row_takes k.row_at-r.result) (to_z-of_z {w = w64} (record { sfits = c.z-1.given })))
 
-put-raw-requires : tie.Need-put-raw-requires invariant-rows decreases-rows
-put-raw-requires c κs =
+put_raw-n-requires : tie.Need-put_raw-n-requires invariant-rows decreases-rows
+put_raw-n-requires c κs =
     let t = c.before in
     let k = t.before.before.before.before.before in
-    (fine_at _ _ (omega arith) k.row_at.ensures, sym t.row-takes.ensures ∙ not-false t.row-takes.result c.if4.false)
+    (fine_at _ _ (omega arith) k.row_at-r.ensures, sym t.row_takes.ensures ∙ not-false t.row_takes.result c.if-not-row_takes.false-raw)
 
-add-j : tie.Need-overflow-add-j invariant-rows decreases-rows
-add-j c = omega arith
+overflow_add-j : tie.Need-overflow_add-j invariant-rows decreases-rows
+overflow_add-j c = omega arith
 
-add-i : tie.Need-overflow-add-i invariant-rows decreases-rows
-add-i c = omega arith
+overflow_add-i : tie.Need-overflow_add-i invariant-rows decreases-rows
+overflow_add-i c = omega arith
 
-rows-less : tie.Need-rows-smaller invariant-rows decreases-rows
-rows-less c = omega arith
+rows-smaller : tie.Need-rows-smaller invariant-rows decreases-rows
+rows-smaller c = omega arith
 
-rows-again : tie.Need-rows-preserved invariant-rows decreases-rows
-rows-again c =
+rows-preserved : tie.Need-rows-preserved invariant-rows decreases-rows
+rows-preserved c =
     let t = c.before.before in
     let k = t.before.before.before.before.before in
     let a = k.before.before in
-    let g = a.before.args in
-    let r = k.row_at.result in
+    let g = a.args in
+    let r = k.row_at-r.result in
     let z = get_or g.t3 a.rows.j (pos 0) in
     let rs = block g.kind (drop (a.rows.i + 1) rows) in
     let zs = drop (a.rows.j + 1) g.t3 in
     ap (λ (m : ℕ). pack_from m rs zs)
-    (c.put-raw.ensures ∙ ap (put_raw r a.rows.n) (to_z-of_z {w = w64} (record { sfits = t.before.z.given })))
-    ∙ sym (from_taken a.rows.n r rs z zs (told t ∙ not-false t.row-takes.result c.before.if4.false))
+    (c.put_raw-n.ensures ∙ ap (put_raw r a.rows.n) (to_z-of_z {w = w64} (record { sfits = t.z-1.given })))
+    ∙ sym (from_taken a.rows.n r rs z zs (told t ∙ not-false t.row_takes.result c.if-not-row_takes.false-raw))
     ∙ step t.before
 
-returns : tie.Need-returns invariant-rows decreases-rows
-returns c =
+returns-then-i-ge-ROW_COUNT : tie.Need-returns-then-i-ge-ROW_COUNT invariant-rows decreases-rows
+returns-then-i-ge-ROW_COUNT c =
     let a = c.before in
-    let g = a.before.args in
+    let g = a.args in
     sym
-    (ap (λ (l : List Row). pack_from a.rows.n l (drop a.rows.j g.t3)) (block_end g.kind a.rows.i c.if1.true)
+    (ap (λ (l : List Row). pack_from a.rows.n l (drop a.rows.j g.t3)) (block_end g.kind a.rows.i c.if-i-ge-ROW_COUNT.true)
     ∙ from_none a.rows.n (drop a.rows.j g.t3))
     ∙ a.rows.invariant
 
-returns-2 : tie.Need-returns-2 invariant-rows decreases-rows
-returns-2 c =
+returns-then-r-kind : tie.Need-returns-then-r-kind invariant-rows decreases-rows
+returns-then-r-kind c =
     let k = c.before.before in
     let a = k.before.before in
-    let g = a.before.args in
-    let e = block_out g.kind a.rows.i k.row_at.result (omega arith) k.row_at.ensures c.if2.true in
+    let g = a.args in
+    let e = block_out g.kind a.rows.i k.row_at-r.result (omega arith) k.row_at-r.ensures c.if-r-kind.true in
     sym
     (ap (λ (l : List Row). pack_from a.rows.n l (drop a.rows.j g.t3)) e ∙ from_none a.rows.n (drop a.rows.j g.t3))
     ∙ a.rows.invariant
 
-returns-3 : tie.Need-returns-3 invariant-rows decreases-rows
-returns-3 c =
+returns-then-j-ge16 : tie.Need-returns-then-j-ge16 invariant-rows decreases-rows
+returns-then-j-ge16 c =
     let q = c.before in
     let k = q.before.before in
     let a = k.before.before in
-    let g = a.before.args in
-    let over : length g.t3 ≤ a.rows.j = omega (arith, full a.before, c.if3.true) in
+    let g = a.args in
+    let over : length g.t3 ≤ a.rows.j = omega (arith, full a.before, c.if-j-ge16.true) in
     sym
     (ap₂ (pack_from a.rows.n)
-    (block_in g.kind a.rows.i k.row_at.result (omega arith) k.row_at.ensures q.if2.false)
+    (block_in g.kind a.rows.i k.row_at-r.result (omega arith) k.row_at-r.ensures q.if-r-kind.false)
     (drop_of_length-le g.t3 over)
-    ∙ from_short a.rows.n k.row_at.result (block g.kind (drop (a.rows.i + 1) rows)))
+    ∙ from_short a.rows.n k.row_at-r.result (block g.kind (drop (a.rows.i + 1) rows)))
     ∙ a.rows.invariant
 
-returns-4 : tie.Need-returns-4 invariant-rows decreases-rows
-returns-4 c =
+returns-then-not-row_takes : tie.Need-returns-then-not-row_takes invariant-rows decreases-rows
+returns-then-not-row_takes c =
     let t = c.before in
     let k = t.before.before.before.before.before in
     let a = k.before.before in
-    let g = a.before.args in
+    let g = a.args in
     sym
-    (from_refused a.rows.n k.row_at.result (block g.kind (drop (a.rows.i + 1) rows)) (get_or g.t3 a.rows.j (pos 0))
-    (drop (a.rows.j + 1) g.t3) (told t ∙ not-true t.row-takes.result c.if4.true))
+    (from_refused a.rows.n k.row_at-r.result (block g.kind (drop (a.rows.i + 1) rows)) (get_or g.t3 a.rows.j (pos 0))
+    (drop (a.rows.j + 1) g.t3) (told t ∙ not-true t.row_takes.result c.if-not-row_takes.true-raw))
     ∙ step t.before
 
 pub pack_spec : {M : Type 1} → statement M
 pack_spec =
     tie.close
-    (tie.spec
-    invariant-rows
-    decreases-rows
-    rows-holds
-    row-at-requires
-    mul-z
-    array-copy-out-z
-    row-takes-requires
-    put-raw-requires
-    add-j
-    add-i
-    rows-less
-    rows-again
-    returns
-    returns-2
-    returns-3
-    returns-4)
+    (tie.spec invariant-rows decreases-rows rows-init row_at-r-requires offset_bounds-raws-j bounds-raws-j row_takes-requires put_raw-n-requires overflow_add-j overflow_add-i rows-smaller rows-preserved returns-then-i-ge-ROW_COUNT returns-then-r-kind returns-then-j-ge16 returns-then-not-row_takes)

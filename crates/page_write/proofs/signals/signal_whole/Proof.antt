@@ -19,9 +19,9 @@ returns c =
     let s = c.before.before in
     let r = s.args.r in
     let n = s.args.n in
-    to_z-of_z {w = w64} (record { sfits = c.whole.type-inv })
+    to_z-of_z {w = w64} (record { sfits = c.whole.type_inv })
     ∙ c.whole.ensures
-    ∙ ap (whole_of r.signed r.width) (c.before.get.ensures ∙ get_in n (lowest r) r.width s.requires.0 s.requires.2)
+    ∙ ap (whole_of r.signed r.width) (c.get.ensures ∙ get_in n (lowest r) r.width s.requires.0 s.requires.2)
     ∙ whole_in r.signed r.width (bits_at n r) s.requires.0 s.requires.1 (get_lt n (lowest r) r.width)
 
 pub signal_whole_spec : {M : Type 1} → statement M

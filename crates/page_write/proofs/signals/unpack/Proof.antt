@@ -38,85 +38,71 @@ sets_pad (suc k) (z ∷ zs) = sets_suc z (pad k []) 0 zs ∙ ap (λ (l : List �
 
 -- ---- the needs
 
-rows-holds : tie.Need-rows-init invariant-rows decreases-rows
+rows-init : tie.Need-rows-init invariant-rows decreases-rows
 unfolding pad
-rows-holds c = (refl, sets_pad signal_count (wholes_of c.args.n (block c.args.kind (drop c.args.at rows))))
+rows-init c = (refl, sets_pad signal_count (wholes_of c.args.n (block c.args.kind (drop c.args.at rows))))
 
-row-to-unpack-requires : tie.Need-row-to-unpack-requires invariant-rows decreases-rows
-row-to-unpack-requires c κs = search rules
+row_to_unpack-r-requires : tie.Need-row_to_unpack-r-requires invariant-rows decreases-rows
+row_to_unpack-r-requires c κs = search rules
 
-signal-whole-requires : tie.Need-signal-whole-requires invariant-rows decreases-rows
-signal-whole-requires c κs = fine_at _ _ (omega arith) c.before.before.row-to-unpack.ensures
+signal_whole-requires : tie.Need-signal_whole-requires invariant-rows decreases-rows
+signal_whole-requires c κs = fine_at _ _ (omega arith) c.row_to_unpack-r.ensures
 
-mul-raws : tie.Need-overflow-mul-raws invariant-rows decreases-rows
-mul-raws c = omega arith
+offset_bounds-raws-j : tie.Need-offset_bounds-raws-j invariant-rows decreases-rows
+offset_bounds-raws-j c = omega arith
 
-array-set-from-raws : tie.Need-array-set-from-raws invariant-rows decreases-rows
-array-set-from-raws c = omega arith
+bounds-raws-j : tie.Need-bounds-raws-j invariant-rows decreases-rows
+bounds-raws-j c = omega arith
 
-add-j : tie.Need-overflow-add-j invariant-rows decreases-rows
-add-j c = omega arith
+overflow_add-j : tie.Need-overflow_add-j invariant-rows decreases-rows
+overflow_add-j c = omega arith
 
-add-i : tie.Need-overflow-add-i invariant-rows decreases-rows
-add-i c = omega arith
+overflow_add-i : tie.Need-overflow_add-i invariant-rows decreases-rows
+overflow_add-i c = omega arith
 
-rows-less : tie.Need-rows-smaller invariant-rows decreases-rows
-rows-less c = omega arith
+rows-smaller : tie.Need-rows-smaller invariant-rows decreases-rows
+rows-smaller c = omega arith
 
-rows-again : tie.Need-rows-preserved invariant-rows decreases-rows
+rows-preserved : tie.Need-rows-preserved invariant-rows decreases-rows
 unfolding wholes_of
-rows-again c =
+rows-preserved c =
     let q = c.before in
     let k = q.before.before in
     let a = k.before.before.before in
-    let g = a.before.args in
-    let w = c.signal-whole.result in
-    let e = block_in g.kind a.rows.i k.row-to-unpack.result (omega arith) k.row-to-unpack.ensures q.if3.false in
-    let z : to_z w64 (of_z w64 w) ≡ whole_at g.n k.row-to-unpack.result
-    = to_z-of_z {w = w64} (record { sfits = c.signal-whole.type-inv }) ∙ c.signal-whole.ensures in (
+    let g = a.args in
+    let w = c.signal_whole.result in
+    let e = block_in g.kind a.rows.i k.row_to_unpack-r.result (omega arith) k.row_to_unpack-r.ensures q.if-r-kind.false in
+    let z : to_z w64 (of_z w64 w) ≡ whole_at g.n k.row_to_unpack-r.result
+    = to_z-of_z {w = w64} (record { sfits = c.signal_whole.type_inv }) ∙ c.signal_whole.ensures in (
       length-set a.rows.raws a.rows.j (to_z w64 (of_z w64 w)) ∙ a.rows.invariant.0,
       rw (add-one a.rows.j, z) (rw e at a.rows.invariant.1),
     )
 
-returns : tie.Need-returns invariant-rows decreases-rows
+returns-then-i-ge-ROW_COUNT : tie.Need-returns-then-i-ge-ROW_COUNT invariant-rows decreases-rows
 unfolding wholes_of
-returns c =
+returns-then-i-ge-ROW_COUNT c =
     let a = c.before in
-    let g = a.before.args in
-    sym (ap (λ (l : List Row). sets a.rows.raws a.rows.j (wholes_of g.n l)) (block_end g.kind a.rows.i c.if1.true))
+    let g = a.args in
+    sym (ap (λ (l : List Row). sets a.rows.raws a.rows.j (wholes_of g.n l)) (block_end g.kind a.rows.i c.if-i-ge-ROW_COUNT.true))
     ∙ a.rows.invariant.1
 
-returns-2 : tie.Need-returns-2 invariant-rows decreases-rows
-returns-2 c =
+returns-then-j-ge16 : tie.Need-returns-then-j-ge16 invariant-rows decreases-rows
+returns-then-j-ge16 c =
     let a = c.before.before in
-    let g = a.before.args in
-    let h : length a.rows.raws ≤ a.rows.j = omega (arith, a.rows.invariant.0, c.if2.true) in
+    let g = a.args in
+    let h : length a.rows.raws ≤ a.rows.j = omega (arith, a.rows.invariant.0, c.if-j-ge16.true) in
     sym (sets_out a.rows.raws a.rows.j (wholes_of g.n (block g.kind (drop a.rows.i rows))) h) ∙ a.rows.invariant.1
 
-returns-3 : tie.Need-returns-3 invariant-rows decreases-rows
+returns-then-r-kind : tie.Need-returns-then-r-kind invariant-rows decreases-rows
 unfolding wholes_of
-returns-3 c =
+returns-then-r-kind c =
     let k = c.before.before in
     let a = k.before.before.before in
-    let g = a.before.args in
-    let e = block_out g.kind a.rows.i k.row-to-unpack.result (omega arith) k.row-to-unpack.ensures c.if3.true in
+    let g = a.args in
+    let e = block_out g.kind a.rows.i k.row_to_unpack-r.result (omega arith) k.row_to_unpack-r.ensures c.if-r-kind.true in
     sym (ap (λ (l : List Row). sets a.rows.raws a.rows.j (wholes_of g.n l)) e) ∙ a.rows.invariant.1
 
 pub unpack_spec : {M : Type 1} → statement M
 unpack_spec =
     tie.close
-    (tie.spec
-    invariant-rows
-    decreases-rows
-    rows-holds
-    row-to-unpack-requires
-    signal-whole-requires
-    mul-raws
-    array-set-from-raws
-    add-j
-    add-i
-    rows-less
-    rows-again
-    returns
-    returns-2
-    returns-3)
+    (tie.spec invariant-rows decreases-rows rows-init row_to_unpack-r-requires signal_whole-requires offset_bounds-raws-j bounds-raws-j overflow_add-j overflow_add-i rows-smaller rows-preserved returns-then-i-ge-ROW_COUNT returns-then-j-ge16 returns-then-r-kind)

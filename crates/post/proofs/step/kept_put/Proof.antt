@@ -4,20 +4,20 @@ use borrow.Author.Rules.{rules}
 use Rattle.post.proofs.step.kept_put.Statement.{statement}
 use Rattle.post.proofs.step.kept_put.Tie as tie
 
-is-set-requires : tie.Need-is-set-requires
-is-set-requires c κs = search rules
+is_set-requires : tie.Need-is_set-requires
+is_set-requires c κs = search rules
 
-mul-n : tie.Need-overflow-mul-n
-mul-n c = search rules
+offset_bounds-u-place : tie.Need-offset_bounds-u-place
+offset_bounds-u-place c = search rules
 
-element-set-from-n : tie.Need-element-set-from-n
-element-set-from-n c = search rules
+bounds-u-place : tie.Need-bounds-u-place
+bounds-u-place c = search rules
 
-returns : tie.Need-returns
-returns c = rw (sym c.before.is_set.ensures ∙ c.if1.true)
+returns-then-is_set : tie.Need-returns-then-is_set
+returns-then-is_set c = rw (sym c.is_set.ensures ∙ c.if-is_set.true)
 
-returns-2 : tie.Need-returns-2
-returns-2 c = rw (sym c.before.is_set.ensures ∙ c.if1.false)
+returns-else-is_set : tie.Need-returns-else-is_set
+returns-else-is_set c = rw (sym c.is_set.ensures ∙ c.if-is_set.false)
 
 pub kept_put_spec : {M : Type 1} → statement M
-kept_put_spec = tie.close (tie.spec is-set-requires mul-n element-set-from-n returns returns-2)
+kept_put_spec = tie.close (tie.spec is_set-requires offset_bounds-u-place bounds-u-place returns-then-is_set returns-else-is_set)

@@ -3,11 +3,11 @@ use borrow.Author.Rules.{rules}
 use Rattle.post.proofs.step.no_session.Statement.{statement}
 use Rattle.post.proofs.step.no_session.Tie as tie
 
-no-slot-requires : tie.Need-no-slot-requires
-no-slot-requires c κs = search rules
+no_slot-none-requires : tie.Need-no_slot-none-requires
+no_slot-none-requires c κs = search rules
 
 returns : tie.Need-returns
-returns c = rw c.no_slot.ensures
+returns c = rw c.no_slot-none.ensures
 
 pub no_session_spec : {M : Type 1} → statement M
-no_session_spec = tie.close (tie.spec no-slot-requires returns)
+no_session_spec = tie.close (tie.spec no_slot-none-requires returns)

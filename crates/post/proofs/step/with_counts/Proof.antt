@@ -4,12 +4,12 @@ use Rattle.rules.specs.After.{with_counts}
 use Rattle.post.proofs.step.with_counts.Statement.{statement}
 use Rattle.post.proofs.step.with_counts.Tie as tie
 
-count-requires : tie.Need-count-requires
-count-requires c κs = search rules
+count-counts-requires : tie.Need-count-counts-requires
+count-counts-requires c κs = search rules
 
 returns : tie.Need-returns
 unfolding with_counts
-returns c = rw c.count.ensures
+returns c = rw c.count-counts.ensures
 
 pub with_counts_spec : {M : Type 1} → statement M
-with_counts_spec = tie.close (tie.spec count-requires returns)
+with_counts_spec = tie.close (tie.spec count-counts-requires returns)

@@ -5,47 +5,47 @@ use Rattle.rules.specs.After.{session_after, with_frame}
 use Rattle.post.proofs.step.with_frame.Statement.{statement}
 use Rattle.post.proofs.step.with_frame.Tie as tie
 
-returns : tie.Need-returns
+returns-in-Controller : tie.Need-returns-in-Controller
 unfolding with_frame session_after
-returns c = rw (sym c.before.before.role-of.ensures ∙ c.enum_told.given.1)
+returns-in-Controller c = rw (sym c.role_of.ensures ∙ c.in-Controller.is)
 
-returns-2 : tie.Need-returns-2
+returns-in-Limits : tie.Need-returns-in-Limits
 unfolding with_frame session_after
-returns-2 c = rw (sym c.before.before.role-of.ensures ∙ c.enum-told2.given.1)
+returns-in-Limits c = rw (sym c.role_of.ensures ∙ c.in-Limits.is)
 
-returns-3 : tie.Need-returns-3
+returns-in-Status : tie.Need-returns-in-Status
 unfolding with_frame session_after
-returns-3 c =
+returns-in-Status c =
     let e = c.before in
-    rw (sym e.before.before.role-of.ensures ∙ e.enum-told3.given.1, c.kept_put.ensures)
+    rw (sym e.role_of.ensures ∙ e.in-Status.is, c.kept_put-g.ensures)
 
-returns-4 : tie.Need-returns-4
+returns-in-Command : tie.Need-returns-in-Command
 unfolding with_frame session_after
-returns-4 c =
+returns-in-Command c =
     let e = c.before in
-    rw (sym e.before.before.role-of.ensures ∙ e.enum-told4.given.1, c.kept-put2.ensures)
+    rw (sym e.role_of.ensures ∙ e.in-Command.is, c.kept_put-g-in-Command.ensures)
 
-returns-5 : tie.Need-returns-5
+returns-in-Opening : tie.Need-returns-in-Opening
 unfolding with_frame session_after
-returns-5 c =
+returns-in-Opening c =
     let e = c.before in
-    rw (sym e.before.before.role-of.ensures ∙ e.enum-told5.given.1, c.opened-by.ensures)
+    rw (sym e.role_of.ensures ∙ e.in-Opening.is, c.opened_by-g.ensures)
 
-returns-6 : tie.Need-returns-6
+returns-in-Finished : tie.Need-returns-in-Finished
 unfolding with_frame session_after
-returns-6 c =
+returns-in-Finished c =
     let e = c.before in
-    rw (sym e.before.before.role-of.ensures ∙ e.enum-told6.given.1, c.no-session.ensures)
+    rw (sym e.role_of.ensures ∙ e.in-Finished.is, c.no_session-g.ensures)
 
-returns-7 : tie.Need-returns-7
+returns-in-Stop : tie.Need-returns-in-Stop
 unfolding with_frame session_after
-returns-7 c =
+returns-in-Stop c =
     let e = c.before in
-    rw (sym e.before.before.role-of.ensures ∙ e.enum-told7.given.1, c.kept-put3.ensures)
+    rw (sym e.role_of.ensures ∙ e.in-Stop.is, c.kept_put-g-in-Stop.ensures)
 
-returns-8 : tie.Need-returns-8
+returns-in-Other : tie.Need-returns-in-Other
 unfolding with_frame session_after
-returns-8 c = rw (sym c.before.before.role-of.ensures ∙ c.enum-told8.given.1)
+returns-in-Other c = rw (sym c.role_of.ensures ∙ c.in-Other.is)
 
 pub with_frame_spec : {M : Type 1} → statement M
 with_frame_spec =
@@ -65,11 +65,11 @@ with_frame_spec =
     (λ c. search rules)
     (λ c κs. search rules)
     (λ c. search rules)
-    returns
-    returns-2
-    returns-3
-    returns-4
-    returns-5
-    returns-6
-    returns-7
-    returns-8)
+    returns-in-Controller
+    returns-in-Limits
+    returns-in-Status
+    returns-in-Command
+    returns-in-Opening
+    returns-in-Finished
+    returns-in-Stop
+    returns-in-Other)

@@ -3,14 +3,14 @@ use borrow.Author.Rules.{rules}
 use Rattle.rule_limits.proofs.kept.plain.Statement.{statement}
 use Rattle.rule_limits.proofs.kept.plain.Tie as tie
 
-sensor-number-requires : tie.Need-sensor-number-requires
-sensor-number-requires c κs = search rules
+sensor_number-requires : tie.Need-sensor_number-requires
+sensor_number-requires c κs = search rules
 
-interface-number-requires : tie.Need-interface-number-requires
-interface-number-requires c κs = search rules
+interface_number-requires : tie.Need-interface_number-requires
+interface_number-requires c κs = search rules
 
 returns : tie.Need-returns
-returns c = rw (c.before.sensor-number.ensures, c.interface-number.ensures)
+returns c = rw (c.sensor_number.ensures, c.interface_number.ensures)
 
 pub plain_spec : {M : Type 1} → statement M
-plain_spec = tie.close (tie.spec sensor-number-requires interface-number-requires returns)
+plain_spec = tie.close (tie.spec sensor_number-requires interface_number-requires returns)

@@ -6,14 +6,14 @@ use Rattle.text_numbers.proofs.Signs.{complement}
 use Rattle.text_numbers.proofs.numbers.below_zero.Statement.{statement}
 use Rattle.text_numbers.proofs.numbers.below_zero.Tie as tie
 
-sub-result : tie.Need-overflow-sub-result
-sub-result c = search rules
+overflow_sub-result : tie.Need-overflow_sub-result
+overflow_sub-result c = search rules
 
-cast-result : tie.Need-overflow-cast-result
-cast-result c = search rules
+overflow_cast-result : tie.Need-overflow_cast-result
+overflow_cast-result c = search rules
 
 returns : tie.Need-returns
 returns c = complement (c.args.m - 1) (omega arith)
 
 pub below_zero_spec : {M : Type 1} → statement M
-below_zero_spec = tie.close (tie.spec sub-result cast-result returns)
+below_zero_spec = tie.close (tie.spec overflow_sub-result overflow_cast-result returns)

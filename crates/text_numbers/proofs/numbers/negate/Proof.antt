@@ -12,30 +12,30 @@ use Rattle.text_numbers.specs.declared.sign.Signed.TheVariants.{Is as IsSigned}
 use Rattle.text_numbers.proofs.numbers.negate.Statement.{statement}
 use Rattle.text_numbers.proofs.numbers.negate.Tie as tie
 
-enum-known-n : tie.Need-enum-known-n
-enum-known-n c = search rules
+enum_known-n : tie.Need-enum_known-n
+enum_known-n c = search rules
 
-returns : tie.Need-returns
-returns c = search rules
+returns-then-m-eq0 : tie.Need-returns-then-m-eq0
+returns-then-m-eq0 c = search rules
 
-below-zero-requires : tie.Need-below-zero-requires
-below-zero-requires c κs =
-    let l : c.before.before.n.given.0.0 ≤ 2 ^ 63 = subst (λ (n : Number). Within (2 ^ 63) n) c.before.before.n.given.1 c.before.before.before.before.requires in
+below_zero-requires : tie.Need-below_zero-requires
+below_zero-requires c κs =
+    let l : c.in-Is.m ≤ 2 ^ 63 = subst (λ (n : Number). Within (2 ^ 63) n) c.in-Is.is c.requires in
     (omega arith, omega arith)
 
-enum_told : tie.Need-enum-told
-enum_told c = search rules
+enum_told-1 : tie.Need-enum_told-1
+enum_told-1 c = search rules
 
-returns-2 : tie.Need-returns-2
-returns-2 c =
-    let m = c.before.before.before.n.given.0.0 in
+returns-else-m-eq0 : tie.Need-returns-else-m-eq0
+returns-else-m-eq0 c =
+    let m = c.in-Is.m in
     let e : m ≡ suc (m - 1) = omega arith in
-    sym (ap negated (c.before.before.before.n.given.1 ∙ ap Is e)
-    ∙ ap IsSigned (sym (to_z-of_z {w = w64} (record { sfits = c.below-zero.type-inv }) ∙ c.below-zero.ensures)))
+    sym (ap negated (c.in-Is.is ∙ ap Is e)
+    ∙ ap IsSigned (sym (to_z-of_z {w = w64} (record { sfits = c.below_zero.type_inv }) ∙ c.below_zero.ensures)))
 
-returns-3 : tie.Need-returns-3
-returns-3 c = search rules
+returns-in-Bad : tie.Need-returns-in-Bad
+returns-in-Bad c = search rules
 
 pub negate_spec : {M : Type 1} → statement M
 negate_spec =
-    tie.close (tie.spec enum-known-n returns below-zero-requires enum_told returns-2 returns-3)
+    tie.close (tie.spec enum_known-n returns-then-m-eq0 below_zero-requires enum_told-1 returns-else-m-eq0 returns-in-Bad)

@@ -11,25 +11,25 @@ use Rattle.text_numbers.specs.declared.sign.Signed.TheVariants.{Is as IsSigned}
 use Rattle.text_numbers.proofs.numbers.plain.Statement.{statement}
 use Rattle.text_numbers.proofs.numbers.plain.Tie as tie
 
-small : (c : tie.After-known-told) → c.before.n.given.0.0 < 2 ^ 63
+small : (c : tie.In-Is) → c.in-Is.m < 2 ^ 63
 small c =
-    let l : c.before.n.given.0.0 ≤ 2 ^ 63 - 1 = subst (λ (n : Number). Within (2 ^ 63 - 1) n) c.before.n.given.1 c.before.before.before.requires in
+    let l : c.in-Is.m ≤ 2 ^ 63 - 1 = subst (λ (n : Number). Within (2 ^ 63 - 1) n) c.in-Is.is c.requires in
     omega arith
 
-enum-known-n : tie.Need-enum-known-n
-enum-known-n c = search rules
+enum_known-n : tie.Need-enum_known-n
+enum_known-n c = search rules
 
-cast-t4 : tie.Need-overflow-cast-t4
-cast-t4 c = record { sfits = small c }
+overflow_cast-result : tie.Need-overflow_cast-result
+overflow_cast-result c = record { sfits = small c }
 
-enum_told : tie.Need-enum-told
-enum_told c = search rules
+enum_told-1 : tie.Need-enum_told-1
+enum_told-1 c = search rules
 
-returns : tie.Need-returns
-returns c = ap IsSigned (to_z_pos w64 (small c)) ∙ sym (ap unsigned c.before.n.given.1)
+returns-in-Is : tie.Need-returns-in-Is
+returns-in-Is c = ap IsSigned (to_z_pos w64 (small c)) ∙ sym (ap unsigned c.in-Is.is)
 
-returns-2 : tie.Need-returns-2
-returns-2 c = search rules
+returns-in-Bad : tie.Need-returns-in-Bad
+returns-in-Bad c = search rules
 
 pub plain_spec : {M : Type 1} → statement M
-plain_spec = tie.close (tie.spec enum-known-n cast-t4 enum_told returns returns-2)
+plain_spec = tie.close (tie.spec enum_known-n overflow_cast-result enum_told-1 returns-in-Is returns-in-Bad)

@@ -17,108 +17,89 @@ invariant-loop s base most v₀ i₀ v i = (v ≤ most) × (i ≤ length s) × (
 abbrev decreases-loop : tie.decreases-loop
 decreases-loop s base most v₀ i₀ v i = length s - i
 
-is-shortest-requires : tie.Need-is-shortest-requires invariant-loop decreases-loop
-is-shortest-requires c κs = search rules
+is_shortest-requires : tie.Need-is_shortest-requires invariant-loop decreases-loop
+is_shortest-requires c κs = search rules
+
+returns-then-not-is_shortest : tie.Need-returns-then-not-is_shortest invariant-loop decreases-loop
+returns-then-not-is_shortest c =
+    let a = c.args in
+    let r = c.is_shortest in
+    sym (not_shortest a.base a.most a.s.now (sym r.ensures ∙ not-true r.result c.if-not-is_shortest.true-raw))
+
+loop-i-init : tie.Need-loop-i-init invariant-loop decreases-loop
+loop-i-init c =
+    let a = c.args in
+    let r = c.is_shortest in
+    (omega arith, omega arith, at_first a.base a.most a.s.now (sym r.ensures ∙ not-false r.result c.if-not-is_shortest.false-raw))
+
+bounds-s-i : tie.Need-bounds-s-i invariant-loop decreases-loop
+bounds-s-i c = search rules
+
+digit-d-requires : tie.Need-digit-d-requires invariant-loop decreases-loop
+digit-d-requires c κs = search rules
+
+returns-then-d-base : tie.Need-returns-then-d-base invariant-loop decreases-loop
+returns-then-d-base c =
+    let a = c.args in
+    let l = c.loop-i in
+    sym (l.invariant.2 ∙ no_digit a.base a.most a.s.now l.v l.i c.digit-d.result c.loop-i-test.true c.digit-d.ensures c.if-d-base.true)
+
+nonzero_div-most : tie.Need-nonzero_div-most invariant-loop decreases-loop
+nonzero_div-most c = search rules
+
+-- the next digit read
+read : (c : tie.Else-d-base invariant-loop decreases-loop) → number_of c.args.base c.args.most c.args.s.now
+    ≡ after c.args.base c.args.most (c.loop-i.v * c.args.base + c.digit-d.result) (drop (c.loop-i.i + 1) c.args.s.now)
+read c =
+    let a = c.args in
+    let l = c.loop-i in
+    l.invariant.2 ∙ next a.base a.most a.s.now l.v l.i c.digit-d.result c.loop-i-test.true c.digit-d.ensures c.if-d-base.false
+
+returns-then-v-most : tie.Need-returns-then-v-most invariant-loop decreases-loop
+returns-then-v-most c =
+    let a = c.args in
+    let l = c.loop-i in
+    sym (read c.before ∙ too_large a.base a.most (l.v * a.base + c.digit-d.result) (drop (l.i + 1) a.s.now) (omega arith)
+    (omega (arith, over a.base a.most l.v (omega arith) c.if-v-most.true)))
+
+fit : (c : tie.Else-v-most invariant-loop decreases-loop) → c.loop-i.v * c.args.base ≤ c.args.most
+fit c = under c.args.base c.args.most c.loop-i.v (omega arith) (omega arith)
+
+overflow_mul-v : tie.Need-overflow_mul-v invariant-loop decreases-loop
+overflow_mul-v c = record { fits = omega (arith, fit c) }
+
+overflow_sub-most : tie.Need-overflow_sub-most invariant-loop decreases-loop
+overflow_sub-most c = fit c
+
+returns-then-d-most : tie.Need-returns-then-d-most invariant-loop decreases-loop
+returns-then-d-most c =
+    let a = c.args in
+    let l = c.loop-i in
+    sym (read c.before.before ∙ too_large a.base a.most (l.v * a.base + c.digit-d.result) (drop (l.i + 1) a.s.now) (omega arith)
+    (omega (arith, fit c.before)))
+
+overflow_mul-v-in-loop-i : tie.Need-overflow_mul-v-in-loop-i invariant-loop decreases-loop
+overflow_mul-v-in-loop-i c = record { fits = omega (arith, fit c.before) }
+
+overflow_add-v : tie.Need-overflow_add-v invariant-loop decreases-loop
+overflow_add-v c = record { fits = omega (arith, fit c.before) }
+
+overflow_add-i : tie.Need-overflow_add-i invariant-loop decreases-loop
+overflow_add-i c = search rules
+
+loop-i-smaller : tie.Need-loop-i-smaller invariant-loop decreases-loop
+loop-i-smaller c = search rules
+
+loop-i-preserved : tie.Need-loop-i-preserved invariant-loop decreases-loop
+loop-i-preserved c = (omega (arith, fit c.before), omega arith, read c.before.before)
 
 returns : tie.Need-returns invariant-loop decreases-loop
 returns c =
-    let a = c.before.before.before.args in
-    let r = c.before.is-shortest in
-    sym (not_shortest a.base a.most a.s.now (sym r.ensures ∙ not-true r.result c.if1.true))
-
-loop-holds : tie.Need-loop-init invariant-loop decreases-loop
-loop-holds c =
-    let a = c.before.before.before.args in
-    let r = c.before.is-shortest in
-    (omega arith, omega arith, at_first a.base a.most a.s.now (sym r.ensures ∙ not-false r.result c.if1.false))
-
-shared-slice-read-digit : tie.Need-shared-slice-read-digit invariant-loop decreases-loop
-shared-slice-read-digit c = search rules
-
-digit-requires : tie.Need-digit-requires invariant-loop decreases-loop
-digit-requires c κs = search rules
-
-returns-2 : tie.Need-returns-2 invariant-loop decreases-loop
-returns-2 c =
-    let a = c.before.before.before.before.before.before.before.before.args in
-    let l = c.before.before.before.before.loop in
-    sym (l.invariant.2 ∙ no_digit a.base a.most a.s.now l.v l.i c.before.digit.result c.before.before.before.loop-test.true c.before.digit.ensures c.if2.true)
-
-div-if3 : tie.Need-nonzero-div-if3 invariant-loop decreases-loop
-div-if3 c = search rules
-
--- the next digit read
-read : (c : tie.Else2 invariant-loop decreases-loop) → number_of c.before.before.before.before.before.before.before.before.args.base c.before.before.before.before.before.before.before.before.args.most c.before.before.before.before.before.before.before.before.args.s.now
-    ≡ after c.before.before.before.before.before.before.before.before.args.base c.before.before.before.before.before.before.before.before.args.most (c.before.before.before.before.loop.v * c.before.before.before.before.before.before.before.before.args.base + c.before.digit.result) (drop (c.before.before.before.before.loop.i + 1) c.before.before.before.before.before.before.before.before.args.s.now)
-read c =
-    let a = c.before.before.before.before.before.before.before.before.args in
-    let l = c.before.before.before.before.loop in
-    l.invariant.2 ∙ next a.base a.most a.s.now l.v l.i c.before.digit.result c.before.before.before.loop-test.true c.before.digit.ensures c.if2.false
-
-returns-3 : tie.Need-returns-3 invariant-loop decreases-loop
-returns-3 c =
-    let a = c.before.before.before.before.before.before.before.before.before.args in
-    let l = c.before.before.before.before.before.loop in
-    sym (read c.before ∙ too_large a.base a.most (l.v * a.base + c.before.before.digit.result) (drop (l.i + 1) a.s.now) (omega arith)
-    (omega (arith, over a.base a.most l.v (omega arith) c.if3.true)))
-
-fit : (c : tie.Else3 invariant-loop decreases-loop) → c.before.before.before.before.before.loop.v * c.before.before.before.before.before.before.before.before.before.args.base ≤ c.before.before.before.before.before.before.before.before.before.args.most
-fit c = under c.before.before.before.before.before.before.before.before.before.args.base c.before.before.before.before.before.before.before.before.before.args.most c.before.before.before.before.before.loop.v (omega arith) (omega arith)
-
-mul-if4 : tie.Need-overflow-mul-if4 invariant-loop decreases-loop
-mul-if4 c = record { fits = omega (arith, fit c) }
-
-sub-if4 : tie.Need-overflow-sub-if4 invariant-loop decreases-loop
-sub-if4 c = fit c
-
-returns-4 : tie.Need-returns-4 invariant-loop decreases-loop
-returns-4 c =
-    let a = c.before.before.before.before.before.before.before.before.before.before.args in
-    let l = c.before.before.before.before.before.before.loop in
-    sym (read c.before.before ∙ too_large a.base a.most (l.v * a.base + c.before.before.before.digit.result) (drop (l.i + 1) a.s.now) (omega arith)
-    (omega (arith, fit c.before)))
-
-mul-v : tie.Need-overflow-mul-v invariant-loop decreases-loop
-mul-v c = record { fits = omega (arith, fit c.before) }
-
-add-v : tie.Need-overflow-add-v invariant-loop decreases-loop
-add-v c = record { fits = omega (arith, fit c.before) }
-
-add-i : tie.Need-overflow-add-i invariant-loop decreases-loop
-add-i c = search rules
-
-loop-less : tie.Need-loop-smaller invariant-loop decreases-loop
-loop-less c = search rules
-
-loop-again : tie.Need-loop-preserved invariant-loop decreases-loop
-loop-again c = (omega (arith, fit c.before), omega arith, read c.before.before)
-
-returns-5 : tie.Need-returns-5 invariant-loop decreases-loop
-returns-5 c =
-    let a = c.before.before.before.before.before.args in
-    let l = c.before.loop in
-    sym (l.invariant.2 ∙ at_last a.base a.most a.s.now l.v l.i (le_antisymm l.invariant.1 c.loop-test.false) l.invariant.0)
+    let a = c.args in
+    let l = c.loop-i in
+    sym (l.invariant.2 ∙ at_last a.base a.most a.s.now l.v l.i (le_antisymm l.invariant.1 c.loop-i-test.false) l.invariant.0)
 
 pub whole_spec : {M : Type 1} → statement M
 whole_spec =
     tie.close
-    (tie.spec
-    invariant-loop
-    decreases-loop
-    is-shortest-requires
-    returns
-    loop-holds
-    shared-slice-read-digit
-    digit-requires
-    returns-2
-    div-if3
-    returns-3
-    mul-if4
-    sub-if4
-    returns-4
-    mul-v
-    add-v
-    add-i
-    loop-less
-    loop-again
-    returns-5)
+    (tie.spec invariant-loop decreases-loop is_shortest-requires returns-then-not-is_shortest loop-i-init bounds-s-i digit-d-requires returns-then-d-base nonzero_div-most returns-then-v-most overflow_mul-v overflow_sub-most returns-then-d-most overflow_mul-v-in-loop-i overflow_add-v overflow_add-i loop-i-smaller loop-i-preserved returns)

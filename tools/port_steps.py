@@ -1,0 +1,195 @@
+#!/usr/bin/env python3
+"""Writes in the proofs by hand the names that the Rattle of November 2026 makes of goals, steps and places.
+
+usage: tools/port_steps.py LIST CRATE
+
+LIST is the names.json that `rattle check --generated DIR --old-names` writes for the crate, and CRATE its folder. The goals, which the older Rattle counted
+(returns-2), and the steps (if1, Else1) have their names of the source now (returns-else-signed, if-signed). It rewrites proofs/**/Proof.antt in place, once.
+"""
+import glob
+import json
+import os
+import re
+import sys
+
+TOKEN = re.compile(r'--[^\n]*|"(?:\\.|[^"\\\n])*"|[^\s(){};,@"«»]+')
+plain = lambda n: n.replace('_', '-')
+# what the older Rattle joined by dashes, and what stood before a goal's name
+WORDS = {'type-inv': 'type_inv', 'well-formed': 'well_formed', 'yielded-by': 'yielded_by', 'len-below': 'len_below'}
+KINDS = re.compile(r'^(overflow|nonzero|bounds|offset-bounds|slice-bounds)-')
+HOLDERS = ('args', 'ranges', 'initial', 'fn')
+
+
+class Steps:
+    """The places of a function, each with its parent, its old and new field, and what stands below its arm."""
+
+    def __init__(self, of):
+        self.goals = {plain(old): new for old, new in of['needs']}
+        self.order = [new for _, new in of['needs']]
+        self.at = {}
+        self.places = []
+        for (old, parent, (was, now), _, subs), named, arm in zip(of['places'], of['places_by_name'], of['arms']):
+            self.at.setdefault(plain(old), len(self.places))
+            self.places.append((plain(old), plain(parent) if parent else None, plain(was), now, dict(subs), named, arm))
+        self.asked = {new: self.at.get(plain(old)) for (_, new), (old, _) in zip(of['needs'], of['asked_at'])}
+        self.loops = {}
+        for it in of.get('loops') or []:
+            if isinstance(it, list) and len(it) > 1 and isinstance(it[0], str) and isinstance(it[1], str):
+                self.loops[plain(it[0])] = it[1]
+
+    def place(self, name):
+        it = plain(name)
+        for form in (it, re.sub(r'2$', '', it), it + '2'):
+            if form in self.at:
+                return self.at[form]
+        return None
+
+    def goal(self, name):
+        it = plain(name)
+        for form in (it, KINDS.sub('', it), re.sub(r'^slice-bounds-', 'part-', it)):
+            for way in (form, re.sub(r'-(\d+)$', r'\1', form), re.sub(r'(\D)(\d+)$', r'\1-\2', form), re.sub(r'2(?=-|$)', '', form)):
+                if way in self.goals:
+                    return self.goals[way]
+        return None
+
+    def parent(self, i):
+        up = self.places[i][1]
+        return self.at.get(up) if up is not None else None
+
+    def up(self, i):
+        while i is not None:
+            yield i
+            i = self.parent(i)
+
+    def resolve(self, i, parts):
+        """How many of the parts are taken for what: the new parts, or None. i is the place, or None where it is not known."""
+        it = plain(parts[0])
+        forms = (it, re.sub(r'2$', '', it))
+        places = list(self.up(i)) if i is not None else range(len(self.places))
+        for form in forms:
+            for at in places:
+                _, _, was, now, subs, _, arm = self.places[at]
+                if arm:
+                    for sub, field, path in sorted(arm[2], key=lambda s: -len(s[2])):
+                        if plain(field) == form and path == parts[1:1 + len(path)] and not sub.endswith('-own'):
+                            return 1 + len(path), [arm[0], sub]
+                if was == form:
+                    own = next((sub for sub, field, path in (arm[2] if arm else []) if plain(field) == form and not path), None)
+                    if arm and own:
+                        return 1, [arm[0], own]
+                    if len(parts) > 1 and parts[1] in subs:
+                        return 2, [now, subs[parts[1]]]
+                    return 1, [now]
+        return None
+
+
+def turn(text, of):
+    steps, said = Steps(of), set()
+
+    def tie(parts):
+        it = parts[1]
+        if it.startswith('Need-'):
+            new = steps.goal(it[5:])
+            if new is None:
+                said.add(f'no goal {it}')
+                return None
+            return '.'.join(['tie', 'Need-' + new, *parts[2:]])
+        for head in ('invariant-', 'decreases-'):
+            if it.startswith(head) and plain(it[len(head):]) in steps.loops:
+                return '.'.join(['tie', head + steps.loops[plain(it[len(head):])], *parts[2:]])
+        at = steps.place(it)
+        return None if at is None else '.'.join(['tie', steps.places[at][5], *parts[2:]])
+
+    def block(lines):
+        """One declaration, with the places of its variables."""
+        known = {}
+        head = re.match(r'(?:abbrev |pub )*(\S+) : tie\.Need-([^\s(){};,]+)', lines)
+        if head:
+            new = steps.goal(head[2])
+            known['c'] = steps.asked.get(new)
+        for names, place in re.findall(r'\(([\w\' ]+) : tie\.([^\s(){};,]+)', lines):
+            for name in names.split():
+                known[name] = steps.place(place)
+
+        def dotted(m):
+            word = m[0]
+            if word.startswith(('--', '"')) or '.' not in word:
+                return word
+            parts = word.split('.')
+            if parts[0] == 'tie':
+                return tie(parts) or word
+            at = known.get(parts[0])
+            seen = parts[0] in known
+            out, i, ups = [parts[0]], 1, 0
+            while i < len(parts) and parts[i] == 'before':
+                ups += 1
+                i += 1
+                at = steps.parent(at) if at is not None else None
+            rest = parts[i:]
+            if not rest or not rest[0]:
+                bound = re.search(r'let (\S+) = $', lines[:m.start()])
+                if bound and seen:
+                    known[bound[1]] = at
+                return '.'.join([parts[0]] + ['before'] * ups + rest)
+            if not seen and ups == 0 and i == 1:
+                # a value that is no place: only the spelling of a field can have changed
+                return '.'.join([parts[0], *[WORDS.get(p, p) for p in parts[1:]]])
+            if rest[0] not in ('args', 'ranges', 'requires', 'well_formed', 'well-formed', 'type-inv', 'type_inv', 'given', 'world'):
+                found = steps.resolve(at, rest)
+                if found:
+                    n, new = found
+                    rest = new + rest[n:]
+                else:
+                    out += ['before'] * ups
+            rest = [WORDS.get(p, p) for p in rest]
+            return '.'.join(out + rest)
+
+        return TOKEN.sub(dotted, lines)
+
+    parts = re.split(r'(\n\n+)', text)
+    text = ''.join(p if k % 2 else block(p) for k, p in enumerate(parts))
+    # the answers carry the goals' names
+    renamed = {}
+    for name, goal in re.findall(r'(?m)^(\S+) : tie\.Need-([^\s(){};,]+)', text):
+        renamed[name] = goal
+    text = TOKEN.sub(lambda m: renamed.get(m[0], m[0]), text)
+    # what closes the proof takes the goals in today's order
+    m = re.search(r'tie\.spec\b((?:\s+[^\s()]+)*)\)', text)
+    if m:
+        given = m[1].split()
+        first = [g for g in given if g not in renamed.values()]
+        missing = [n for n in steps.order if n not in renamed.values()]
+        for n in missing:
+            said.add(f'no answer to {n}')
+        for g in first:
+            if not g.startswith(('invariant', 'decreases')):
+                said.add(f'not a goal now: {g}')
+        first = [g for g in first if g.startswith(('invariant', 'decreases'))]
+        add = ''.join(f'{n} : tie.Need-{n} {" ".join(first)}'.rstrip() + f'\n{n} c = search rules\n\n' for n in missing)
+        whole = re.search(r'(?m)^pub \S+_spec :', text)
+        text = text[:m.start(1)] + ' ' + ' '.join(first + steps.order) + text[m.end(1):]
+        text = text[:whole.start()] + add + text[whole.start():]
+    return text, said
+
+
+def main():
+    names, crate = json.load(open(sys.argv[1])), sys.argv[2].rstrip('/')
+    name = os.path.basename(crate)
+    for path in sorted(glob.glob(f'{crate}/proofs/**/Proof.antt', recursive=True)):
+        function = os.path.dirname(os.path.relpath(path, f'{crate}/proofs')).replace('/', '.')
+        of = names.get(f'Rattle-{name}-proofs.{function}.Lts')
+        if of is None:
+            print(f'{path}: no names')
+            continue
+        text = open(path).read()
+        if 'tie.close' not in text:
+            print(f'{path}: by hand')
+            continue
+        new, said = turn(text, of)
+        for it in sorted(said):
+            print(f'{path}: {it}')
+        with open(path, 'w') as f:
+            f.write(new)
+
+
+main()
