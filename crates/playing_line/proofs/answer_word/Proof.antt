@@ -9,9 +9,6 @@ use Rattle.playing_line.proofs.answer_word.Tie as tie
 enum_known-a : tie.Need-enum_known-a
 enum_known-a c = search rules
 
-slice-aggregate-named : tie.Need-slice-aggregate-named
-slice-aggregate-named c = search rules
-
 named-requires : tie.Need-named-requires
 named-requires c κs = search rules
 

@@ -6,9 +6,6 @@ use borrow.Author.Rules.{rules}
 use Rattle.playing_line.proofs.post_word.Statement.{statement}
 use Rattle.playing_line.proofs.post_word.Tie as tie
 
-slice-aggregate-put : tie.Need-slice-aggregate-put
-slice-aggregate-put c = search rules
-
 put-requires : tie.Need-put-requires
 put-requires c κs = search rules
 
@@ -19,9 +16,6 @@ returns-then-dash : tie.Need-returns-then-dash
 returns-then-dash c =
     let a = c.args in
     like a.out.now a.pen (ap (post_words a.post) (sym c.if-dash.true)) (one a.out.now a.pen _ c.put.ensures)
-
-slice-aggregate-named : tie.Need-slice-aggregate-named
-slice-aggregate-named c = search rules
 
 named-requires : tie.Need-named-requires
 named-requires c κs = search rules

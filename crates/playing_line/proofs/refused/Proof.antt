@@ -26,9 +26,6 @@ started : (n s : ℕ) → n ≡ 5 → name n ++ named_words (space ∷ []) s ≡
 unfolding refused_words
 started n s h = ap (behind n s) (sym (eq-eqb n 5 h))
 
-slice-aggregate-named : tie.Need-slice-aggregate-named
-slice-aggregate-named c = search rules
-
 named-p-requires : tie.Need-named-p-requires
 named-p-requires c κs = search rules
 
@@ -39,9 +36,6 @@ returns-then-n-ne5 : tie.Need-returns-then-n-ne5
 returns-then-n-ne5 c =
     let a = c.args in
     like a.out.now a.pen (plain a.n a.start c.if-n-ne5.true) c.named-p.ensures
-
-slice-aggregate-named-2 : tie.Need-slice-aggregate-named-2
-slice-aggregate-named-2 c = search rules
 
 named-requires : tie.Need-named-requires
 named-requires c κs = search rules

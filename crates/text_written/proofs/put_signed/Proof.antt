@@ -14,9 +14,6 @@ use Rattle.text_written.proofs.Turns.{with_dash, without}
 use Rattle.text_written.proofs.put_signed.Statement.{statement}
 use Rattle.text_written.proofs.put_signed.Tie as tie
 
-slice-aggregate-put : tie.Need-slice-aggregate-put
-slice-aggregate-put c = search rules
-
 put-p-requires : tie.Need-put-p-requires
 put-p-requires c κs = search rules
 

@@ -8,9 +8,6 @@ use borrow.Author.Rules.{rules}
 use Rattle.notation_answers.proofs.answer.bytes_end.Statement.{statement}
 use Rattle.notation_answers.proofs.answer.bytes_end.Tie as tie
 
-slice-aggregate-put : tie.Need-slice-aggregate-put
-slice-aggregate-put c = search rules
-
 put-p-requires : tie.Need-put-p-requires
 put-p-requires c κs = search rules
 

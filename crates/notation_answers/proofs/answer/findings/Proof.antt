@@ -17,9 +17,6 @@ refused : (w : ℕ) → 65536 ≤ w → refused_in w ≡ findings_words w
 unfolding findings_words
 refused w h = rw (le-ltb w 65536 h)
 
-slice-aggregate-numbered : tie.Need-slice-aggregate-numbered
-slice-aggregate-numbered c = search rules
-
 numbered-requires : tie.Need-numbered-requires
 numbered-requires c κs = search rules
 

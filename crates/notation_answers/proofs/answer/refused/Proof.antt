@@ -21,9 +21,6 @@ dotted : (n s : ℕ) → n ≡ 5 → named_words (capital_r ∷ []) n ++ named_w
 unfolding refused_words
 dotted n s h = ap (λ (b : Bool). named_words (capital_r ∷ []) n ++ cond b (named_words (colon ∷ []) s) []) (sym (eq-eqb n 5 h))
 
-slice-aggregate-named : tie.Need-slice-aggregate-named
-slice-aggregate-named c = search rules
-
 named-p-requires : tie.Need-named-p-requires
 named-p-requires c κs = search rules
 
@@ -34,9 +31,6 @@ returns-then-n-ne5 : tie.Need-returns-then-n-ne5
 returns-then-n-ne5 c =
     let a = c.args in
     like a.out.now a.pen (plain a.n a.start c.if-n-ne5.true) c.named-p.ensures
-
-slice-aggregate-named-2 : tie.Need-slice-aggregate-named-2
-slice-aggregate-named-2 c = search rules
 
 named-requires : tie.Need-named-requires
 named-requires c κs = search rules

@@ -17,9 +17,6 @@ refused : (w : ℕ) → 65536 ≤ w → refused_in w ≡ setting_words w
 unfolding setting_words
 refused w h = rw (le-ltb w 65536 h)
 
-slice-aggregate-put : tie.Need-slice-aggregate-put
-slice-aggregate-put c = search rules
-
 put-requires : tie.Need-put-requires
 put-requires c κs = search rules
 

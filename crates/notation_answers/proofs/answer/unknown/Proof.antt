@@ -4,9 +4,6 @@ use borrow.Author.Rules.{rules}
 use Rattle.notation_answers.proofs.answer.unknown.Statement.{statement}
 use Rattle.notation_answers.proofs.answer.unknown.Tie as tie
 
-slice-aggregate-put : tie.Need-slice-aggregate-put
-slice-aggregate-put c = search rules
-
 put-requires : tie.Need-put-requires
 put-requires c κs = search rules
 

@@ -10,17 +10,11 @@ use borrow.Author.Rules.{rules}
 use Rattle.notation_endings.proofs.ending.bad.Statement.{statement}
 use Rattle.notation_endings.proofs.ending.bad.Tie as tie
 
-slice-aggregate-named : tie.Need-slice-aggregate-named
-slice-aggregate-named c = search rules
-
 refusal_number-requires : tie.Need-refusal_number-requires
 refusal_number-requires c κs = search rules
 
 named-p-requires : tie.Need-named-p-requires
 named-p-requires c κs = search rules
-
-slice-aggregate-put : tie.Need-slice-aggregate-put
-slice-aggregate-put c = search rules
 
 put-q-requires : tie.Need-put-q-requires
 put-q-requires c κs = search rules

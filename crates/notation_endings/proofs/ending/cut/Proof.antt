@@ -7,9 +7,6 @@ use borrow.Author.Rules.{rules}
 use Rattle.notation_endings.proofs.ending.cut.Statement.{statement}
 use Rattle.notation_endings.proofs.ending.cut.Tie as tie
 
-slice-aggregate-put : tie.Need-slice-aggregate-put
-slice-aggregate-put c = search rules
-
 put-p-requires : tie.Need-put-p-requires
 put-p-requires c κs = search rules
 

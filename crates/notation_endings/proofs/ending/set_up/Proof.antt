@@ -7,9 +7,6 @@ use borrow.Author.Rules.{rules}
 use Rattle.notation_endings.proofs.ending.set_up.Statement.{statement}
 use Rattle.notation_endings.proofs.ending.set_up.Tie as tie
 
-slice-aggregate-named : tie.Need-slice-aggregate-named
-slice-aggregate-named c = search rules
-
 refusal_number-requires : tie.Need-refusal_number-requires
 refusal_number-requires c κs = search rules
 
