@@ -12,41 +12,41 @@ invariant-loop piece line₀ room₀ out₀ d₀ i₀ line room out d i = (i ≤
 abbrev decreases-loop : tie.decreases-loop
 decreases-loop piece line₀ room₀ out₀ d₀ i₀ line room out d i = length piece - i
 
-loop-holds : tie.Need-loop-init invariant-loop decreases-loop
-loop-holds c = search rules
+loop-i-init : tie.Need-loop-i-init invariant-loop decreases-loop
+loop-i-init c = search rules
 
-shared-slice-read-b : tie.Need-shared-slice-read-b invariant-loop decreases-loop
-shared-slice-read-b c = search rules
+bounds-piece-i : tie.Need-bounds-piece-i invariant-loop decreases-loop
+bounds-piece-i c = search rules
 
-add-i : tie.Need-overflow-add-i invariant-loop decreases-loop
-add-i c = search rules
+overflow_add-i : tie.Need-overflow_add-i invariant-loop decreases-loop
+overflow_add-i c = search rules
 
-ended-requires : tie.Need-ended-requires invariant-loop decreases-loop
-ended-requires c κs = search rules
+ended-d-requires : tie.Need-ended-d-requires invariant-loop decreases-loop
+ended-d-requires c κs = search rules
 
-loop-less : tie.Need-loop-smaller invariant-loop decreases-loop
-loop-less c = search rules
+loop-i-smaller-then-b-eq10 : tie.Need-loop-i-smaller-then-b-eq10 invariant-loop decreases-loop
+loop-i-smaller-then-b-eq10 c = search rules
 
-loop-again : tie.Need-loop-preserved invariant-loop decreases-loop
-loop-again c = search rules
+loop-i-preserved-then-b-eq10 : tie.Need-loop-i-preserved-then-b-eq10 invariant-loop decreases-loop
+loop-i-preserved-then-b-eq10 c = search rules
 
-kept-requires : tie.Need-kept-requires invariant-loop decreases-loop
-kept-requires c κs = search rules
+kept-d-requires : tie.Need-kept-d-requires invariant-loop decreases-loop
+kept-d-requires c κs = search rules
 
-loop-less-2 : tie.Need-loop-smaller-2 invariant-loop decreases-loop
-loop-less-2 c = search rules
+loop-i-smaller : tie.Need-loop-i-smaller invariant-loop decreases-loop
+loop-i-smaller c = search rules
 
-loop-again-2 : tie.Need-loop-preserved-2 invariant-loop decreases-loop
-loop-again-2 c = search rules
+loop-i-preserved : tie.Need-loop-i-preserved invariant-loop decreases-loop
+loop-i-preserved c = search rules
 
-same_length : tie.Need-same-length invariant-loop decreases-loop
-same_length c = search rules
+shape_of-line : tie.Need-shape_of-line invariant-loop decreases-loop
+shape_of-line c = search rules
 
-same-length-2 : tie.Need-same-length-2 invariant-loop decreases-loop
-same-length-2 c = search rules
+shape_of-room : tie.Need-shape_of-room invariant-loop decreases-loop
+shape_of-room c = search rules
 
-same-length-3 : tie.Need-same-length-3 invariant-loop decreases-loop
-same-length-3 c = search rules
+shape_of-out : tie.Need-shape_of-out invariant-loop decreases-loop
+shape_of-out c = search rules
 
 returns : tie.Need-returns invariant-loop decreases-loop
 returns c = search rules
@@ -54,19 +54,4 @@ returns c = search rules
 pub fed_spec : {M : Type 1} → statement M
 fed_spec =
     tie.close
-    (tie.spec
-    invariant-loop
-    decreases-loop
-    loop-holds
-    shared-slice-read-b
-    add-i
-    ended-requires
-    loop-less
-    loop-again
-    kept-requires
-    loop-less-2
-    loop-again-2
-    same_length
-    same-length-2
-    same-length-3
-    returns)
+    (tie.spec invariant-loop decreases-loop loop-i-init bounds-piece-i overflow_add-i ended-d-requires loop-i-smaller-then-b-eq10 loop-i-preserved-then-b-eq10 kept-d-requires loop-i-smaller loop-i-preserved shape_of-line shape_of-room shape_of-out returns)

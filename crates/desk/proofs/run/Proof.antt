@@ -11,77 +11,58 @@ invariant-loop piece₀ line₀ room₀ out₀ d₀ turns₀ piece line room out
 abbrev decreases-loop : tie.decreases-loop
 decreases-loop piece₀ line₀ room₀ out₀ d₀ turns₀ piece line room out d turns = turns
 
-loop-holds : tie.Need-loop-init invariant-loop decreases-loop
-loop-holds c = search rules
+loop-turns-init : tie.Need-loop-turns-init invariant-loop decreases-loop
+loop-turns-init c = search rules
 
-told-requires : tie.Need-told-requires invariant-loop decreases-loop
-told-requires c κs = search rules
+told-d-requires : tie.Need-told-d-requires invariant-loop decreases-loop
+told-d-requires c κs = search rules
 
-read-piece-requires : tie.Need-read-piece-requires invariant-loop decreases-loop
-read-piece-requires c κs = search rules
+read_piece-n-requires : tie.Need-read_piece-n-requires invariant-loop decreases-loop
+read_piece-n-requires c κs = search rules
 
-same_length : tie.Need-same-length invariant-loop decreases-loop
-same_length c = search rules
+shape_of-piece-then-n-eq0 : tie.Need-shape_of-piece-then-n-eq0 invariant-loop decreases-loop
+shape_of-piece-then-n-eq0 c = search rules
 
-same-length-2 : tie.Need-same-length-2 invariant-loop decreases-loop
-same-length-2 c = search rules
+shape_of-line-then-n-eq0 : tie.Need-shape_of-line-then-n-eq0 invariant-loop decreases-loop
+shape_of-line-then-n-eq0 c = search rules
 
-same-length-3 : tie.Need-same-length-3 invariant-loop decreases-loop
-same-length-3 c = search rules
+shape_of-room-then-n-eq0 : tie.Need-shape_of-room-then-n-eq0 invariant-loop decreases-loop
+shape_of-room-then-n-eq0 c = search rules
 
-same-length-4 : tie.Need-same-length-4 invariant-loop decreases-loop
-same-length-4 c = search rules
+shape_of-out-then-n-eq0 : tie.Need-shape_of-out-then-n-eq0 invariant-loop decreases-loop
+shape_of-out-then-n-eq0 c = search rules
+
+returns-then-n-eq0 : tie.Need-returns-then-n-eq0 invariant-loop decreases-loop
+returns-then-n-eq0 c = search rules
+
+fed_first-d-requires : tie.Need-fed_first-d-requires invariant-loop decreases-loop
+fed_first-d-requires c κs = search rules
+
+overflow_sub-turns : tie.Need-overflow_sub-turns invariant-loop decreases-loop
+overflow_sub-turns c = search rules
+
+loop-turns-smaller : tie.Need-loop-turns-smaller invariant-loop decreases-loop
+loop-turns-smaller c = search rules
+
+loop-turns-preserved : tie.Need-loop-turns-preserved invariant-loop decreases-loop
+loop-turns-preserved c = search rules
+
+shape_of-piece : tie.Need-shape_of-piece invariant-loop decreases-loop
+shape_of-piece c = search rules
+
+shape_of-line : tie.Need-shape_of-line invariant-loop decreases-loop
+shape_of-line c = search rules
+
+shape_of-room : tie.Need-shape_of-room invariant-loop decreases-loop
+shape_of-room c = search rules
+
+shape_of-out : tie.Need-shape_of-out invariant-loop decreases-loop
+shape_of-out c = search rules
 
 returns : tie.Need-returns invariant-loop decreases-loop
 returns c = search rules
 
-fed-first-requires : tie.Need-fed-first-requires invariant-loop decreases-loop
-fed-first-requires c κs = search rules
-
-sub-turns : tie.Need-overflow-sub-turns invariant-loop decreases-loop
-sub-turns c = search rules
-
-loop-less : tie.Need-loop-smaller invariant-loop decreases-loop
-loop-less c = search rules
-
-loop-again : tie.Need-loop-preserved invariant-loop decreases-loop
-loop-again c = search rules
-
-same-length-5 : tie.Need-same-length-5 invariant-loop decreases-loop
-same-length-5 c = search rules
-
-same-length-6 : tie.Need-same-length-6 invariant-loop decreases-loop
-same-length-6 c = search rules
-
-same-length-7 : tie.Need-same-length-7 invariant-loop decreases-loop
-same-length-7 c = search rules
-
-same-length-8 : tie.Need-same-length-8 invariant-loop decreases-loop
-same-length-8 c = search rules
-
-returns-2 : tie.Need-returns-2 invariant-loop decreases-loop
-returns-2 c = search rules
-
 pub run_spec : {M : Type 1} → statement M
 run_spec =
     tie.close
-    (tie.spec
-    invariant-loop
-    decreases-loop
-    loop-holds
-    told-requires
-    read-piece-requires
-    same_length
-    same-length-2
-    same-length-3
-    same-length-4
-    returns
-    fed-first-requires
-    sub-turns
-    loop-less
-    loop-again
-    same-length-5
-    same-length-6
-    same-length-7
-    same-length-8
-    returns-2)
+    (tie.spec invariant-loop decreases-loop loop-turns-init told-d-requires read_piece-n-requires shape_of-piece-then-n-eq0 shape_of-line-then-n-eq0 shape_of-room-then-n-eq0 shape_of-out-then-n-eq0 returns-then-n-eq0 fed_first-d-requires overflow_sub-turns loop-turns-smaller loop-turns-preserved shape_of-piece shape_of-line shape_of-room shape_of-out returns)

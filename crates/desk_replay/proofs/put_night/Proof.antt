@@ -12,53 +12,40 @@ invariant-loop log line₀ out₀ c₀ calls₀ line out c calls = (length line 
 abbrev decreases-loop : tie.decreases-loop
 decreases-loop log line₀ out₀ c₀ calls₀ line out c calls = length log + 1 - calls
 
-loop-holds : tie.Need-loop-init invariant-loop decreases-loop
-loop-holds c = search rules
+loop-calls-init : tie.Need-loop-calls-init invariant-loop decreases-loop
+loop-calls-init c = search rules
 
-called-requires : tie.Need-called-requires invariant-loop decreases-loop
-called-requires c κs = search rules
+called-c-requires : tie.Need-called-c-requires invariant-loop decreases-loop
+called-c-requires c κs = search rules
 
-same_length : tie.Need-same-length invariant-loop decreases-loop
-same_length c = search rules
+shape_of-line-then-not-c : tie.Need-shape_of-line-then-not-c invariant-loop decreases-loop
+shape_of-line-then-not-c c = search rules
 
-same-length-2 : tie.Need-same-length-2 invariant-loop decreases-loop
-same-length-2 c = search rules
+shape_of-out-then-not-c : tie.Need-shape_of-out-then-not-c invariant-loop decreases-loop
+shape_of-out-then-not-c c = search rules
+
+returns-then-not-c : tie.Need-returns-then-not-c invariant-loop decreases-loop
+returns-then-not-c c = search rules
+
+overflow_add-calls : tie.Need-overflow_add-calls invariant-loop decreases-loop
+overflow_add-calls c = search rules
+
+loop-calls-smaller : tie.Need-loop-calls-smaller invariant-loop decreases-loop
+loop-calls-smaller c = search rules
+
+loop-calls-preserved : tie.Need-loop-calls-preserved invariant-loop decreases-loop
+loop-calls-preserved c = search rules
+
+shape_of-line : tie.Need-shape_of-line invariant-loop decreases-loop
+shape_of-line c = search rules
+
+shape_of-out : tie.Need-shape_of-out invariant-loop decreases-loop
+shape_of-out c = search rules
 
 returns : tie.Need-returns invariant-loop decreases-loop
 returns c = search rules
 
-add-calls : tie.Need-overflow-add-calls invariant-loop decreases-loop
-add-calls c = search rules
-
-loop-less : tie.Need-loop-smaller invariant-loop decreases-loop
-loop-less c = search rules
-
-loop-again : tie.Need-loop-preserved invariant-loop decreases-loop
-loop-again c = search rules
-
-same-length-3 : tie.Need-same-length-3 invariant-loop decreases-loop
-same-length-3 c = search rules
-
-same-length-4 : tie.Need-same-length-4 invariant-loop decreases-loop
-same-length-4 c = search rules
-
-returns-2 : tie.Need-returns-2 invariant-loop decreases-loop
-returns-2 c = search rules
-
 pub put_night_spec : {M : Type 1} → statement M
 put_night_spec =
     tie.close
-    (tie.spec
-    invariant-loop
-    decreases-loop
-    loop-holds
-    called-requires
-    same_length
-    same-length-2
-    returns
-    add-calls
-    loop-less
-    loop-again
-    same-length-3
-    same-length-4
-    returns-2)
+    (tie.spec invariant-loop decreases-loop loop-calls-init called-c-requires shape_of-line-then-not-c shape_of-out-then-not-c returns-then-not-c overflow_add-calls loop-calls-smaller loop-calls-preserved shape_of-line shape_of-out returns)

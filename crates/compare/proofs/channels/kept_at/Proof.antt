@@ -9,37 +9,28 @@ invariant-loop bytes channel place l₀ i₀ l i = i ≤ 512
 abbrev decreases-loop : tie.decreases-loop
 decreases-loop bytes channel place l₀ i₀ l i = 512 - i
 
-loop-holds : tie.Need-loop-init invariant-loop decreases-loop
-loop-holds c = search rules
+loop-i-init : tie.Need-loop-i-init invariant-loop decreases-loop
+loop-i-init c = search rules
 
-further-requires : tie.Need-further-requires invariant-loop decreases-loop
-further-requires c κs = search rules
+further-l-requires : tie.Need-further-l-requires invariant-loop decreases-loop
+further-l-requires c κs = search rules
+
+returns-then-l-eq0 : tie.Need-returns-then-l-eq0 invariant-loop decreases-loop
+returns-then-l-eq0 c = search rules
+
+overflow_add-i : tie.Need-overflow_add-i invariant-loop decreases-loop
+overflow_add-i c = search rules
+
+loop-i-smaller : tie.Need-loop-i-smaller invariant-loop decreases-loop
+loop-i-smaller c = search rules
+
+loop-i-preserved : tie.Need-loop-i-preserved invariant-loop decreases-loop
+loop-i-preserved c = search rules
 
 returns : tie.Need-returns invariant-loop decreases-loop
 returns c = search rules
 
-add-i : tie.Need-overflow-add-i invariant-loop decreases-loop
-add-i c = search rules
-
-loop-less : tie.Need-loop-smaller invariant-loop decreases-loop
-loop-less c = search rules
-
-loop-again : tie.Need-loop-preserved invariant-loop decreases-loop
-loop-again c = search rules
-
-returns-2 : tie.Need-returns-2 invariant-loop decreases-loop
-returns-2 c = search rules
-
 pub kept_at_spec : {M : Type 1} → statement M
 kept_at_spec =
     tie.close
-    (tie.spec
-    invariant-loop
-    decreases-loop
-    loop-holds
-    further-requires
-    returns
-    add-i
-    loop-less
-    loop-again
-    returns-2)
+    (tie.spec invariant-loop decreases-loop loop-i-init further-l-requires returns-then-l-eq0 overflow_add-i loop-i-smaller loop-i-preserved returns)

@@ -11,32 +11,32 @@ abbrev decreases-loop : tie.decreases-loop
 decreases-loop bytes numbers bytes2 numbers2 out₀ places x₀ channel₀ out x channel =
     32 - channel
 
-loop-holds : tie.Need-loop-init invariant-loop decreases-loop
-loop-holds c = search rules
+loop-channel-init : tie.Need-loop-channel-init invariant-loop decreases-loop
+loop-channel-init c = search rules
 
-cast-put-one : tie.Need-overflow-cast-put-one invariant-loop decreases-loop
-cast-put-one c = search rules
+overflow_cast-channel : tie.Need-overflow_cast-channel invariant-loop decreases-loop
+overflow_cast-channel c = search rules
 
-mul-put-one : tie.Need-overflow-mul-put-one invariant-loop decreases-loop
-mul-put-one c = search rules
+offset_bounds-places-channel : tie.Need-offset_bounds-places-channel invariant-loop decreases-loop
+offset_bounds-places-channel c = search rules
 
-array-read-put-one : tie.Need-array-read-put-one invariant-loop decreases-loop
-array-read-put-one c = search rules
+bounds-places-channel : tie.Need-bounds-places-channel invariant-loop decreases-loop
+bounds-places-channel c = search rules
 
-put-one-requires : tie.Need-put-one-requires invariant-loop decreases-loop
-put-one-requires c κs = search rules
+put_one-x-requires : tie.Need-put_one-x-requires invariant-loop decreases-loop
+put_one-x-requires c κs = search rules
 
-add-channel : tie.Need-overflow-add-channel invariant-loop decreases-loop
-add-channel c = search rules
+overflow_add-channel : tie.Need-overflow_add-channel invariant-loop decreases-loop
+overflow_add-channel c = search rules
 
-loop-less : tie.Need-loop-smaller invariant-loop decreases-loop
-loop-less c = search rules
+loop-channel-smaller : tie.Need-loop-channel-smaller invariant-loop decreases-loop
+loop-channel-smaller c = search rules
 
-loop-again : tie.Need-loop-preserved invariant-loop decreases-loop
-loop-again c = search rules
+loop-channel-preserved : tie.Need-loop-channel-preserved invariant-loop decreases-loop
+loop-channel-preserved c = search rules
 
-same_length : tie.Need-same-length invariant-loop decreases-loop
-same_length c = search rules
+shape_of-out : tie.Need-shape_of-out invariant-loop decreases-loop
+shape_of-out c = search rules
 
 returns : tie.Need-returns invariant-loop decreases-loop
 returns c = search rules
@@ -44,16 +44,4 @@ returns c = search rules
 pub put_all_spec : {M : Type 1} → statement M
 put_all_spec =
     tie.close
-    (tie.spec
-    invariant-loop
-    decreases-loop
-    loop-holds
-    cast-put-one
-    mul-put-one
-    array-read-put-one
-    put-one-requires
-    add-channel
-    loop-less
-    loop-again
-    same_length
-    returns)
+    (tie.spec invariant-loop decreases-loop loop-channel-init overflow_cast-channel offset_bounds-places-channel bounds-places-channel put_one-x-requires overflow_add-channel loop-channel-smaller loop-channel-preserved shape_of-out returns)

@@ -9,65 +9,49 @@ invariant-loop fd w name buf₀ bytes₀ numbers₀ c₀ turns₀ buf bytes numb
 abbrev decreases-loop : tie.decreases-loop
 decreases-loop fd w name buf₀ bytes₀ numbers₀ c₀ turns₀ buf bytes numbers c turns = turns
 
-loop-holds : tie.Need-loop-init invariant-loop decreases-loop
-loop-holds c = search rules
+loop-turns-init : tie.Need-loop-turns-init invariant-loop decreases-loop
+loop-turns-init c = search rules
 
-next-piece-requires : tie.Need-next-piece-requires invariant-loop decreases-loop
-next-piece-requires c κs = search rules
+next_piece-c-requires : tie.Need-next_piece-c-requires invariant-loop decreases-loop
+next_piece-c-requires c κs = search rules
 
-goes-on-requires : tie.Need-goes-on-requires invariant-loop decreases-loop
-goes-on-requires c κs = search rules
+goes_on-requires : tie.Need-goes_on-requires invariant-loop decreases-loop
+goes_on-requires c κs = search rules
 
-same_length : tie.Need-same-length invariant-loop decreases-loop
-same_length c = search rules
+shape_of-buf-then-not-goes_on : tie.Need-shape_of-buf-then-not-goes_on invariant-loop decreases-loop
+shape_of-buf-then-not-goes_on c = search rules
 
-same-length-2 : tie.Need-same-length-2 invariant-loop decreases-loop
-same-length-2 c = search rules
+shape_of-bytes-then-not-goes_on : tie.Need-shape_of-bytes-then-not-goes_on invariant-loop decreases-loop
+shape_of-bytes-then-not-goes_on c = search rules
 
-same-length-3 : tie.Need-same-length-3 invariant-loop decreases-loop
-same-length-3 c = search rules
+shape_of-numbers-then-not-goes_on : tie.Need-shape_of-numbers-then-not-goes_on invariant-loop decreases-loop
+shape_of-numbers-then-not-goes_on c = search rules
+
+returns-then-not-goes_on : tie.Need-returns-then-not-goes_on invariant-loop decreases-loop
+returns-then-not-goes_on c = search rules
+
+overflow_sub-turns : tie.Need-overflow_sub-turns invariant-loop decreases-loop
+overflow_sub-turns c = search rules
+
+loop-turns-smaller : tie.Need-loop-turns-smaller invariant-loop decreases-loop
+loop-turns-smaller c = search rules
+
+loop-turns-preserved : tie.Need-loop-turns-preserved invariant-loop decreases-loop
+loop-turns-preserved c = search rules
+
+shape_of-buf : tie.Need-shape_of-buf invariant-loop decreases-loop
+shape_of-buf c = search rules
+
+shape_of-bytes : tie.Need-shape_of-bytes invariant-loop decreases-loop
+shape_of-bytes c = search rules
+
+shape_of-numbers : tie.Need-shape_of-numbers invariant-loop decreases-loop
+shape_of-numbers c = search rules
 
 returns : tie.Need-returns invariant-loop decreases-loop
 returns c = search rules
 
-sub-turns : tie.Need-overflow-sub-turns invariant-loop decreases-loop
-sub-turns c = search rules
-
-loop-less : tie.Need-loop-smaller invariant-loop decreases-loop
-loop-less c = search rules
-
-loop-again : tie.Need-loop-preserved invariant-loop decreases-loop
-loop-again c = search rules
-
-same-length-4 : tie.Need-same-length-4 invariant-loop decreases-loop
-same-length-4 c = search rules
-
-same-length-5 : tie.Need-same-length-5 invariant-loop decreases-loop
-same-length-5 c = search rules
-
-same-length-6 : tie.Need-same-length-6 invariant-loop decreases-loop
-same-length-6 c = search rules
-
-returns-2 : tie.Need-returns-2 invariant-loop decreases-loop
-returns-2 c = search rules
-
 pub walked_spec : {M : Type 1} → statement M
 walked_spec =
     tie.close
-    (tie.spec
-    invariant-loop
-    decreases-loop
-    loop-holds
-    next-piece-requires
-    goes-on-requires
-    same_length
-    same-length-2
-    same-length-3
-    returns
-    sub-turns
-    loop-less
-    loop-again
-    same-length-4
-    same-length-5
-    same-length-6
-    returns-2)
+    (tie.spec invariant-loop decreases-loop loop-turns-init next_piece-c-requires goes_on-requires shape_of-buf-then-not-goes_on shape_of-bytes-then-not-goes_on shape_of-numbers-then-not-goes_on returns-then-not-goes_on overflow_sub-turns loop-turns-smaller loop-turns-preserved shape_of-buf shape_of-bytes shape_of-numbers returns)

@@ -9,23 +9,23 @@ invariant-loop bytes i at₀ k₀ at k = k ≤ i
 abbrev decreases-loop : tie.decreases-loop
 decreases-loop bytes i at₀ k₀ at k = i - k
 
-loop-holds : tie.Need-loop-init invariant-loop decreases-loop
-loop-holds c = search rules
+loop-k-init : tie.Need-loop-k-init invariant-loop decreases-loop
+loop-k-init c = search rules
 
-record-at-requires : tie.Need-record-at-requires invariant-loop decreases-loop
-record-at-requires c κs = search rules
+record_at-requires : tie.Need-record_at-requires invariant-loop decreases-loop
+record_at-requires c κs = search rules
 
-next-of-requires : tie.Need-next-of-requires invariant-loop decreases-loop
-next-of-requires c κs = search rules
+next_of-at-requires : tie.Need-next_of-at-requires invariant-loop decreases-loop
+next_of-at-requires c κs = search rules
 
-add-k : tie.Need-overflow-add-k invariant-loop decreases-loop
-add-k c = search rules
+overflow_add-k : tie.Need-overflow_add-k invariant-loop decreases-loop
+overflow_add-k c = search rules
 
-loop-less : tie.Need-loop-smaller invariant-loop decreases-loop
-loop-less c = search rules
+loop-k-smaller : tie.Need-loop-k-smaller invariant-loop decreases-loop
+loop-k-smaller c = search rules
 
-loop-again : tie.Need-loop-preserved invariant-loop decreases-loop
-loop-again c = search rules
+loop-k-preserved : tie.Need-loop-k-preserved invariant-loop decreases-loop
+loop-k-preserved c = search rules
 
 returns : tie.Need-returns invariant-loop decreases-loop
 returns c = search rules
@@ -33,13 +33,4 @@ returns c = search rules
 pub start_of_spec : {M : Type 1} → statement M
 start_of_spec =
     tie.close
-    (tie.spec
-    invariant-loop
-    decreases-loop
-    loop-holds
-    record-at-requires
-    next-of-requires
-    add-k
-    loop-less
-    loop-again
-    returns)
+    (tie.spec invariant-loop decreases-loop loop-k-init record_at-requires next_of-at-requires overflow_add-k loop-k-smaller loop-k-preserved returns)

@@ -9,29 +9,29 @@ invariant-loop side list bytes numbers out₀ p₀ i₀ out p i = (i ≤ length 
 abbrev decreases-loop : tie.decreases-loop
 decreases-loop side list bytes numbers out₀ p₀ i₀ out p i = length list - i
 
-loop-holds : tie.Need-loop-init invariant-loop decreases-loop
-loop-holds c = search rules
+loop-i-init : tie.Need-loop-i-init invariant-loop decreases-loop
+loop-i-init c = search rules
 
-mul-number : tie.Need-overflow-mul-number invariant-loop decreases-loop
-mul-number c = search rules
+offset_bounds-list-i : tie.Need-offset_bounds-list-i invariant-loop decreases-loop
+offset_bounds-list-i c = search rules
 
-shared-slice-read-number : tie.Need-shared-slice-read-number invariant-loop decreases-loop
-shared-slice-read-number c = search rules
+bounds-list-i : tie.Need-bounds-list-i invariant-loop decreases-loop
+bounds-list-i c = search rules
 
-add-i : tie.Need-overflow-add-i invariant-loop decreases-loop
-add-i c = search rules
+overflow_add-i : tie.Need-overflow_add-i invariant-loop decreases-loop
+overflow_add-i c = search rules
 
-put-one-requires : tie.Need-put-one-requires invariant-loop decreases-loop
-put-one-requires c κs = search rules
+put_one-p-requires : tie.Need-put_one-p-requires invariant-loop decreases-loop
+put_one-p-requires c κs = search rules
 
-loop-less : tie.Need-loop-smaller invariant-loop decreases-loop
-loop-less c = search rules
+loop-i-smaller : tie.Need-loop-i-smaller invariant-loop decreases-loop
+loop-i-smaller c = search rules
 
-loop-again : tie.Need-loop-preserved invariant-loop decreases-loop
-loop-again c = search rules
+loop-i-preserved : tie.Need-loop-i-preserved invariant-loop decreases-loop
+loop-i-preserved c = search rules
 
-same_length : tie.Need-same-length invariant-loop decreases-loop
-same_length c = search rules
+shape_of-out : tie.Need-shape_of-out invariant-loop decreases-loop
+shape_of-out c = search rules
 
 returns : tie.Need-returns invariant-loop decreases-loop
 returns c = search rules
@@ -39,15 +39,4 @@ returns c = search rules
 pub put_all_spec : {M : Type 1} → statement M
 put_all_spec =
     tie.close
-    (tie.spec
-    invariant-loop
-    decreases-loop
-    loop-holds
-    mul-number
-    shared-slice-read-number
-    add-i
-    put-one-requires
-    loop-less
-    loop-again
-    same_length
-    returns)
+    (tie.spec invariant-loop decreases-loop loop-i-init offset_bounds-list-i bounds-list-i overflow_add-i put_one-p-requires loop-i-smaller loop-i-preserved shape_of-out returns)

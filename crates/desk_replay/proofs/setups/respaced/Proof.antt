@@ -12,53 +12,40 @@ invariant-loop s room₀ i₀ room i = (length room ≡ length room₀) × (i �
 abbrev decreases-loop : tie.decreases-loop
 decreases-loop s room₀ i₀ room i = length s - i
 
-loop-holds : tie.Need-loop-init invariant-loop decreases-loop
-loop-holds c = search rules
+loop-i-init : tie.Need-loop-i-init invariant-loop decreases-loop
+loop-i-init c = search rules
 
-same_length : tie.Need-same-length invariant-loop decreases-loop
-same_length c = search rules
+shape_of-room-then-i-room : tie.Need-shape_of-room-then-i-room invariant-loop decreases-loop
+shape_of-room-then-i-room c = search rules
 
-returns : tie.Need-returns invariant-loop decreases-loop
-returns c = search rules
+returns-then-i-room : tie.Need-returns-then-i-room invariant-loop decreases-loop
+returns-then-i-room c = search rules
 
-shared-slice-read-spaced : tie.Need-shared-slice-read-spaced invariant-loop decreases-loop
-shared-slice-read-spaced c = search rules
+bounds-s-i : tie.Need-bounds-s-i invariant-loop decreases-loop
+bounds-s-i c = search rules
 
 spaced-requires : tie.Need-spaced-requires invariant-loop decreases-loop
 spaced-requires c κs = search rules
 
-slice-write-room : tie.Need-slice-write-room invariant-loop decreases-loop
-slice-write-room c = search rules
+bounds-room-i : tie.Need-bounds-room-i invariant-loop decreases-loop
+bounds-room-i c = search rules
 
-add-i : tie.Need-overflow-add-i invariant-loop decreases-loop
-add-i c = search rules
+overflow_add-i : tie.Need-overflow_add-i invariant-loop decreases-loop
+overflow_add-i c = search rules
 
-loop-less : tie.Need-loop-smaller invariant-loop decreases-loop
-loop-less c = search rules
+loop-i-smaller : tie.Need-loop-i-smaller invariant-loop decreases-loop
+loop-i-smaller c = search rules
 
-loop-again : tie.Need-loop-preserved invariant-loop decreases-loop
-loop-again c = search rules
+loop-i-preserved : tie.Need-loop-i-preserved invariant-loop decreases-loop
+loop-i-preserved c = search rules
 
-same-length-2 : tie.Need-same-length-2 invariant-loop decreases-loop
-same-length-2 c = search rules
+shape_of-room : tie.Need-shape_of-room invariant-loop decreases-loop
+shape_of-room c = search rules
 
-returns-2 : tie.Need-returns-2 invariant-loop decreases-loop
-returns-2 c = search rules
+returns : tie.Need-returns invariant-loop decreases-loop
+returns c = search rules
 
 pub respaced_spec : {M : Type 1} → statement M
 respaced_spec =
     tie.close
-    (tie.spec
-    invariant-loop
-    decreases-loop
-    loop-holds
-    same_length
-    returns
-    shared-slice-read-spaced
-    spaced-requires
-    slice-write-room
-    add-i
-    loop-less
-    loop-again
-    same-length-2
-    returns-2)
+    (tie.spec invariant-loop decreases-loop loop-i-init shape_of-room-then-i-room returns-then-i-room bounds-s-i spaced-requires bounds-room-i overflow_add-i loop-i-smaller loop-i-preserved shape_of-room returns)

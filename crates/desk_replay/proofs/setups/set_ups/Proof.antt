@@ -12,69 +12,52 @@ invariant-loop s room₀ r₀ at₀ room r at = (length room ≡ length room₀)
 abbrev decreases-loop : tie.decreases-loop
 decreases-loop s room₀ r₀ at₀ room r at = length s + 1 - at
 
-fresh-requires : tie.Need-fresh-requires invariant-loop decreases-loop
-fresh-requires c κs = search rules
+fresh-r-requires : tie.Need-fresh-r-requires invariant-loop decreases-loop
+fresh-r-requires c κs = search rules
 
-loop-holds : tie.Need-loop-init invariant-loop decreases-loop
-loop-holds c = search rules
+loop-at-init : tie.Need-loop-at-init invariant-loop decreases-loop
+loop-at-init c = search rules
 
-part-end-requires : tie.Need-part-end-requires invariant-loop decreases-loop
-part-end-requires c κs = search rules
+part_end-e-requires : tie.Need-part_end-e-requires invariant-loop decreases-loop
+part_end-e-requires c κs = search rules
 
-sub-asked-in : tie.Need-overflow-sub-asked-in invariant-loop decreases-loop
-sub-asked-in c = search rules
+slice_bounds-asked_in-count : tie.Need-slice_bounds-asked_in-count invariant-loop decreases-loop
+slice_bounds-asked_in-count c = search rules
 
-part-asked-in-start : tie.Need-slice-bounds-asked-in-start invariant-loop decreases-loop
-part-asked-in-start c = search rules
+slice_bounds-asked_in-start : tie.Need-slice_bounds-asked_in-start invariant-loop decreases-loop
+slice_bounds-asked_in-start c = search rules
 
-part-asked-in-end : tie.Need-slice-bounds-asked-in-end invariant-loop decreases-loop
-part-asked-in-end c = search rules
+slice_bounds-asked_in-end : tie.Need-slice_bounds-asked_in-end invariant-loop decreases-loop
+slice_bounds-asked_in-end c = search rules
 
-asked-in-requires : tie.Need-asked-in-requires invariant-loop decreases-loop
-asked-in-requires c κs = search rules
+asked_in-a-requires : tie.Need-asked_in-a-requires invariant-loop decreases-loop
+asked_in-a-requires c κs = search rules
 
-prepared-requires : tie.Need-prepared-requires invariant-loop decreases-loop
-prepared-requires c κs = search rules
+prepared-r-requires : tie.Need-prepared-r-requires invariant-loop decreases-loop
+prepared-r-requires c κs = search rules
 
-same_length : tie.Need-same-length invariant-loop decreases-loop
-same_length c = search rules
+shape_of-room-then-not-r : tie.Need-shape_of-room-then-not-r invariant-loop decreases-loop
+shape_of-room-then-not-r c = search rules
+
+returns-then-not-r : tie.Need-returns-then-not-r invariant-loop decreases-loop
+returns-then-not-r c = search rules
+
+overflow_add-at : tie.Need-overflow_add-at invariant-loop decreases-loop
+overflow_add-at c = search rules
+
+loop-at-smaller : tie.Need-loop-at-smaller invariant-loop decreases-loop
+loop-at-smaller c = search rules
+
+loop-at-preserved : tie.Need-loop-at-preserved invariant-loop decreases-loop
+loop-at-preserved c = search rules
+
+shape_of-room : tie.Need-shape_of-room invariant-loop decreases-loop
+shape_of-room c = search rules
 
 returns : tie.Need-returns invariant-loop decreases-loop
 returns c = search rules
 
-add_at : tie.Need-overflow-add-at invariant-loop decreases-loop
-add_at c = search rules
-
-loop-less : tie.Need-loop-smaller invariant-loop decreases-loop
-loop-less c = search rules
-
-loop-again : tie.Need-loop-preserved invariant-loop decreases-loop
-loop-again c = search rules
-
-same-length-2 : tie.Need-same-length-2 invariant-loop decreases-loop
-same-length-2 c = search rules
-
-returns-2 : tie.Need-returns-2 invariant-loop decreases-loop
-returns-2 c = search rules
-
 pub set_ups_spec : {M : Type 1} → statement M
 set_ups_spec =
     tie.close
-    (tie.spec
-    invariant-loop
-    decreases-loop
-    fresh-requires
-    loop-holds
-    part-end-requires
-    sub-asked-in
-    part-asked-in-start
-    part-asked-in-end
-    asked-in-requires
-    prepared-requires
-    same_length
-    returns
-    add_at
-    loop-less
-    loop-again
-    same-length-2
-    returns-2)
+    (tie.spec invariant-loop decreases-loop fresh-r-requires loop-at-init part_end-e-requires slice_bounds-asked_in-count slice_bounds-asked_in-start slice_bounds-asked_in-end asked_in-a-requires prepared-r-requires shape_of-room-then-not-r returns-then-not-r overflow_add-at loop-at-smaller loop-at-preserved shape_of-room returns)

@@ -9,77 +9,58 @@ invariant-loop name piece line₀ room₀ out₀ n₀ i₀ line room out n i = (
 abbrev decreases-loop : tie.decreases-loop
 decreases-loop name piece line₀ room₀ out₀ n₀ i₀ line room out n i = length piece - i
 
-loop-holds : tie.Need-loop-init invariant-loop decreases-loop
-loop-holds c = search rules
+loop-i-init : tie.Need-loop-i-init invariant-loop decreases-loop
+loop-i-init c = search rules
 
-shared-slice-read-b : tie.Need-shared-slice-read-b invariant-loop decreases-loop
-shared-slice-read-b c = search rules
+bounds-piece-i : tie.Need-bounds-piece-i invariant-loop decreases-loop
+bounds-piece-i c = search rules
 
-add-i : tie.Need-overflow-add-i invariant-loop decreases-loop
-add-i c = search rules
+overflow_add-i : tie.Need-overflow_add-i invariant-loop decreases-loop
+overflow_add-i c = search rules
 
-ended-requires : tie.Need-ended-requires invariant-loop decreases-loop
-ended-requires c κs = search rules
+ended-n-requires : tie.Need-ended-n-requires invariant-loop decreases-loop
+ended-n-requires c κs = search rules
 
-same_length : tie.Need-same-length invariant-loop decreases-loop
-same_length c = search rules
+shape_of-line-then-n : tie.Need-shape_of-line-then-n invariant-loop decreases-loop
+shape_of-line-then-n c = search rules
 
-same-length-2 : tie.Need-same-length-2 invariant-loop decreases-loop
-same-length-2 c = search rules
+shape_of-room-then-n : tie.Need-shape_of-room-then-n invariant-loop decreases-loop
+shape_of-room-then-n c = search rules
 
-same-length-3 : tie.Need-same-length-3 invariant-loop decreases-loop
-same-length-3 c = search rules
+shape_of-out-then-n : tie.Need-shape_of-out-then-n invariant-loop decreases-loop
+shape_of-out-then-n c = search rules
+
+returns-then-n : tie.Need-returns-then-n invariant-loop decreases-loop
+returns-then-n c = search rules
+
+loop-i-smaller-else-n : tie.Need-loop-i-smaller-else-n invariant-loop decreases-loop
+loop-i-smaller-else-n c = search rules
+
+loop-i-preserved-else-n : tie.Need-loop-i-preserved-else-n invariant-loop decreases-loop
+loop-i-preserved-else-n c = search rules
+
+kept-n-requires : tie.Need-kept-n-requires invariant-loop decreases-loop
+kept-n-requires c κs = search rules
+
+loop-i-smaller : tie.Need-loop-i-smaller invariant-loop decreases-loop
+loop-i-smaller c = search rules
+
+loop-i-preserved : tie.Need-loop-i-preserved invariant-loop decreases-loop
+loop-i-preserved c = search rules
+
+shape_of-line : tie.Need-shape_of-line invariant-loop decreases-loop
+shape_of-line c = search rules
+
+shape_of-room : tie.Need-shape_of-room invariant-loop decreases-loop
+shape_of-room c = search rules
+
+shape_of-out : tie.Need-shape_of-out invariant-loop decreases-loop
+shape_of-out c = search rules
 
 returns : tie.Need-returns invariant-loop decreases-loop
 returns c = search rules
 
-loop-less : tie.Need-loop-smaller invariant-loop decreases-loop
-loop-less c = search rules
-
-loop-again : tie.Need-loop-preserved invariant-loop decreases-loop
-loop-again c = search rules
-
-kept-requires : tie.Need-kept-requires invariant-loop decreases-loop
-kept-requires c κs = search rules
-
-loop-less-2 : tie.Need-loop-smaller-2 invariant-loop decreases-loop
-loop-less-2 c = search rules
-
-loop-again-2 : tie.Need-loop-preserved-2 invariant-loop decreases-loop
-loop-again-2 c = search rules
-
-same-length-4 : tie.Need-same-length-4 invariant-loop decreases-loop
-same-length-4 c = search rules
-
-same-length-5 : tie.Need-same-length-5 invariant-loop decreases-loop
-same-length-5 c = search rules
-
-same-length-6 : tie.Need-same-length-6 invariant-loop decreases-loop
-same-length-6 c = search rules
-
-returns-2 : tie.Need-returns-2 invariant-loop decreases-loop
-returns-2 c = search rules
-
 pub fed_spec : {M : Type 1} → statement M
 fed_spec =
     tie.close
-    (tie.spec
-    invariant-loop
-    decreases-loop
-    loop-holds
-    shared-slice-read-b
-    add-i
-    ended-requires
-    same_length
-    same-length-2
-    same-length-3
-    returns
-    loop-less
-    loop-again
-    kept-requires
-    loop-less-2
-    loop-again-2
-    same-length-4
-    same-length-5
-    same-length-6
-    returns-2)
+    (tie.spec invariant-loop decreases-loop loop-i-init bounds-piece-i overflow_add-i ended-n-requires shape_of-line-then-n shape_of-room-then-n shape_of-out-then-n returns-then-n loop-i-smaller-else-n loop-i-preserved-else-n kept-n-requires loop-i-smaller loop-i-preserved shape_of-line shape_of-room shape_of-out returns)

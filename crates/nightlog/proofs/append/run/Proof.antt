@@ -9,73 +9,55 @@ invariant-loop name piece₀ line₀ room₀ out₀ n₀ turns₀ piece line roo
 abbrev decreases-loop : tie.decreases-loop
 decreases-loop name piece₀ line₀ room₀ out₀ n₀ turns₀ piece line room out n turns = turns
 
-loop-holds : tie.Need-loop-init invariant-loop decreases-loop
-loop-holds c = search rules
+loop-turns-init : tie.Need-loop-turns-init invariant-loop decreases-loop
+loop-turns-init c = search rules
 
-read-on-requires : tie.Need-read-on-requires invariant-loop decreases-loop
-read-on-requires c κs = search rules
+read_on-n-requires : tie.Need-read_on-n-requires invariant-loop decreases-loop
+read_on-n-requires c κs = search rules
 
-is-over-requires : tie.Need-is-over-requires invariant-loop decreases-loop
-is-over-requires c κs = search rules
+is_over-requires : tie.Need-is_over-requires invariant-loop decreases-loop
+is_over-requires c κs = search rules
 
-same_length : tie.Need-same-length invariant-loop decreases-loop
-same_length c = search rules
+shape_of-piece-then-is_over : tie.Need-shape_of-piece-then-is_over invariant-loop decreases-loop
+shape_of-piece-then-is_over c = search rules
 
-same-length-2 : tie.Need-same-length-2 invariant-loop decreases-loop
-same-length-2 c = search rules
+shape_of-line-then-is_over : tie.Need-shape_of-line-then-is_over invariant-loop decreases-loop
+shape_of-line-then-is_over c = search rules
 
-same-length-3 : tie.Need-same-length-3 invariant-loop decreases-loop
-same-length-3 c = search rules
+shape_of-room-then-is_over : tie.Need-shape_of-room-then-is_over invariant-loop decreases-loop
+shape_of-room-then-is_over c = search rules
 
-same-length-4 : tie.Need-same-length-4 invariant-loop decreases-loop
-same-length-4 c = search rules
+shape_of-out-then-is_over : tie.Need-shape_of-out-then-is_over invariant-loop decreases-loop
+shape_of-out-then-is_over c = search rules
+
+returns-then-is_over : tie.Need-returns-then-is_over invariant-loop decreases-loop
+returns-then-is_over c = search rules
+
+overflow_sub-turns : tie.Need-overflow_sub-turns invariant-loop decreases-loop
+overflow_sub-turns c = search rules
+
+loop-turns-smaller : tie.Need-loop-turns-smaller invariant-loop decreases-loop
+loop-turns-smaller c = search rules
+
+loop-turns-preserved : tie.Need-loop-turns-preserved invariant-loop decreases-loop
+loop-turns-preserved c = search rules
+
+shape_of-piece : tie.Need-shape_of-piece invariant-loop decreases-loop
+shape_of-piece c = search rules
+
+shape_of-line : tie.Need-shape_of-line invariant-loop decreases-loop
+shape_of-line c = search rules
+
+shape_of-room : tie.Need-shape_of-room invariant-loop decreases-loop
+shape_of-room c = search rules
+
+shape_of-out : tie.Need-shape_of-out invariant-loop decreases-loop
+shape_of-out c = search rules
 
 returns : tie.Need-returns invariant-loop decreases-loop
 returns c = search rules
 
-sub-turns : tie.Need-overflow-sub-turns invariant-loop decreases-loop
-sub-turns c = search rules
-
-loop-less : tie.Need-loop-smaller invariant-loop decreases-loop
-loop-less c = search rules
-
-loop-again : tie.Need-loop-preserved invariant-loop decreases-loop
-loop-again c = search rules
-
-same-length-5 : tie.Need-same-length-5 invariant-loop decreases-loop
-same-length-5 c = search rules
-
-same-length-6 : tie.Need-same-length-6 invariant-loop decreases-loop
-same-length-6 c = search rules
-
-same-length-7 : tie.Need-same-length-7 invariant-loop decreases-loop
-same-length-7 c = search rules
-
-same-length-8 : tie.Need-same-length-8 invariant-loop decreases-loop
-same-length-8 c = search rules
-
-returns-2 : tie.Need-returns-2 invariant-loop decreases-loop
-returns-2 c = search rules
-
 pub run_spec : {M : Type 1} → statement M
 run_spec =
     tie.close
-    (tie.spec
-    invariant-loop
-    decreases-loop
-    loop-holds
-    read-on-requires
-    is-over-requires
-    same_length
-    same-length-2
-    same-length-3
-    same-length-4
-    returns
-    sub-turns
-    loop-less
-    loop-again
-    same-length-5
-    same-length-6
-    same-length-7
-    same-length-8
-    returns-2)
+    (tie.spec invariant-loop decreases-loop loop-turns-init read_on-n-requires is_over-requires shape_of-piece-then-is_over shape_of-line-then-is_over shape_of-room-then-is_over shape_of-out-then-is_over returns-then-is_over overflow_sub-turns loop-turns-smaller loop-turns-preserved shape_of-piece shape_of-line shape_of-room shape_of-out returns)

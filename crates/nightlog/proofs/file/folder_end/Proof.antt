@@ -9,41 +9,31 @@ invariant-loop name i₀ i = i ≤ length name
 abbrev decreases-loop : tie.decreases-loop
 decreases-loop name i₀ i = i
 
-loop-holds : tie.Need-loop-init invariant-loop decreases-loop
-loop-holds c = search rules
+loop-i-init : tie.Need-loop-i-init invariant-loop decreases-loop
+loop-i-init c = search rules
 
-sub-if1 : tie.Need-overflow-sub-if1 invariant-loop decreases-loop
-sub-if1 c = search rules
+overflow_sub-i : tie.Need-overflow_sub-i invariant-loop decreases-loop
+overflow_sub-i c = search rules
 
-shared-slice-read-if1 : tie.Need-shared-slice-read-if1 invariant-loop decreases-loop
-shared-slice-read-if1 c = search rules
+bounds-name-i : tie.Need-bounds-name-i invariant-loop decreases-loop
+bounds-name-i c = search rules
+
+returns-then-name-i-eq47 : tie.Need-returns-then-name-i-eq47 invariant-loop decreases-loop
+returns-then-name-i-eq47 c = search rules
+
+overflow_sub-i-in-loop-i : tie.Need-overflow_sub-i-in-loop-i invariant-loop decreases-loop
+overflow_sub-i-in-loop-i c = search rules
+
+loop-i-smaller : tie.Need-loop-i-smaller invariant-loop decreases-loop
+loop-i-smaller c = search rules
+
+loop-i-preserved : tie.Need-loop-i-preserved invariant-loop decreases-loop
+loop-i-preserved c = search rules
 
 returns : tie.Need-returns invariant-loop decreases-loop
 returns c = search rules
 
-sub-i : tie.Need-overflow-sub-i invariant-loop decreases-loop
-sub-i c = search rules
-
-loop-less : tie.Need-loop-smaller invariant-loop decreases-loop
-loop-less c = search rules
-
-loop-again : tie.Need-loop-preserved invariant-loop decreases-loop
-loop-again c = search rules
-
-returns-2 : tie.Need-returns-2 invariant-loop decreases-loop
-returns-2 c = search rules
-
 pub folder_end_spec : {M : Type 1} → statement M
 folder_end_spec =
     tie.close
-    (tie.spec
-    invariant-loop
-    decreases-loop
-    loop-holds
-    sub-if1
-    shared-slice-read-if1
-    returns
-    sub-i
-    loop-less
-    loop-again
-    returns-2)
+    (tie.spec invariant-loop decreases-loop loop-i-init overflow_sub-i bounds-name-i returns-then-name-i-eq47 overflow_sub-i-in-loop-i loop-i-smaller loop-i-preserved returns)

@@ -9,53 +9,40 @@ invariant-loop piece shown out₀ c₀ turns₀ out c turns = length out ≡ len
 abbrev decreases-loop : tie.decreases-loop
 decreases-loop piece shown out₀ c₀ turns₀ out c turns = turns
 
-loop-holds : tie.Need-loop-init invariant-loop decreases-loop
-loop-holds c = search rules
+loop-turns-init : tie.Need-loop-turns-init invariant-loop decreases-loop
+loop-turns-init c = search rules
 
-stepped-requires : tie.Need-stepped-requires invariant-loop decreases-loop
-stepped-requires c κs = search rules
+stepped-c-requires : tie.Need-stepped-c-requires invariant-loop decreases-loop
+stepped-c-requires c κs = search rules
 
-is-within-requires : tie.Need-is-within-requires invariant-loop decreases-loop
-is-within-requires c κs = search rules
+is_within-requires : tie.Need-is_within-requires invariant-loop decreases-loop
+is_within-requires c κs = search rules
 
-goes-on-requires : tie.Need-goes-on-requires invariant-loop decreases-loop
-goes-on-requires c κs = search rules
+goes_on-requires : tie.Need-goes_on-requires invariant-loop decreases-loop
+goes_on-requires c κs = search rules
 
-same_length : tie.Need-same-length invariant-loop decreases-loop
-same_length c = search rules
+shape_of-out-then-not-goes_on : tie.Need-shape_of-out-then-not-goes_on invariant-loop decreases-loop
+shape_of-out-then-not-goes_on c = search rules
+
+returns-then-not-goes_on : tie.Need-returns-then-not-goes_on invariant-loop decreases-loop
+returns-then-not-goes_on c = search rules
+
+overflow_sub-turns : tie.Need-overflow_sub-turns invariant-loop decreases-loop
+overflow_sub-turns c = search rules
+
+loop-turns-smaller : tie.Need-loop-turns-smaller invariant-loop decreases-loop
+loop-turns-smaller c = search rules
+
+loop-turns-preserved : tie.Need-loop-turns-preserved invariant-loop decreases-loop
+loop-turns-preserved c = search rules
+
+shape_of-out : tie.Need-shape_of-out invariant-loop decreases-loop
+shape_of-out c = search rules
 
 returns : tie.Need-returns invariant-loop decreases-loop
 returns c = search rules
 
-sub-turns : tie.Need-overflow-sub-turns invariant-loop decreases-loop
-sub-turns c = search rules
-
-loop-less : tie.Need-loop-smaller invariant-loop decreases-loop
-loop-less c = search rules
-
-loop-again : tie.Need-loop-preserved invariant-loop decreases-loop
-loop-again c = search rules
-
-same-length-2 : tie.Need-same-length-2 invariant-loop decreases-loop
-same-length-2 c = search rules
-
-returns-2 : tie.Need-returns-2 invariant-loop decreases-loop
-returns-2 c = search rules
-
 pub records_in_spec : {M : Type 1} → statement M
 records_in_spec =
     tie.close
-    (tie.spec
-    invariant-loop
-    decreases-loop
-    loop-holds
-    stepped-requires
-    is-within-requires
-    goes-on-requires
-    same_length
-    returns
-    sub-turns
-    loop-less
-    loop-again
-    same-length-2
-    returns-2)
+    (tie.spec invariant-loop decreases-loop loop-turns-init stepped-c-requires is_within-requires goes_on-requires shape_of-out-then-not-goes_on returns-then-not-goes_on overflow_sub-turns loop-turns-smaller loop-turns-preserved shape_of-out returns)

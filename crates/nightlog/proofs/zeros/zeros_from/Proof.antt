@@ -9,45 +9,34 @@ invariant-loop fd size buf₀ l₀ turns₀ buf l turns = length buf ≡ length 
 abbrev decreases-loop : tie.decreases-loop
 decreases-loop fd size buf₀ l₀ turns₀ buf l turns = turns
 
-loop-holds : tie.Need-loop-init invariant-loop decreases-loop
-loop-holds c = search rules
+loop-turns-init : tie.Need-loop-turns-init invariant-loop decreases-loop
+loop-turns-init c = search rules
 
-further-requires : tie.Need-further-requires invariant-loop decreases-loop
-further-requires c κs = search rules
+further-l-requires : tie.Need-further-l-requires invariant-loop decreases-loop
+further-l-requires c κs = search rules
 
-same_length : tie.Need-same-length invariant-loop decreases-loop
-same_length c = search rules
+shape_of-buf-then-not-l : tie.Need-shape_of-buf-then-not-l invariant-loop decreases-loop
+shape_of-buf-then-not-l c = search rules
+
+returns-then-not-l : tie.Need-returns-then-not-l invariant-loop decreases-loop
+returns-then-not-l c = search rules
+
+overflow_sub-turns : tie.Need-overflow_sub-turns invariant-loop decreases-loop
+overflow_sub-turns c = search rules
+
+loop-turns-smaller : tie.Need-loop-turns-smaller invariant-loop decreases-loop
+loop-turns-smaller c = search rules
+
+loop-turns-preserved : tie.Need-loop-turns-preserved invariant-loop decreases-loop
+loop-turns-preserved c = search rules
+
+shape_of-buf : tie.Need-shape_of-buf invariant-loop decreases-loop
+shape_of-buf c = search rules
 
 returns : tie.Need-returns invariant-loop decreases-loop
 returns c = search rules
 
-sub-turns : tie.Need-overflow-sub-turns invariant-loop decreases-loop
-sub-turns c = search rules
-
-loop-less : tie.Need-loop-smaller invariant-loop decreases-loop
-loop-less c = search rules
-
-loop-again : tie.Need-loop-preserved invariant-loop decreases-loop
-loop-again c = search rules
-
-same-length-2 : tie.Need-same-length-2 invariant-loop decreases-loop
-same-length-2 c = search rules
-
-returns-2 : tie.Need-returns-2 invariant-loop decreases-loop
-returns-2 c = search rules
-
 pub zeros_from_spec : {M : Type 1} → statement M
 zeros_from_spec =
     tie.close
-    (tie.spec
-    invariant-loop
-    decreases-loop
-    loop-holds
-    further-requires
-    same_length
-    returns
-    sub-turns
-    loop-less
-    loop-again
-    same-length-2
-    returns-2)
+    (tie.spec invariant-loop decreases-loop loop-turns-init further-l-requires shape_of-buf-then-not-l returns-then-not-l overflow_sub-turns loop-turns-smaller loop-turns-preserved shape_of-buf returns)

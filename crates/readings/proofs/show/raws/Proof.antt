@@ -11,26 +11,26 @@ invariant-loop zs j₀ j = j ≤ signal_count
 abbrev decreases-loop : tie.decreases-loop
 decreases-loop zs j₀ j = signal_count - j
 
-loop-holds : tie.Need-loop-init invariant-loop decreases-loop
-loop-holds c = search rules
+loop-j-init : tie.Need-loop-j-init invariant-loop decreases-loop
+loop-j-init c = search rules
 
-mul-spaced : tie.Need-overflow-mul-spaced invariant-loop decreases-loop
-mul-spaced c = search rules
+offset_bounds-zs-j : tie.Need-offset_bounds-zs-j invariant-loop decreases-loop
+offset_bounds-zs-j c = search rules
 
-array-copy-out-spaced : tie.Need-array-copy-out-spaced invariant-loop decreases-loop
-array-copy-out-spaced c = search rules
+bounds-zs-j : tie.Need-bounds-zs-j invariant-loop decreases-loop
+bounds-zs-j c = search rules
 
 spaced-requires : tie.Need-spaced-requires invariant-loop decreases-loop
 spaced-requires c κs = search rules
 
-add-j : tie.Need-overflow-add-j invariant-loop decreases-loop
-add-j c = search rules
+overflow_add-j : tie.Need-overflow_add-j invariant-loop decreases-loop
+overflow_add-j c = search rules
 
-loop-less : tie.Need-loop-smaller invariant-loop decreases-loop
-loop-less c = search rules
+loop-j-smaller : tie.Need-loop-j-smaller invariant-loop decreases-loop
+loop-j-smaller c = search rules
 
-loop-again : tie.Need-loop-preserved invariant-loop decreases-loop
-loop-again c = search rules
+loop-j-preserved : tie.Need-loop-j-preserved invariant-loop decreases-loop
+loop-j-preserved c = search rules
 
 returns : tie.Need-returns invariant-loop decreases-loop
 returns c = search rules
@@ -38,14 +38,4 @@ returns c = search rules
 pub raws_spec : {M : Type 1} → statement M
 raws_spec =
     tie.close
-    (tie.spec
-    invariant-loop
-    decreases-loop
-    loop-holds
-    mul-spaced
-    array-copy-out-spaced
-    spaced-requires
-    add-j
-    loop-less
-    loop-again
-    returns)
+    (tie.spec invariant-loop decreases-loop loop-j-init offset_bounds-zs-j bounds-zs-j spaced-requires overflow_add-j loop-j-smaller loop-j-preserved returns)

@@ -9,26 +9,26 @@ invariant-loop s i₀ i = i ≤ length s
 abbrev decreases-loop : tie.decreases-loop
 decreases-loop s i₀ i = length s - i
 
-loop-holds : tie.Need-loop-init invariant-loop decreases-loop
-loop-holds c = search rules
+loop-i-init : tie.Need-loop-i-init invariant-loop decreases-loop
+loop-i-init c = search rules
 
-shared-slice-read-hex : tie.Need-shared-slice-read-hex invariant-loop decreases-loop
-shared-slice-read-hex c = search rules
+bounds-s-i : tie.Need-bounds-s-i invariant-loop decreases-loop
+bounds-s-i c = search rules
 
-cast-hex : tie.Need-overflow-cast-hex invariant-loop decreases-loop
-cast-hex c = omega (arith, c.shared-slice-known2.given c.before.before.loop.i)
+overflow_cast-s : tie.Need-overflow_cast-s invariant-loop decreases-loop
+overflow_cast-s c = omega (arith, c.shared_slice_known-in-loop-i-1.given c.loop-i.i)
 
 hex-requires : tie.Need-hex-requires invariant-loop decreases-loop
 hex-requires c κs = search rules
 
-add-i : tie.Need-overflow-add-i invariant-loop decreases-loop
-add-i c = search rules
+overflow_add-i : tie.Need-overflow_add-i invariant-loop decreases-loop
+overflow_add-i c = search rules
 
-loop-less : tie.Need-loop-smaller invariant-loop decreases-loop
-loop-less c = search rules
+loop-i-smaller : tie.Need-loop-i-smaller invariant-loop decreases-loop
+loop-i-smaller c = search rules
 
-loop-again : tie.Need-loop-preserved invariant-loop decreases-loop
-loop-again c = search rules
+loop-i-preserved : tie.Need-loop-i-preserved invariant-loop decreases-loop
+loop-i-preserved c = search rules
 
 returns : tie.Need-returns invariant-loop decreases-loop
 returns c = search rules
@@ -36,14 +36,4 @@ returns c = search rules
 pub bytes_spec : {M : Type 1} → statement M
 bytes_spec =
     tie.close
-    (tie.spec
-    invariant-loop
-    decreases-loop
-    loop-holds
-    shared-slice-read-hex
-    cast-hex
-    hex-requires
-    add-i
-    loop-less
-    loop-again
-    returns)
+    (tie.spec invariant-loop decreases-loop loop-i-init bounds-s-i overflow_cast-s hex-requires overflow_add-i loop-i-smaller loop-i-preserved returns)

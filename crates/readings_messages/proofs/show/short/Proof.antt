@@ -4,8 +4,8 @@ use mir.Facts.{sfits_widen}
 use Rattle.readings_messages.proofs.show.short.Statement.{statement}
 use Rattle.readings_messages.proofs.show.short.Tie as tie
 
-cast-number : tie.Need-overflow-cast-number
-cast-number c = rw (to_z-of_z c.ranges.z) (sfits_widen tt c.ranges.z)
+overflow_cast-z : tie.Need-overflow_cast-z
+overflow_cast-z c = rw (to_z-of_z c.ranges.z) (sfits_widen tt c.ranges.z)
 
 number-requires : tie.Need-number-requires
 number-requires c κs = search rules
@@ -14,4 +14,4 @@ returns : tie.Need-returns
 returns c = search rules
 
 pub short_spec : {M : Type 1} → statement M
-short_spec = tie.close (tie.spec cast-number number-requires returns)
+short_spec = tie.close (tie.spec overflow_cast-z number-requires returns)

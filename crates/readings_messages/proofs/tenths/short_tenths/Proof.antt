@@ -4,8 +4,8 @@ use mir.Facts.{sfits_widen}
 use Rattle.readings_messages.proofs.tenths.short_tenths.Statement.{statement}
 use Rattle.readings_messages.proofs.tenths.short_tenths.Tie as tie
 
-cast-tenths : tie.Need-overflow-cast-tenths
-cast-tenths c = rw (to_z-of_z c.ranges.z) (sfits_widen tt c.ranges.z)
+overflow_cast-z : tie.Need-overflow_cast-z
+overflow_cast-z c = rw (to_z-of_z c.ranges.z) (sfits_widen tt c.ranges.z)
 
 tenths-requires : tie.Need-tenths-requires
 tenths-requires c κs = search rules
@@ -14,4 +14,4 @@ returns : tie.Need-returns
 returns c = search rules
 
 pub short_tenths_spec : {M : Type 1} → statement M
-short_tenths_spec = tie.close (tie.spec cast-tenths tenths-requires returns)
+short_tenths_spec = tie.close (tie.spec overflow_cast-z tenths-requires returns)

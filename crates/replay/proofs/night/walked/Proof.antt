@@ -9,77 +9,58 @@ invariant-loop fd watched name buf₀ words₀ counts₀ out₀ n₀ turns₀ bu
 abbrev decreases-loop : tie.decreases-loop
 decreases-loop fd watched name buf₀ words₀ counts₀ out₀ n₀ turns₀ buf words counts out n turns = turns
 
-loop-holds : tie.Need-loop-init invariant-loop decreases-loop
-loop-holds c = search rules
+loop-turns-init : tie.Need-loop-turns-init invariant-loop decreases-loop
+loop-turns-init c = search rules
 
-next-piece-requires : tie.Need-next-piece-requires invariant-loop decreases-loop
-next-piece-requires c κs = search rules
+next_piece-n-requires : tie.Need-next_piece-n-requires invariant-loop decreases-loop
+next_piece-n-requires c κs = search rules
 
-is-at-seam-requires : tie.Need-is-at-seam-requires invariant-loop decreases-loop
-is-at-seam-requires c κs = search rules
+is_at_seam-requires : tie.Need-is_at_seam-requires invariant-loop decreases-loop
+is_at_seam-requires c κs = search rules
 
-same_length : tie.Need-same-length invariant-loop decreases-loop
-same_length c = search rules
+shape_of-buf-then-not-is_at_seam : tie.Need-shape_of-buf-then-not-is_at_seam invariant-loop decreases-loop
+shape_of-buf-then-not-is_at_seam c = search rules
 
-same-length-2 : tie.Need-same-length-2 invariant-loop decreases-loop
-same-length-2 c = search rules
+shape_of-words-then-not-is_at_seam : tie.Need-shape_of-words-then-not-is_at_seam invariant-loop decreases-loop
+shape_of-words-then-not-is_at_seam c = search rules
 
-same-length-3 : tie.Need-same-length-3 invariant-loop decreases-loop
-same-length-3 c = search rules
+shape_of-counts-then-not-is_at_seam : tie.Need-shape_of-counts-then-not-is_at_seam invariant-loop decreases-loop
+shape_of-counts-then-not-is_at_seam c = search rules
 
-same-length-4 : tie.Need-same-length-4 invariant-loop decreases-loop
-same-length-4 c = search rules
+shape_of-out-then-not-is_at_seam : tie.Need-shape_of-out-then-not-is_at_seam invariant-loop decreases-loop
+shape_of-out-then-not-is_at_seam c = search rules
 
-returns : tie.Need-returns invariant-loop decreases-loop
-returns c = search rules
+returns-then-not-is_at_seam : tie.Need-returns-then-not-is_at_seam invariant-loop decreases-loop
+returns-then-not-is_at_seam c = search rules
 
 told-requires : tie.Need-told-requires invariant-loop decreases-loop
 told-requires c κs = search rules
 
-sub-turns : tie.Need-overflow-sub-turns invariant-loop decreases-loop
-sub-turns c = search rules
+overflow_sub-turns : tie.Need-overflow_sub-turns invariant-loop decreases-loop
+overflow_sub-turns c = search rules
 
-loop-less : tie.Need-loop-smaller invariant-loop decreases-loop
-loop-less c = search rules
+loop-turns-smaller : tie.Need-loop-turns-smaller invariant-loop decreases-loop
+loop-turns-smaller c = search rules
 
-loop-again : tie.Need-loop-preserved invariant-loop decreases-loop
-loop-again c = search rules
+loop-turns-preserved : tie.Need-loop-turns-preserved invariant-loop decreases-loop
+loop-turns-preserved c = search rules
 
-same-length-5 : tie.Need-same-length-5 invariant-loop decreases-loop
-same-length-5 c = search rules
+shape_of-buf : tie.Need-shape_of-buf invariant-loop decreases-loop
+shape_of-buf c = search rules
 
-same-length-6 : tie.Need-same-length-6 invariant-loop decreases-loop
-same-length-6 c = search rules
+shape_of-words : tie.Need-shape_of-words invariant-loop decreases-loop
+shape_of-words c = search rules
 
-same-length-7 : tie.Need-same-length-7 invariant-loop decreases-loop
-same-length-7 c = search rules
+shape_of-counts : tie.Need-shape_of-counts invariant-loop decreases-loop
+shape_of-counts c = search rules
 
-same-length-8 : tie.Need-same-length-8 invariant-loop decreases-loop
-same-length-8 c = search rules
+shape_of-out : tie.Need-shape_of-out invariant-loop decreases-loop
+shape_of-out c = search rules
 
-returns-2 : tie.Need-returns-2 invariant-loop decreases-loop
-returns-2 c = search rules
+returns : tie.Need-returns invariant-loop decreases-loop
+returns c = search rules
 
 pub walked_spec : {M : Type 1} → statement M
 walked_spec =
     tie.close
-    (tie.spec
-    invariant-loop
-    decreases-loop
-    loop-holds
-    next-piece-requires
-    is-at-seam-requires
-    same_length
-    same-length-2
-    same-length-3
-    same-length-4
-    returns
-    told-requires
-    sub-turns
-    loop-less
-    loop-again
-    same-length-5
-    same-length-6
-    same-length-7
-    same-length-8
-    returns-2)
+    (tie.spec invariant-loop decreases-loop loop-turns-init next_piece-n-requires is_at_seam-requires shape_of-buf-then-not-is_at_seam shape_of-words-then-not-is_at_seam shape_of-counts-then-not-is_at_seam shape_of-out-then-not-is_at_seam returns-then-not-is_at_seam told-requires overflow_sub-turns loop-turns-smaller loop-turns-preserved shape_of-buf shape_of-words shape_of-counts shape_of-out returns)

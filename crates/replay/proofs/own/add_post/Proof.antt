@@ -10,29 +10,29 @@ invariant-loop sums₀ counts k₀ sums k = length sums ≡ length sums₀
 abbrev decreases-loop : tie.decreases-loop
 decreases-loop sums₀ counts k₀ sums k = count_count - k
 
-loop-holds : tie.Need-loop-init invariant-loop decreases-loop
-loop-holds c = search rules
+loop-k-init : tie.Need-loop-k-init invariant-loop decreases-loop
+loop-k-init c = search rules
 
-mul-add : tie.Need-overflow-mul-add invariant-loop decreases-loop
-mul-add c = search rules
+offset_bounds-counts-k : tie.Need-offset_bounds-counts-k invariant-loop decreases-loop
+offset_bounds-counts-k c = search rules
 
-array-read-add : tie.Need-array-read-add invariant-loop decreases-loop
-array-read-add c = search rules
+bounds-counts-k : tie.Need-bounds-counts-k invariant-loop decreases-loop
+bounds-counts-k c = search rules
 
 add-requires : tie.Need-add-requires invariant-loop decreases-loop
 add-requires c κs = search rules
 
-add-k : tie.Need-overflow-add-k invariant-loop decreases-loop
-add-k c = search rules
+overflow_add-k : tie.Need-overflow_add-k invariant-loop decreases-loop
+overflow_add-k c = search rules
 
-loop-less : tie.Need-loop-smaller invariant-loop decreases-loop
-loop-less c = search rules
+loop-k-smaller : tie.Need-loop-k-smaller invariant-loop decreases-loop
+loop-k-smaller c = search rules
 
-loop-again : tie.Need-loop-preserved invariant-loop decreases-loop
-loop-again c = search rules
+loop-k-preserved : tie.Need-loop-k-preserved invariant-loop decreases-loop
+loop-k-preserved c = search rules
 
-same_length : tie.Need-same-length invariant-loop decreases-loop
-same_length c = search rules
+shape_of-sums : tie.Need-shape_of-sums invariant-loop decreases-loop
+shape_of-sums c = search rules
 
 returns : tie.Need-returns invariant-loop decreases-loop
 returns c = search rules
@@ -40,15 +40,4 @@ returns c = search rules
 pub add_post_spec : {M : Type 1} → statement M
 add_post_spec =
     tie.close
-    (tie.spec
-    invariant-loop
-    decreases-loop
-    loop-holds
-    mul-add
-    array-read-add
-    add-requires
-    add-k
-    loop-less
-    loop-again
-    same_length
-    returns)
+    (tie.spec invariant-loop decreases-loop loop-k-init offset_bounds-counts-k bounds-counts-k add-requires overflow_add-k loop-k-smaller loop-k-preserved shape_of-sums returns)

@@ -10,29 +10,29 @@ invariant-loop sums₀ t i₀ sums i = length sums ≡ length sums₀
 abbrev decreases-loop : tie.decreases-loop
 decreases-loop sums₀ t i₀ sums i = post_count - i
 
-loop-holds : tie.Need-loop-init invariant-loop decreases-loop
-loop-holds c = search rules
+loop-i-init : tie.Need-loop-i-init invariant-loop decreases-loop
+loop-i-init c = search rules
 
-mul-p : tie.Need-overflow-mul-p invariant-loop decreases-loop
-mul-p c = search rules
+offset_bounds-t-i : tie.Need-offset_bounds-t-i invariant-loop decreases-loop
+offset_bounds-t-i c = search rules
 
-element-copy-out-p : tie.Need-element-copy-out-p invariant-loop decreases-loop
-element-copy-out-p c = search rules
+bounds-t-i : tie.Need-bounds-t-i invariant-loop decreases-loop
+bounds-t-i c = search rules
 
-add-post-requires : tie.Need-add-post-requires invariant-loop decreases-loop
-add-post-requires c κs = search rules
+add_post-requires : tie.Need-add_post-requires invariant-loop decreases-loop
+add_post-requires c κs = search rules
 
-add-i : tie.Need-overflow-add-i invariant-loop decreases-loop
-add-i c = search rules
+overflow_add-i : tie.Need-overflow_add-i invariant-loop decreases-loop
+overflow_add-i c = search rules
 
-loop-less : tie.Need-loop-smaller invariant-loop decreases-loop
-loop-less c = search rules
+loop-i-smaller : tie.Need-loop-i-smaller invariant-loop decreases-loop
+loop-i-smaller c = search rules
 
-loop-again : tie.Need-loop-preserved invariant-loop decreases-loop
-loop-again c = search rules
+loop-i-preserved : tie.Need-loop-i-preserved invariant-loop decreases-loop
+loop-i-preserved c = search rules
 
-same_length : tie.Need-same-length invariant-loop decreases-loop
-same_length c = search rules
+shape_of-sums : tie.Need-shape_of-sums invariant-loop decreases-loop
+shape_of-sums c = search rules
 
 returns : tie.Need-returns invariant-loop decreases-loop
 returns c = search rules
@@ -40,15 +40,4 @@ returns c = search rules
 pub add_posts_spec : {M : Type 1} → statement M
 add_posts_spec =
     tie.close
-    (tie.spec
-    invariant-loop
-    decreases-loop
-    loop-holds
-    mul-p
-    element-copy-out-p
-    add-post-requires
-    add-i
-    loop-less
-    loop-again
-    same_length
-    returns)
+    (tie.spec invariant-loop decreases-loop loop-i-init offset_bounds-t-i bounds-t-i add_post-requires overflow_add-i loop-i-smaller loop-i-preserved shape_of-sums returns)

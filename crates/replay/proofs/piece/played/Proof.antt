@@ -9,65 +9,49 @@ invariant-loop piece words₀ counts₀ out₀ n₀ turns₀ words counts out n 
 abbrev decreases-loop : tie.decreases-loop
 decreases-loop piece words₀ counts₀ out₀ n₀ turns₀ words counts out n turns = turns
 
-loop-holds : tie.Need-loop-init invariant-loop decreases-loop
-loop-holds c = search rules
+loop-turns-init : tie.Need-loop-turns-init invariant-loop decreases-loop
+loop-turns-init c = search rules
 
-stepped-requires : tie.Need-stepped-requires invariant-loop decreases-loop
-stepped-requires c κs = search rules
+stepped-n-requires : tie.Need-stepped-n-requires invariant-loop decreases-loop
+stepped-n-requires c κs = search rules
 
-is-within-requires : tie.Need-is-within-requires invariant-loop decreases-loop
-is-within-requires c κs = search rules
+is_within-requires : tie.Need-is_within-requires invariant-loop decreases-loop
+is_within-requires c κs = search rules
 
-same_length : tie.Need-same-length invariant-loop decreases-loop
-same_length c = search rules
+shape_of-words-then-not-is_within : tie.Need-shape_of-words-then-not-is_within invariant-loop decreases-loop
+shape_of-words-then-not-is_within c = search rules
 
-same-length-2 : tie.Need-same-length-2 invariant-loop decreases-loop
-same-length-2 c = search rules
+shape_of-counts-then-not-is_within : tie.Need-shape_of-counts-then-not-is_within invariant-loop decreases-loop
+shape_of-counts-then-not-is_within c = search rules
 
-same-length-3 : tie.Need-same-length-3 invariant-loop decreases-loop
-same-length-3 c = search rules
+shape_of-out-then-not-is_within : tie.Need-shape_of-out-then-not-is_within invariant-loop decreases-loop
+shape_of-out-then-not-is_within c = search rules
+
+returns-then-not-is_within : tie.Need-returns-then-not-is_within invariant-loop decreases-loop
+returns-then-not-is_within c = search rules
+
+overflow_sub-turns : tie.Need-overflow_sub-turns invariant-loop decreases-loop
+overflow_sub-turns c = search rules
+
+loop-turns-smaller : tie.Need-loop-turns-smaller invariant-loop decreases-loop
+loop-turns-smaller c = search rules
+
+loop-turns-preserved : tie.Need-loop-turns-preserved invariant-loop decreases-loop
+loop-turns-preserved c = search rules
+
+shape_of-words : tie.Need-shape_of-words invariant-loop decreases-loop
+shape_of-words c = search rules
+
+shape_of-counts : tie.Need-shape_of-counts invariant-loop decreases-loop
+shape_of-counts c = search rules
+
+shape_of-out : tie.Need-shape_of-out invariant-loop decreases-loop
+shape_of-out c = search rules
 
 returns : tie.Need-returns invariant-loop decreases-loop
 returns c = search rules
 
-sub-turns : tie.Need-overflow-sub-turns invariant-loop decreases-loop
-sub-turns c = search rules
-
-loop-less : tie.Need-loop-smaller invariant-loop decreases-loop
-loop-less c = search rules
-
-loop-again : tie.Need-loop-preserved invariant-loop decreases-loop
-loop-again c = search rules
-
-same-length-4 : tie.Need-same-length-4 invariant-loop decreases-loop
-same-length-4 c = search rules
-
-same-length-5 : tie.Need-same-length-5 invariant-loop decreases-loop
-same-length-5 c = search rules
-
-same-length-6 : tie.Need-same-length-6 invariant-loop decreases-loop
-same-length-6 c = search rules
-
-returns-2 : tie.Need-returns-2 invariant-loop decreases-loop
-returns-2 c = search rules
-
 pub played_spec : {M : Type 1} → statement M
 played_spec =
     tie.close
-    (tie.spec
-    invariant-loop
-    decreases-loop
-    loop-holds
-    stepped-requires
-    is-within-requires
-    same_length
-    same-length-2
-    same-length-3
-    returns
-    sub-turns
-    loop-less
-    loop-again
-    same-length-4
-    same-length-5
-    same-length-6
-    returns-2)
+    (tie.spec invariant-loop decreases-loop loop-turns-init stepped-n-requires is_within-requires shape_of-words-then-not-is_within shape_of-counts-then-not-is_within shape_of-out-then-not-is_within returns-then-not-is_within overflow_sub-turns loop-turns-smaller loop-turns-preserved shape_of-words shape_of-counts shape_of-out returns)

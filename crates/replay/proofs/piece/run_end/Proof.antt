@@ -9,49 +9,37 @@ invariant-loop start piece w₀ turns₀ w turns = Unit {0}
 abbrev decreases-loop : tie.decreases-loop
 decreases-loop start piece w₀ turns₀ w turns = turns
 
-loop-holds : tie.Need-loop-init invariant-loop decreases-loop
-loop-holds c = search rules
+loop-turns-init : tie.Need-loop-turns-init invariant-loop decreases-loop
+loop-turns-init c = search rules
 
-stepped-requires : tie.Need-stepped-requires invariant-loop decreases-loop
-stepped-requires c κs = search rules
+stepped-s-requires : tie.Need-stepped-s-requires invariant-loop decreases-loop
+stepped-s-requires c κs = search rules
 
-is-within-requires : tie.Need-is-within-requires invariant-loop decreases-loop
-is-within-requires c κs = search rules
+is_within-requires : tie.Need-is_within-requires invariant-loop decreases-loop
+is_within-requires c κs = search rules
 
-returns : tie.Need-returns invariant-loop decreases-loop
-returns c = search rules
+returns-then-not-is_within : tie.Need-returns-then-not-is_within invariant-loop decreases-loop
+returns-then-not-is_within c = search rules
 
 between-requires : tie.Need-between-requires invariant-loop decreases-loop
 between-requires c κs = search rules
 
-returns-2 : tie.Need-returns-2 invariant-loop decreases-loop
-returns-2 c = search rules
+returns-then-between-gt4096 : tie.Need-returns-then-between-gt4096 invariant-loop decreases-loop
+returns-then-between-gt4096 c = search rules
 
-sub-turns : tie.Need-overflow-sub-turns invariant-loop decreases-loop
-sub-turns c = search rules
+overflow_sub-turns : tie.Need-overflow_sub-turns invariant-loop decreases-loop
+overflow_sub-turns c = search rules
 
-loop-less : tie.Need-loop-smaller invariant-loop decreases-loop
-loop-less c = search rules
+loop-turns-smaller : tie.Need-loop-turns-smaller invariant-loop decreases-loop
+loop-turns-smaller c = search rules
 
-loop-again : tie.Need-loop-preserved invariant-loop decreases-loop
-loop-again c = search rules
+loop-turns-preserved : tie.Need-loop-turns-preserved invariant-loop decreases-loop
+loop-turns-preserved c = search rules
 
-returns-3 : tie.Need-returns-3 invariant-loop decreases-loop
-returns-3 c = search rules
+returns : tie.Need-returns invariant-loop decreases-loop
+returns c = search rules
 
 pub run_end_spec : {M : Type 1} → statement M
 run_end_spec =
     tie.close
-    (tie.spec
-    invariant-loop
-    decreases-loop
-    loop-holds
-    stepped-requires
-    is-within-requires
-    returns
-    between-requires
-    returns-2
-    sub-turns
-    loop-less
-    loop-again
-    returns-3)
+    (tie.spec invariant-loop decreases-loop loop-turns-init stepped-s-requires is_within-requires returns-then-not-is_within between-requires returns-then-between-gt4096 overflow_sub-turns loop-turns-smaller loop-turns-preserved returns)

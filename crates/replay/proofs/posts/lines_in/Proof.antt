@@ -9,57 +9,43 @@ invariant-loop name file p₀ at₀ p at = at ≤ length file + 1
 abbrev decreases-loop : tie.decreases-loop
 decreases-loop name file p₀ at₀ p at = length file + 1 - at
 
-fresh-requires : tie.Need-fresh-requires invariant-loop decreases-loop
-fresh-requires c κs = search rules
+fresh-p-requires : tie.Need-fresh-p-requires invariant-loop decreases-loop
+fresh-p-requires c κs = search rules
 
-loop-holds : tie.Need-loop-init invariant-loop decreases-loop
-loop-holds c = search rules
+loop-at-init : tie.Need-loop-at-init invariant-loop decreases-loop
+loop-at-init c = search rules
 
-part-end-requires : tie.Need-part-end-requires invariant-loop decreases-loop
-part-end-requires c κs = search rules
+part_end-e-requires : tie.Need-part_end-e-requires invariant-loop decreases-loop
+part_end-e-requires c κs = search rules
 
-sub-taken : tie.Need-overflow-sub-taken invariant-loop decreases-loop
-sub-taken c = search rules
+slice_bounds-taken-count : tie.Need-slice_bounds-taken-count invariant-loop decreases-loop
+slice_bounds-taken-count c = search rules
 
-part-taken-start : tie.Need-slice-bounds-taken-start invariant-loop decreases-loop
-part-taken-start c = search rules
+slice_bounds-taken-start : tie.Need-slice_bounds-taken-start invariant-loop decreases-loop
+slice_bounds-taken-start c = search rules
 
-part-taken-end : tie.Need-slice-bounds-taken-end invariant-loop decreases-loop
-part-taken-end c = search rules
+slice_bounds-taken-end : tie.Need-slice_bounds-taken-end invariant-loop decreases-loop
+slice_bounds-taken-end c = search rules
 
-taken-requires : tie.Need-taken-requires invariant-loop decreases-loop
-taken-requires c κs = search rules
+taken-p-requires : tie.Need-taken-p-requires invariant-loop decreases-loop
+taken-p-requires c κs = search rules
+
+returns-then-not-p : tie.Need-returns-then-not-p invariant-loop decreases-loop
+returns-then-not-p c = search rules
+
+overflow_add-at : tie.Need-overflow_add-at invariant-loop decreases-loop
+overflow_add-at c = search rules
+
+loop-at-smaller : tie.Need-loop-at-smaller invariant-loop decreases-loop
+loop-at-smaller c = search rules
+
+loop-at-preserved : tie.Need-loop-at-preserved invariant-loop decreases-loop
+loop-at-preserved c = search rules
 
 returns : tie.Need-returns invariant-loop decreases-loop
 returns c = search rules
 
-add_at : tie.Need-overflow-add-at invariant-loop decreases-loop
-add_at c = search rules
-
-loop-less : tie.Need-loop-smaller invariant-loop decreases-loop
-loop-less c = search rules
-
-loop-again : tie.Need-loop-preserved invariant-loop decreases-loop
-loop-again c = search rules
-
-returns-2 : tie.Need-returns-2 invariant-loop decreases-loop
-returns-2 c = search rules
-
 pub lines_in_spec : {M : Type 1} → statement M
 lines_in_spec =
     tie.close
-    (tie.spec
-    invariant-loop
-    decreases-loop
-    fresh-requires
-    loop-holds
-    part-end-requires
-    sub-taken
-    part-taken-start
-    part-taken-end
-    taken-requires
-    returns
-    add_at
-    loop-less
-    loop-again
-    returns-2)
+    (tie.spec invariant-loop decreases-loop fresh-p-requires loop-at-init part_end-e-requires slice_bounds-taken-count slice_bounds-taken-start slice_bounds-taken-end taken-p-requires returns-then-not-p overflow_add-at loop-at-smaller loop-at-preserved returns)

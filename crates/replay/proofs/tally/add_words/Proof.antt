@@ -9,53 +9,40 @@ invariant-loop counts₀ words n i₀ counts i = (length counts ≡ length count
 abbrev decreases-loop : tie.decreases-loop
 decreases-loop counts₀ words n i₀ counts i = length words - i
 
-loop-holds : tie.Need-loop-init invariant-loop decreases-loop
-loop-holds c = search rules
+loop-i-init : tie.Need-loop-i-init invariant-loop decreases-loop
+loop-i-init c = search rules
 
-same_length : tie.Need-same-length invariant-loop decreases-loop
-same_length c = search rules
+shape_of-counts-then-i-n : tie.Need-shape_of-counts-then-i-n invariant-loop decreases-loop
+shape_of-counts-then-i-n c = search rules
+
+returns-then-i-n : tie.Need-returns-then-i-n invariant-loop decreases-loop
+returns-then-i-n c = search rules
+
+offset_bounds-words-i : tie.Need-offset_bounds-words-i invariant-loop decreases-loop
+offset_bounds-words-i c = search rules
+
+bounds-words-i : tie.Need-bounds-words-i invariant-loop decreases-loop
+bounds-words-i c = search rules
+
+add_word-requires : tie.Need-add_word-requires invariant-loop decreases-loop
+add_word-requires c κs = search rules
+
+overflow_add-i : tie.Need-overflow_add-i invariant-loop decreases-loop
+overflow_add-i c = search rules
+
+loop-i-smaller : tie.Need-loop-i-smaller invariant-loop decreases-loop
+loop-i-smaller c = search rules
+
+loop-i-preserved : tie.Need-loop-i-preserved invariant-loop decreases-loop
+loop-i-preserved c = search rules
+
+shape_of-counts : tie.Need-shape_of-counts invariant-loop decreases-loop
+shape_of-counts c = search rules
 
 returns : tie.Need-returns invariant-loop decreases-loop
 returns c = search rules
 
-mul-add-word : tie.Need-overflow-mul-add-word invariant-loop decreases-loop
-mul-add-word c = search rules
-
-shared-slice-read-add-word : tie.Need-shared-slice-read-add-word invariant-loop decreases-loop
-shared-slice-read-add-word c = search rules
-
-add-word-requires : tie.Need-add-word-requires invariant-loop decreases-loop
-add-word-requires c κs = search rules
-
-add-i : tie.Need-overflow-add-i invariant-loop decreases-loop
-add-i c = search rules
-
-loop-less : tie.Need-loop-smaller invariant-loop decreases-loop
-loop-less c = search rules
-
-loop-again : tie.Need-loop-preserved invariant-loop decreases-loop
-loop-again c = search rules
-
-same-length-2 : tie.Need-same-length-2 invariant-loop decreases-loop
-same-length-2 c = search rules
-
-returns-2 : tie.Need-returns-2 invariant-loop decreases-loop
-returns-2 c = search rules
-
 pub add_words_spec : {M : Type 1} → statement M
 add_words_spec =
     tie.close
-    (tie.spec
-    invariant-loop
-    decreases-loop
-    loop-holds
-    same_length
-    returns
-    mul-add-word
-    shared-slice-read-add-word
-    add-word-requires
-    add-i
-    loop-less
-    loop-again
-    same-length-2
-    returns-2)
+    (tie.spec invariant-loop decreases-loop loop-i-init shape_of-counts-then-i-n returns-then-i-n offset_bounds-words-i bounds-words-i add_word-requires overflow_add-i loop-i-smaller loop-i-preserved shape_of-counts returns)
