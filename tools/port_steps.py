@@ -34,8 +34,7 @@ class Steps:
         self.asked = {new: self.at.get(plain(old)) for (_, new), (old, _) in zip(of['needs'], of['asked_at'])}
         self.loops = {}
         for it in of.get('loops') or []:
-            if isinstance(it, list) and len(it) > 1 and isinstance(it[0], str) and isinstance(it[1], str):
-                self.loops[plain(it[0])] = it[1]
+            self.loops[plain(it[0][0])] = it[0][1]
 
     def place(self, name):
         it = plain(name)
@@ -60,6 +59,23 @@ class Steps:
         while i is not None:
             yield i
             i = self.parent(i)
+
+    def before(self, i):
+        """The place that `.before` of a place leads to today: an arm is one step, and was several."""
+        arm = self.places[i][6]
+        up = self.parent(i)
+        while arm and up is not None and self.places[up][6] and self.places[up][6][0] == arm[0]:
+            up = self.parent(up)
+        return up
+
+    def befores(self, i, to):
+        """How many times `.before` leads from one place to another, or None."""
+        count = 0
+        while i is not None:
+            if i == to:
+                return count
+            i, count = self.before(i), count + 1
+        return None
 
     def resolve(self, i, parts):
         """How many of the parts are taken for what: the new parts, or None. i is the place, or None where it is not known."""
@@ -130,7 +146,11 @@ def turn(text, of):
                 bound = re.search(r'let (\S+) = $', lines[:m.start()])
                 if bound and seen:
                     known[bound[1]] = at
-                return '.'.join([parts[0]] + ['before'] * ups + rest)
+                    # a place gives what stands further out too
+                    if not re.search(r'(?<![\w\'.-])' + re.escape(bound[1]) + r'(?![\w\'.-])', lines[m.end():]):
+                        return '.'.join([parts[0]] + rest)
+                count = steps.befores(known.get(parts[0]), at) if at is not None else None
+                return '.'.join([parts[0]] + ['before'] * (ups if count is None else count) + rest)
             if not seen and ups == 0 and i == 1:
                 # a value that is no place: only the spelling of a field can have changed
                 return '.'.join([parts[0], *[WORDS.get(p, p) for p in parts[1:]]])
@@ -141,6 +161,8 @@ def turn(text, of):
                     rest = new + rest[n:]
                 else:
                     out += ['before'] * ups
+            elif rest[0] in ('given', 'world'):
+                out += ['before'] * ups
             rest = [WORDS.get(p, p) for p in rest]
             return '.'.join(out + rest)
 

@@ -26,11 +26,11 @@ use Rattle.batch.proofs.Turns.{FedSo, start, has_place, turn, stop}
 use Rattle.batch.proofs.feed_all.Statement.{statement}
 use Rattle.batch.proofs.feed_all.Tie as tie
 
-abbrev invariant-loop : tie.invariant-loop
+abbrev invariant-loop : tie.invariant-loop-e
 invariant-loop log answers₀ heads₀ latest₀ index refused₀ at₀ n₀ answers heads latest refused at n =
     FedSo (record { posts = joined heads₀ latest₀; index = index; refused = refused₀ }) log answers₀ answers heads latest refused at n
 
-abbrev decreases-loop : tie.decreases-loop
+abbrev decreases-loop : tie.decreases-loop-e
 decreases-loop log answers₀ heads₀ latest₀ index refused₀ at₀ n₀ answers heads latest refused at n = length log - at
 
 heads_of-heads-requires : tie.Need-heads_of-heads-requires invariant-loop decreases-loop
@@ -75,7 +75,7 @@ none_found s go (Refused w at) h = refl
 
 returns-in_default : tie.Need-returns-in_default invariant-loop decreases-loop
 returns-in_default c =
-    let z = c.before.before.before in
+    let z = c in
     let l = z.loop-e in
     let a = z.args in
     let w = stop _ a.log.now a.answers.now l.answers l.heads l.latest l.refused l.at l.n l.invariant c.record_at.result c.record_at.ensures (none_found a.log.now (log_at a.log.now) c.record_at.result c.in_default.in_default-own.keys2) z.requires in
@@ -105,7 +105,7 @@ bounds-heads-i c = search rules
 
 arrival_of-a-requires : tie.Need-arrival_of-a-requires invariant-loop decreases-loop
 arrival_of-a-requires c κs =
-    let z = c.before.before.before.before.before.before.before in
+    let z = c in
     let e = c.e-1.given in
     (entry_lies z.args.log.now z.loop-e.at e.0.0 (sym c.record_at.ensures ∙ e.1)).0
 
@@ -132,7 +132,7 @@ answer_word-requires c κs = search rules
 
 offset_bounds-answers-n : tie.Need-offset_bounds-answers-n invariant-loop decreases-loop
 offset_bounds-answers-n c =
-    let z = c.before.before.before.before.before.before.before.before.before.before.before.before.before.before in
+    let z = c in
     let l = z.loop-e in
     let a = z.args in
     let e = c.e-1.given in
@@ -142,7 +142,7 @@ offset_bounds-answers-n c =
 
 bounds-answers-n : tie.Need-bounds-answers-n invariant-loop decreases-loop
 bounds-answers-n c =
-    let z = c.before.before.before.before.before.before.before.before.before.before.before.before.before.before in
+    let z = c in
     let l = z.loop-e in
     let a = z.args in
     let e = c.e-1.given in
@@ -151,7 +151,7 @@ bounds-answers-n c =
 
 overflow_add-n : tie.Need-overflow_add-n invariant-loop decreases-loop
 overflow_add-n c =
-    let z = c.before.before.before.before.before.before.before.before.before.before.before.before.before.before in
+    let z = c in
     let l = z.loop-e in
     let a = z.args in
     let e = c.e-1.given in
@@ -173,7 +173,7 @@ bounds-2-slot c = search rules
 
 loop-e-smaller-then-k-lt-PLACES : tie.Need-loop-e-smaller-then-k-lt-PLACES invariant-loop decreases-loop
 loop-e-smaller-then-k-lt-PLACES c =
-    let z = c.before.before.before.before.before.before.before.before.before.before.before.before.before.before.before in
+    let z = c in
     let l = z.loop-e in
     let a = z.args in
     let e = c.e-1.given in
@@ -183,7 +183,7 @@ loop-e-smaller-then-k-lt-PLACES c =
 
 loop-e-preserved-then-k-lt-PLACES : tie.Need-loop-e-preserved-then-k-lt-PLACES invariant-loop decreases-loop
 loop-e-preserved-then-k-lt-PLACES c =
-    let z = c.before.before.before.before.before.before.before.before.before.before.before.before.before.before.before in
+    let z = c in
     let l = z.loop-e in
     let a = z.args in
     let e = c.e-1.given in
@@ -196,7 +196,7 @@ loop-e-preserved-then-k-lt-PLACES c =
 
 loop-e-smaller : tie.Need-loop-e-smaller invariant-loop decreases-loop
 loop-e-smaller c =
-    let z = c.before.before.before.before.before.before.before.before.before.before.before.before.before.before.before in
+    let z = c in
     let l = z.loop-e in
     let a = z.args in
     let e = c.e-1.given in
@@ -206,7 +206,7 @@ loop-e-smaller c =
 
 loop-e-preserved : tie.Need-loop-e-preserved invariant-loop decreases-loop
 loop-e-preserved c =
-    let z = c.before.before.before.before.before.before.before.before.before.before.before.before.before.before.before in
+    let z = c in
     let l = z.loop-e in
     let a = z.args in
     let e = c.e-1.given in

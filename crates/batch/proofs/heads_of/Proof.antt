@@ -16,10 +16,10 @@ use Rattle.batch.proofs.heads_of.Tie as tie
 abbrev part : Post → Head
 part p = p.head
 
-abbrev invariant-loop : tie.invariant-loop
+abbrev invariant-loop : tie.invariant-loop-i
 invariant-loop t heads₀ i₀ heads i = Filled post_count (map part t.posts) heads i
 
-abbrev decreases-loop : tie.decreases-loop
+abbrev decreases-loop : tie.decreases-loop-i
 decreases-loop t heads₀ i₀ heads i = post_count - i
 
 loop-i-preserved : tie.Need-loop-i-preserved invariant-loop decreases-loop

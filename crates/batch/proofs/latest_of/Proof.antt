@@ -16,10 +16,10 @@ use Rattle.batch.proofs.latest_of.Tie as tie
 abbrev part : Post → List Slot
 part p = p.latest
 
-abbrev invariant-loop : tie.invariant-loop
+abbrev invariant-loop : tie.invariant-loop-i
 invariant-loop t latest₀ i₀ latest i = Filled post_count (map part t.posts) latest i
 
-abbrev decreases-loop : tie.decreases-loop
+abbrev decreases-loop : tie.decreases-loop-i
 decreases-loop t latest₀ i₀ latest i = post_count - i
 
 loop-i-preserved : tie.Need-loop-i-preserved invariant-loop decreases-loop

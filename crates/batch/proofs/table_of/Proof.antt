@@ -14,10 +14,10 @@ use Rattle.batch.proofs.Joined.{joined_length, joined_at}
 use Rattle.batch.proofs.table_of.Statement.{statement}
 use Rattle.batch.proofs.table_of.Tie as tie
 
-abbrev invariant-loop : tie.invariant-loop
+abbrev invariant-loop : tie.invariant-loop-i
 invariant-loop index refused heads latest posts₀ i₀ posts i = Filled post_count (joined heads latest) posts i
 
-abbrev decreases-loop : tie.decreases-loop
+abbrev decreases-loop : tie.decreases-loop-i
 decreases-loop index refused heads latest posts₀ i₀ posts i = post_count - i
 
 loop-i-preserved : tie.Need-loop-i-preserved invariant-loop decreases-loop

@@ -6,10 +6,10 @@ use borrow.Author.Rules.{rules}
 use Rattle.desk.proofs.fed.Statement.{statement}
 use Rattle.desk.proofs.fed.Tie as tie
 
-abbrev invariant-loop : tie.invariant-loop
+abbrev invariant-loop : tie.invariant-loop-i
 invariant-loop piece line₀ room₀ out₀ d₀ i₀ line room out d i = (i ≤ length piece) × (length line ≡ length line₀) × (length room ≡ length room₀) × (length out ≡ length out₀)
 
-abbrev decreases-loop : tie.decreases-loop
+abbrev decreases-loop : tie.decreases-loop-i
 decreases-loop piece line₀ room₀ out₀ d₀ i₀ line room out d i = length piece - i
 
 loop-i-init : tie.Need-loop-i-init invariant-loop decreases-loop

@@ -5,10 +5,10 @@ use borrow.Author.Rules.{rules}
 use Rattle.desk.proofs.run.Statement.{statement}
 use Rattle.desk.proofs.run.Tie as tie
 
-abbrev invariant-loop : tie.invariant-loop
+abbrev invariant-loop : tie.invariant-loop-turns
 invariant-loop piece₀ line₀ room₀ out₀ d₀ turns₀ piece line room out d turns = (length piece ≡ length piece₀) × (length line ≡ length line₀) × (length room ≡ length room₀) × (length out ≡ length out₀)
 
-abbrev decreases-loop : tie.decreases-loop
+abbrev decreases-loop : tie.decreases-loop-turns
 decreases-loop piece₀ line₀ room₀ out₀ d₀ turns₀ piece line room out d turns = turns
 
 loop-turns-init : tie.Need-loop-turns-init invariant-loop decreases-loop

@@ -6,10 +6,10 @@ use borrow.Author.Rules.{rules}
 use Rattle.desk_batch.proofs.put_words.Statement.{statement}
 use Rattle.desk_batch.proofs.put_words.Tie as tie
 
-abbrev invariant-loop : tie.invariant-loop
+abbrev invariant-loop : tie.invariant-loop-i
 invariant-loop answers out₀ p₀ i₀ t7 out p i = (i ≤ length answers) × (length out ≡ length out₀)
 
-abbrev decreases-loop : tie.decreases-loop
+abbrev decreases-loop : tie.decreases-loop-i
 decreases-loop answers out₀ p₀ i₀ t7 out p i = length answers - i
 
 loop-i-init : tie.Need-loop-i-init invariant-loop decreases-loop

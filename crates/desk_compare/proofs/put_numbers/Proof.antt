@@ -6,10 +6,10 @@ use borrow.Author.Rules.{rules}
 use Rattle.desk_compare.proofs.put_numbers.Statement.{statement}
 use Rattle.desk_compare.proofs.put_numbers.Tie as tie
 
-abbrev invariant-loop : tie.invariant-loop
+abbrev invariant-loop : tie.invariant-loop-i
 invariant-loop numbers out₀ p₀ i₀ t8 out p i = (i ≤ length numbers) × (length out ≡ length out₀)
 
-abbrev decreases-loop : tie.decreases-loop
+abbrev decreases-loop : tie.decreases-loop-i
 decreases-loop numbers out₀ p₀ i₀ t8 out p i = length numbers - i
 
 slice-aggregate-put : tie.Need-slice-aggregate-put invariant-loop decreases-loop

@@ -6,10 +6,10 @@ use borrow.Author.Rules.{rules}
 use Rattle.desk_compare.proofs.put_places.Statement.{statement}
 use Rattle.desk_compare.proofs.put_places.Tie as tie
 
-abbrev invariant-loop : tie.invariant-loop
+abbrev invariant-loop : tie.invariant-loop-channel
 invariant-loop out₀ places x₀ channel₀ out x channel = (channel ≤ 32) × (length out ≡ length out₀)
 
-abbrev decreases-loop : tie.decreases-loop
+abbrev decreases-loop : tie.decreases-loop-channel
 decreases-loop out₀ places x₀ channel₀ out x channel = 32 - channel
 
 loop-channel-init : tie.Need-loop-channel-init invariant-loop decreases-loop

@@ -7,10 +7,10 @@ use Rattle.watch_rules.specs.Table.{channel_count}
 use Rattle.desk_record.proofs.put_index.Statement.{statement}
 use Rattle.desk_record.proofs.put_index.Tie as tie
 
-abbrev invariant-loop : tie.invariant-loop
+abbrev invariant-loop : tie.invariant-loop-c
 invariant-loop out₀ index p₀ c₀ out p c = length out ≡ length out₀
 
-abbrev decreases-loop : tie.decreases-loop
+abbrev decreases-loop : tie.decreases-loop-c
 decreases-loop out₀ index p₀ c₀ out p c = channel_count - c
 
 loop-c-init : tie.Need-loop-c-init invariant-loop decreases-loop

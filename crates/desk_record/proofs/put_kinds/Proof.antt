@@ -6,10 +6,10 @@ use borrow.Author.Rules.{rules}
 use Rattle.desk_record.proofs.put_kinds.Statement.{statement}
 use Rattle.desk_record.proofs.put_kinds.Tie as tie
 
-abbrev invariant-loop : tie.invariant-loop
+abbrev invariant-loop : tie.invariant-loop-k
 invariant-loop out₀ latest first end l₀ k₀ out l k = length out ≡ length out₀
 
-abbrev decreases-loop : tie.decreases-loop
+abbrev decreases-loop : tie.decreases-loop-k
 decreases-loop out₀ latest first end l₀ k₀ out l k = end - k
 
 loop-k-init : tie.Need-loop-k-init invariant-loop decreases-loop

@@ -7,10 +7,10 @@ use Rattle.rules.specs.After.{finding_count}
 use Rattle.desk_record.proofs.put_tallies.Statement.{statement}
 use Rattle.desk_record.proofs.put_tallies.Tie as tie
 
-abbrev invariant-loop : tie.invariant-loop
+abbrev invariant-loop : tie.invariant-loop-k
 invariant-loop out₀ tallies p₀ k₀ t8 out p k = length out ≡ length out₀
 
-abbrev decreases-loop : tie.decreases-loop
+abbrev decreases-loop : tie.decreases-loop-k
 decreases-loop out₀ tallies p₀ k₀ t8 out p k = finding_count - k
 
 slice-aggregate-named : tie.Need-slice-aggregate-named invariant-loop decreases-loop

@@ -6,10 +6,10 @@ use borrow.Author.Rules.{rules}
 use Rattle.desk_replay.proofs.put_night.Statement.{statement}
 use Rattle.desk_replay.proofs.put_night.Tie as tie
 
-abbrev invariant-loop : tie.invariant-loop
+abbrev invariant-loop : tie.invariant-loop-calls
 invariant-loop log line₀ out₀ c₀ calls₀ line out c calls = (length line ≡ length line₀) × (length out ≡ length out₀) × (calls ≤ length log + 1)
 
-abbrev decreases-loop : tie.decreases-loop
+abbrev decreases-loop : tie.decreases-loop-calls
 decreases-loop log line₀ out₀ c₀ calls₀ line out c calls = length log + 1 - calls
 
 loop-calls-init : tie.Need-loop-calls-init invariant-loop decreases-loop

@@ -20,7 +20,7 @@ shape_of-counts c = search rules
 
 returns : tie.Need-returns
 returns c =
-    let out = c.before.before in
+    let out = c in
     let a = out.args in
     let many : length a.t1 ≡ count_count = search rules in (
       out.hand_out.ensures.0 ∙ ap (λ (k : ℕ). outcome_word (room_outcome k (length a.counts.now))) many,

@@ -25,7 +25,7 @@ refusal_word-requires-then-not-holds_channel c κs = search rules
 returns-then-not-holds_channel : tie.Need-returns-then-not-holds_channel
 unfolding holder_at
 returns-then-not-holds_channel c =
-    let asked = c.before.before in
+    let asked = c in
     let a = asked.args in
     let f : holds a.h a.channel ≡ false = sym asked.holds_channel.ensures ∙ not-true _ c.if-not-holds_channel.true-raw in
     c.refusal_word-then-not-holds_channel.ensures ∙ rw (le-leb a.channel 31 (omega arith), f)
@@ -36,7 +36,7 @@ overflow_cast-result c = search rules
 returns : tie.Need-returns
 unfolding holder_at
 returns c =
-    let asked = c.before in
+    let asked = c in
     let a = asked.args in
     let f : holds a.h a.channel ≡ true = sym asked.holds_channel.ensures ∙ not-false _ c.if-not-holds_channel.false-raw in
     rw (le-leb a.channel 31 (omega arith), f)

@@ -55,38 +55,38 @@ returns-then-not-is_set c =
 
 returns-then-kind-gt-OCPP : tie.Need-returns-then-kind-gt-OCPP
 returns-then-kind-gt-OCPP c =
-    let s = c.before.before in
+    let s = c in
     let a = s.args in
     ends a.at a.l a.times.now a.buf.now true false _ _ (sym s.is_set.ensures ∙ not-false _ s.if-not-is_set.false-raw) (no_kind a.l.kind c.if-kind-gt-OCPP.true) refl refl
 
 returns-then-times-lt3 : tie.Need-returns-then-times-lt3
 returns-then-times-lt3 c =
-    let k = c.before.before in
-    let s = k.before.before in
+    let k = c in
+    let s = k in
     let a = s.args in
     let e = ends a.at a.l a.times.now a.buf.now true true false _ (sym s.is_set.ensures ∙ not-false _ s.if-not-is_set.false-raw) (some_kind a.l.kind k.if-kind-gt-OCPP.false) (lt-leb _ _ c.if-times-lt3.true) refl in
     (c.refusal_word.ensures ∙ e.0, e.1, e.2)
 
 returns-then-buf-len : tie.Need-returns-then-buf-len
 returns-then-buf-len c =
-    let n = c.before.before in
-    let r = n.before in
-    let k = r.before in
-    let s = k.before.before in
+    let n = c in
+    let r = n in
+    let k = r in
+    let s = k in
     let a = s.args in
     let e = ends a.at a.l a.times.now a.buf.now true true true false (sym s.is_set.ensures ∙ not-false _ s.if-not-is_set.false-raw) (some_kind a.l.kind k.if-kind-gt-OCPP.false) (le-leb _ _ r.if-times-lt3.false) (lt-leb _ _ (rw n.length_of-len.ensures at c.if-buf-len.true)) in
     (c.refusal_word-then-buf-len.ensures ∙ e.0, e.1, e.2)
 
 bounds-times-1 : tie.Need-bounds-times-1
 bounds-times-1 c =
-    let r = c.before.before.before.before in
+    let r = c in
     let a = r.args in
     let z : 1 < length (set a.times.now 0 c.received.result) = omega (arith, length-set a.times.now 0 c.received.result, r.if-times-lt3.false) in
     z
 
 bounds-times-2 : tie.Need-bounds-times-2
 bounds-times-2 c =
-    let r = c.before.before.before.before in
+    let r = c in
     let a = r.args in
     let xs = set a.times.now 0 c.received.result in
     let z : 2 < length (set xs 1 c.age.result) = omega (arith, length-set xs 1 c.age.result, length-set a.times.now 0 c.received.result, r.if-times-lt3.false) in
@@ -94,20 +94,20 @@ bounds-times-2 c =
 
 overflow_cast-result : tie.Need-overflow_cast-result
 overflow_cast-result c =
-    let n = c.before.before.before.before.before.before.before.before in
+    let n = c in
     record { fits = omega (arith, n.length_of-len.ensures, short_length n.args.l.kind) }
 
 returns : tie.Need-returns
 returns c =
-    let w = c.before.before in
-    let big = w.before.before in
-    let aged = big.before in
-    let stamp = aged.before in
-    let room = stamp.before in
-    let n = room.before in
-    let r = n.before in
-    let k = r.before in
-    let s = k.before.before in
+    let w = c in
+    let big = w in
+    let aged = big in
+    let stamp = aged in
+    let room = stamp in
+    let n = room in
+    let r = n in
+    let k = r in
+    let s = k in
     let a = s.args in
     let long : length_of a.l.kind ≤ length a.buf.now = rw n.length_of-len.ensures at room.if-buf-len.false in
     let e = ends a.at a.l a.times.now a.buf.now true true true true (sym s.is_set.ensures ∙ not-false _ s.if-not-is_set.false-raw) (some_kind a.l.kind k.if-kind-gt-OCPP.false) (le-leb _ _ r.if-times-lt3.false) (le-leb _ _ long) in (

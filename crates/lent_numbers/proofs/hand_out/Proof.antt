@@ -9,7 +9,7 @@ returns-then-numbers-ns : tie.Need-returns-then-numbers-ns
 returns-then-numbers-ns c = rw (lt-leb _ _ c.if-numbers-ns.true) (c.refusal_word.ensures, refl)
 
 returns : tie.Need-returns
-returns c = let w = c.before.before in rw (le-leb _ _ w.if-numbers-ns.false) (refl, w.store_numbers.ensures)
+returns c = let w = c in rw (le-leb _ _ w.if-numbers-ns.false) (refl, w.store_numbers.ensures)
 
 pub hand_out_spec : {M : Type 1} → statement M
 hand_out_spec =

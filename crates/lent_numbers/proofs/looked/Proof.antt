@@ -14,7 +14,7 @@ use Rattle.lent_numbers.proofs.looked.Tie as tie
 
 returns-then-not-is_post : tie.Need-returns-then-not-is_post
 returns-then-not-is_post c =
-    let post = c.before in
+    let post = c in
     let a = post.args in
     let e = looked_by a.t1 a.post a.numbers.now (no_post_lem a.t1 a.post (sym post.is_post.ensures ∙ not-true _ post.if-not-is_post.true-raw)) in
     (c.refusal_word.ensures ∙ e.0, e.1)
@@ -24,8 +24,8 @@ bounds-t-i c = ltb-true _ _ (sym c.is_post.ensures ∙ not-false _ c.if-not-is_p
 
 returns-then-not-is_set : tie.Need-returns-then-not-is_set
 returns-then-not-is_set c =
-    let used = c.before in
-    let post = used.before.before.before.before.before in
+    let used = c in
+    let post = used in
     let a = post.args in
     let e = looked_by a.t1 a.post a.numbers.now
     (not_set_up a.t1 a.post (sym post.is_post.ensures ∙ not-false _ post.if-not-is_post.false-raw) (sym used.is_set.ensures ∙ not-true _ used.if-not-is_set.true-raw)) in
@@ -33,10 +33,10 @@ returns-then-not-is_set c =
 
 returns : tie.Need-returns
 returns c =
-    let out = c.before.before in
-    let n = out.before.before.before in
-    let used = n.before in
-    let post = used.before.before.before.before.before in
+    let out = c in
+    let n = out in
+    let used = n in
+    let post = used in
     let a = post.args in
     let e = looked_by a.t1 a.post a.numbers.now
     (set_up a.t1 a.post (sym post.is_post.ensures ∙ not-false _ post.if-not-is_post.false-raw) (sym used.is_set.ensures ∙ not-false _ used.if-not-is_set.false-raw)) in

@@ -39,16 +39,16 @@ spelled p = go (is_set p.head.heard) (is_set p.head.session.opened) refl refl
 
 returns : tie.Need-returns
 returns c =
-    let age = c.before.before in
-    let plug = age.before.before in
-    let protocol = plug.before.before in
-    let since = protocol.before in
-    let time = since.before.before.before in
-    let kind = time.before.before.before in
-    let read = kind.before in
-    let opened = read.before in
-    let iface = opened.before.before.before.before in
-    let sensor = iface.before in
+    let age = c in
+    let plug = age in
+    let protocol = plug in
+    let since = protocol in
+    let time = since in
+    let kind = time in
+    let read = kind in
+    let opened = read in
+    let iface = opened in
+    let sensor = iface in
     rw (
       c.interface_number.ensures,
       c.where_set-5.ensures,

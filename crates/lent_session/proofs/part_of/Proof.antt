@@ -11,7 +11,7 @@ use Rattle.lent_session.proofs.part_of.Tie as tie
 
 returns-then-not-is_post : tie.Need-returns-then-not-is_post
 returns-then-not-is_post c =
-    let post = c.before in
+    let post = c in
     let a = post.args in
     let e = handed_by_lem a.t1 a.post a.part a.times.now a.buf.now (no_post_lem a.t1 a.post (sym post.is_post.ensures ∙ not-true _ post.if-not-is_post.true-raw)) in
     (c.refusal_word.ensures ∙ e.0, e.1, e.2)
@@ -21,8 +21,8 @@ bounds-t-i c = ltb-true _ _ (sym c.is_post.ensures ∙ not-false _ c.if-not-is_p
 
 returns-then-not-is_set : tie.Need-returns-then-not-is_set
 returns-then-not-is_set c =
-    let used = c.before in
-    let post = used.before.before.before.before.before in
+    let used = c in
+    let post = used in
     let a = post.args in
     let e = handed_by_lem a.t1 a.post a.part a.times.now a.buf.now
     (not_set_up a.t1 a.post (sym post.is_post.ensures ∙ not-false _ post.if-not-is_post.false-raw) (sym used.is_set.ensures ∙ not-true _ used.if-not-is_set.true-raw)) in
@@ -30,8 +30,8 @@ returns-then-not-is_set c =
 
 returns-then-j-ge-KEPT : tie.Need-returns-then-j-ge-KEPT
 returns-then-j-ge-KEPT c =
-    let used = c.before.before in
-    let post = used.before.before.before.before.before in
+    let used = c in
+    let post = used in
     let a = post.args in
     let e = handed_by_lem a.t1 a.post a.part a.times.now a.buf.now
     (set_up a.t1 a.post (sym post.is_post.ensures ∙ not-false _ post.if-not-is_post.false-raw) (sym used.is_set.ensures ∙ not-false _ used.if-not-is_set.false-raw)) in
@@ -40,10 +40,10 @@ returns-then-j-ge-KEPT c =
 
 returns : tie.Need-returns
 returns c =
-    let h = c.before.before.before.before in
-    let l = h.before.before.before in
-    let used = l.before.before.before in
-    let post = used.before.before.before.before.before in
+    let h = c in
+    let l = h in
+    let used = l in
+    let post = used in
     let a = post.args in
     handed_kept a.t1 a.post a.part a.times.now a.buf.now (sym post.is_post.ensures ∙ not-false _ post.if-not-is_post.false-raw) (sym used.is_set.ensures ∙ not-false _ used.if-not-is_set.false-raw)
     (omega arith) (rw l.open_kept-l.ensures at h.hand_out.ensures)

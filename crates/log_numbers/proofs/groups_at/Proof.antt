@@ -7,10 +7,10 @@ use Rattle.log_numbers.proofs.Groups.{Turn, turn_start, turn_cut, turn_fits, tur
 use Rattle.log_numbers.proofs.groups_at.Statement.{statement}
 use Rattle.log_numbers.proofs.groups_at.Tie as tie
 
-abbrev invariant-loop : tie.invariant-loop
+abbrev invariant-loop : tie.invariant-loop-i
 invariant-loop s at n₀ weight₀ i₀ n weight i = Turn s at n weight i
 
-abbrev decreases-loop : tie.decreases-loop
+abbrev decreases-loop : tie.decreases-loop-i
 decreases-loop s at n₀ weight₀ i₀ n weight i = 4 - i
 
 overflow_cast-n : tie.Need-overflow_cast-n invariant-loop decreases-loop
@@ -26,19 +26,19 @@ returns-then-s-at c = turn_cut c.loop-i.invariant c.if-s-at.true
 
 last_group-requires : tie.Need-last_group-requires invariant-loop decreases-loop
 last_group-requires c κs =
-    let g = c.before in
+    let g = c in
     let l = g.loop-i in
     (turn_fits l.invariant g.group_bound.ensures c.if-b-group_bound.true, l.invariant.most)
 
 returns-then-b-group_bound : tie.Need-returns-then-b-group_bound invariant-loop decreases-loop
 returns-then-b-group_bound c =
-    let g = c.before.before in
+    let g = c in
     let l = g.loop-i in
     c.last_group.ensures ∙ turn_last l.invariant g.group_bound.ensures (omega arith) c.if-b-group_bound.true
 
 returns-then-i-eq4 : tie.Need-returns-then-i-eq4 invariant-loop decreases-loop
 returns-then-i-eq4 c =
-    let g = c.before.before in
+    let g = c in
     let l = g.loop-i in
     turn_ill l.invariant g.group_bound.ensures (omega arith) c.if-b-group_bound.false c.if-i-eq4.true
 

@@ -9,10 +9,10 @@ use Rattle.log_read.proofs.Scans.{Scanned, scan_turn, scan_more, scan_end}
 use Rattle.log_read.proofs.scan_log.Statement.{statement}
 use Rattle.log_read.proofs.scan_log.Tie as tie
 
-abbrev invariant-loop : tie.invariant-loop
+abbrev invariant-loop : tie.invariant-loop-at
 invariant-loop s at₀ records₀ at records = Scanned s at records
 
-abbrev decreases-loop : tie.decreases-loop
+abbrev decreases-loop : tie.decreases-loop-at
 decreases-loop s at₀ records₀ at records = length s - at
 
 loop-at-init : tie.Need-loop-at-init invariant-loop decreases-loop

@@ -6,17 +6,17 @@ use Rattle.message_parts.proofs.control.Tie as tie
 
 returns : tie.Need-returns
 returns c =
-    let n4 = c.before in
-    let k = n4.before.before in
-    let n3 = k.before in
-    let m = n3.before.before in
-    let n2 = m.before in
-    let r = n2.before.before in
-    let f = r.before.before in
-    let n1 = f.before in
-    let b = n1.before.before in
-    let a = b.before.before in
-    let v = a.before.before in
+    let n4 = c in
+    let k = n4 in
+    let n3 = k in
+    let m = n3 in
+    let n2 = m in
+    let r = n2 in
+    let f = r in
+    let n1 = f in
+    let b = n1 in
+    let a = b in
+    let v = a in
     simp (to_z-of_z, sfits_of, a.short.type_inv, b.short-2.type_inv)
     (simp (
       to_z-of_z,

@@ -10,14 +10,14 @@ use Rattle.message_parts.proofs.control_in.Tie as tie
 returns : tie.Need-returns
 unfolding control_in
 returns c =
-    let a8 = c.before in
-    let a7 = a8.before in
-    let a6 = a7.before in
-    let a5 = a6.before in
-    let a4 = a5.before in
-    let a3 = a4.before in
-    let a2 = a3.before in
-    let a1 = a2.before in
+    let a8 = c in
+    let a7 = a8 in
+    let a6 = a7 in
+    let a5 = a6 in
+    let a4 = a5 in
+    let a3 = a4 in
+    let a2 = a3 in
+    let a1 = a2 in
     c.control.ensures
     ∙ rw (
       to_z-of_z {w = w64} (record { sfits = a1.raw_of.type_inv }) ∙ a1.raw_of.ensures,

@@ -6,9 +6,9 @@ use Rattle.message_parts.proofs.parameters.Tie as tie
 
 returns : tie.Need-returns
 returns c =
-    let w2 = c.before.before in
-    let w1 = w2.before.before in
-    let w0 = w1.before.before in
+    let w2 = c in
+    let w1 = w2 in
+    let w0 = w1 in
     simp (to_z-of_z, sfits_of, c.short.type_inv)
     (search (rules, w0.word.ensures, w1.word-2.ensures, w2.word-3.ensures, c.short.ensures))
 

@@ -10,10 +10,10 @@ use Rattle.message_parts.proofs.parameters_in.Tie as tie
 returns : tie.Need-returns
 unfolding parameters_in
 returns c =
-    let a4 = c.before in
-    let a3 = a4.before in
-    let a2 = a3.before in
-    let a1 = a2.before in
+    let a4 = c in
+    let a3 = a4 in
+    let a2 = a3 in
+    let a1 = a2 in
     c.parameters.ensures
     ∙ rw (
       to_z-of_z {w = w64} (record { sfits = a1.raw_of.type_inv }) ∙ a1.raw_of.ensures,

@@ -5,9 +5,9 @@ use Rattle.message_parts.proofs.session.Tie as tie
 
 returns : tie.Need-returns
 returns c =
-    let n1 = c.before in
-    let p = n1.before.before in
-    let n0 = p.before in
+    let n1 = c in
+    let p = n1 in
+    let n0 = p in
     search (rules, n0.natural.ensures, p.protocol_of.ensures, n1.natural-2.ensures, c.plug_of.ensures)
 
 pub session_spec : {M : Type 1} → statement M

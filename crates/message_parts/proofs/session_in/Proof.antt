@@ -10,8 +10,8 @@ use Rattle.message_parts.proofs.session_in.Tie as tie
 returns : tie.Need-returns
 unfolding session_in
 returns c =
-    let a2 = c.before in
-    let a1 = a2.before in
+    let a2 = c in
+    let a1 = a2 in
     c.session.ensures
     ∙ rw (
       to_z-of_z {w = w64} (record { sfits = a1.raw_of.type_inv }) ∙ a1.raw_of.ensures,

@@ -6,12 +6,12 @@ use Rattle.message_parts.proofs.status.Tie as tie
 
 returns : tie.Need-returns
 returns c =
-    let e = c.before.before in
-    let n = e.before in
-    let t = n.before.before in
-    let m = t.before.before in
-    let a = m.before.before in
-    let v = a.before.before in
+    let e = c in
+    let n = e in
+    let t = n in
+    let m = t in
+    let a = m in
+    let v = a in
     simp (to_z-of_z, sfits_of, a.short.type_inv, m.celsius.type_inv, t.celsius-2.type_inv)
     (search (rules, v.word.ensures, a.short.ensures, m.celsius.ensures, t.celsius-2.ensures, n.natural.ensures, e.enable_of.ensures, c.kilohms.ensures))
 

@@ -10,12 +10,12 @@ use Rattle.message_parts.proofs.status_in.Tie as tie
 returns : tie.Need-returns
 unfolding status_in
 returns c =
-    let a6 = c.before in
-    let a5 = a6.before in
-    let a4 = a5.before in
-    let a3 = a4.before in
-    let a2 = a3.before in
-    let a1 = a2.before in
+    let a6 = c in
+    let a5 = a6 in
+    let a4 = a5 in
+    let a3 = a4 in
+    let a2 = a3 in
+    let a1 = a2 in
     c.status.ensures
     ∙ rw (
       to_z-of_z {w = w64} (record { sfits = a1.raw_of.type_inv }) ∙ a1.raw_of.ensures,

@@ -18,15 +18,15 @@ read_by m x bs j e = ap reading_of e
 
 returns-in-Frame : tie.Need-returns-in-Frame
 returns-in-Frame c =
-    let k = c.before.before in
-    let j = k.before.before in
+    let k = c in
+    let j = k in
     let a = j.args in
     ap Accepted c.message_of.ensures ∙ read_by a.id a.extended a.bytes.now _ (sym k.in-Frame.is ∙ j.judge.ensures)
 
 returns-in-Refused : tie.Need-returns-in-Refused
 returns-in-Refused c =
-    let w = c.before in
-    let j = w.before.before in
+    let w = c in
+    let j = w in
     let a = j.args in
     read_by a.id a.extended a.bytes.now _ (sym w.in-Refused.is ∙ j.judge.ensures)
 

@@ -20,8 +20,8 @@ handed m x bs s z z' r after e c = (c.0 ∙ ap (change_on Older m x bs s) e, c.1
 
 returns : tie.Need-returns
 returns c =
-    let r = c.before.before in
-    let s = r.before.before.before in
+    let r = c in
+    let s = r in
     let a = s.args in
     handed a.id a.extended a.bytes.now a.start a.raw _ _ _ (to_z-of_z s.ranges.raw) r.change_on.ensures
 

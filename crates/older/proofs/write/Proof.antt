@@ -29,16 +29,16 @@ writes m buf b e = (
 
 returns-then-not-has_raws : tie.Need-returns-then-not-has_raws
 returns-then-not-has_raws c =
-    let h = c.before in
+    let h = c in
     let a = h.args in
     writes a.m a.buf.now false (sym h.has_raws.ensures ∙ not-true h.has_raws.result c.if-not-has_raws.true-raw)
 
 returns : tie.Need-returns
 returns c =
-    let w = c.before.before in
-    let r = w.before.before in
-    let k = r.before in
-    let h = k.before.before in
+    let w = c in
+    let r = w in
+    let k = r in
+    let h = k in
     let a = h.args in
     let e = writes a.m a.buf.now true (sym h.has_raws.ensures ∙ not-false h.has_raws.result k.if-not-has_raws.false-raw) in (
       w.write_raws.ensures.0 ∙ ap₂ (λ (x : ℕ) (zs : List ℤ). write_raws_of x zs a.buf.now) k.kind_of.ensures r.raws.ensures ∙ e.0,

@@ -23,8 +23,8 @@ handed m x bs s z z' r after e c =
 
 returns : tie.Need-returns
 returns c =
-    let r = c.before.before in
-    let s = r.before.before.before in
+    let r = c in
+    let s = r in
     let a = s.args in
     handed a.id a.extended a.bytes.now a.start a.raw _ _ _ (to_z-of_z s.ranges.raw) r.change_on.ensures
 

@@ -55,7 +55,7 @@ shape_of-bytes-in_default c = search rules
 
 returns-in_default : tie.Need-returns-in_default
 returns-in_default c =
-    let j = c.before.before in
+    let j = c in
     let a = j.args in
     ended a.bytes.now _ j.judge_on-read.result _ c.in_default.is
     (read a.iface a.id a.extended a.bytes.now a.start a.raw _ (sym j.judge_on-read.ensures ∙ c.in_default.is))
@@ -85,13 +85,13 @@ number c = c.in-Frame.n
 frame : (c : tie.After-signal_at) → (let a = (start c).args in judge_on a.iface a.id a.extended a.bytes.now ≡ Frame (kind c) (number c))
 unfolding start kind number
 frame c =
-    let r = c.before.before in
+    let r = c in
     sym r.judge_on-read.ensures ∙ r.in-Frame.is
 
 returns-in_default-signal_at : tie.Need-returns-in_default-signal_at
 unfolding start kind number
 returns-in_default-signal_at c =
-    let f = c.before.before in
+    let f = c.before in
     let a = (start f).args in
     ended a.bytes.now NoSignal _ _ refl
     (sought a.iface a.id a.extended a.bytes.now a.start a.raw (kind f) (number f) Nothing (frame f)
@@ -100,7 +100,7 @@ returns-in_default-signal_at c =
 place : (c : tie.In-At-2) → ℕ
 place c = c.in-At.i
 
-found : (c : tie.In-At-2) → (let f = c.before.before in first_at (is_signal (kind f) (start f).args.start) 0 rows ≡ At (place c))
+found : (c : tie.In-At-2) → (let f = c.before in first_at (is_signal (kind f) (start f).args.start) 0 rows ≡ At (place c))
 unfolding start kind number place
 found c = sym c.signal_at.ensures ∙ c.in-At.is
 
@@ -111,7 +111,7 @@ change_row-changed-requires : tie.Need-change_row-changed-requires
 unfolding start kind number place
 change_row-changed-requires c κs =
     let i = c.before.before in
-    let f = i.before.before in
+    let f = i.before in
     fine_at _ _ (found_in (is_signal (kind f) (start f).args.start) (place i) (found i)).0 c.row_to_change-r.ensures
 
 enum_known-changed : tie.Need-enum_known-changed
@@ -125,7 +125,7 @@ shape_of-bytes-in_default-changed c = search rules
 
 -- the search, from the row's change on
 sought_at : (c : tie.After-change_row-changed) → tie.After-signal_at
-sought_at c = c.before.before.before.before.before
+sought_at c = c.before.before.before
 
 asked : (c : tie.After-change_row-changed) → tie.Start
 asked c = start (sought_at c)
@@ -133,7 +133,7 @@ asked c = start (sought_at c)
 changed : (c : tie.After-change_row-changed) → (let a = (asked c).args in c.change_row-changed.result ≡ change_on a.iface a.id a.extended a.bytes.now a.start a.raw)
 unfolding start kind number place sought_at asked
 changed c =
-    let r = c.before in
+    let r = c in
     let i = r.before.before in
     let f = sought_at c in
     let s = asked c in
@@ -145,7 +145,7 @@ changed c =
 returns-in_default-changed : tie.Need-returns-in_default-changed
 unfolding start kind number place sought_at asked
 returns-in_default-changed c =
-    let d = c.before.before in
+    let d = c.before in
     ended (asked d).args.bytes.now _ d.change_row-changed.result _ c.in_default-changed.is (sym (changed d) ∙ c.in_default-changed.is)
 
 bits-requires : tie.Need-bits-requires
@@ -154,13 +154,13 @@ bits-requires c κs = search rules
 -- what the bytes rest on
 stored : (c : tie.After-bits) → (
     let g = c.before.before.before in
-    let d = g.before.before in
+    let d = g.before in
     Storing d.row_to_change-r.result (asked d).args.bytes.now g.in-Frame-changed.field-0 g.in-Frame-changed.m c.bits.result)
 unfolding start kind number place sought_at asked
 stored c =
-    let g = c.before.before.before in
-    let d = g.before.before in
-    let r = d.before in
+    let g = c in
+    let d = g.before in
+    let r = d in
     let i = r.before.before in
     let f = sought_at d in
     let s = asked d in
@@ -178,10 +178,10 @@ shape_of-bytes c = search rules
 returns : tie.Need-returns
 unfolding start kind number place sought_at asked
 returns c =
-    let p = c.before.before in
+    let p = c in
     let t = stored p.before in
-    let g = p.before.before.before.before in
-    let d = g.before.before in
+    let g = p in
+    let d = g.before in
     let bs = (asked d).args.bytes.now in
     let e = sym g.in-Frame-changed.is ∙ changed d in
     (e, p.store_changed.ensures ∙ ap (λ (x : Bool). bytes_of x (length bs) g.in-Frame-changed.m) t.same ∙ ap (bytes_after bs) e)

@@ -18,7 +18,7 @@ fits-requires : tie.Need-fits-requires
 fits-requires c κs = search rules
 
 answered : (c : tie.After-fits) → (let a = c.args in fits_in a.r.signed a.r.width a.z ≡ c.fits.result)
-answered c = let s = c.before in sym (c.fits.ensures ∙ fits_row s.args.r s.requires s.args.z s.ranges.z)
+answered c = let s = c in sym (c.fits.ensures ∙ fits_row s.args.r s.requires s.args.z s.ranges.z)
 
 fitting : (c : tie.Else-not-fits) → (let a = c.args in fits_in a.r.signed a.r.width a.z ≡ true)
 fitting c = answered c.before ∙ not-false c.fits.result c.if-not-fits.false-raw
@@ -27,8 +27,8 @@ labelled : (c : tie.After-label_holds) → (
     let a = c.args in
     takes a.r.labels (bits_in a.r.signed a.r.width a.z) ≡ c.label_holds.result)
 labelled c =
-    let b = c.before in
-    let s = b.before.before.before in
+    let b = c in
+    let s = b in
     sym
     (c.label_holds.ensures
     ∙ ap (takes s.args.r.labels)
@@ -48,7 +48,7 @@ start_bit-requires c κs = search rules
 
 returns-then-not-label_holds : tie.Need-returns-then-not-label_holds
 returns-then-not-label_holds c =
-    let b = c.before in
+    let b = c in
     let t = b.before in
     let s = t.before.before.before.before in
     rw (fitting t.before.before, labelled t, not-true t.label_holds.result b.if-not-label_holds.true-raw)
@@ -66,8 +66,8 @@ returns : tie.Need-returns
 returns c =
     let q = c.before in
     let t = q.before in
-    let b = t.before in
-    let s = b.before.before.before in
+    let b = t in
+    let s = b in
     let a = s.args in
     rw (fitting b.before, labelled t, not-false t.label_holds.result q.if-not-label_holds.false-raw)
     (ap (Frame a.kind) (c.put.ensures ∙ put_raw_row a.r s.requires a.z s.ranges.z a.n b.bits-v.result b.bits-v.ensures (held q)))

@@ -11,15 +11,15 @@ use Rattle.page_interfaces.proofs.is_foreign.Tie as tie
 returns-in_default : tie.Need-returns-in_default
 unfolding is_foreign
 returns-in_default c =
-    let f = c.before.before in
+    let f = c in
     let a = f.args in
     foreign_none a.iface (first_at (has_id a.id a.extended) 0 rows) (sym f.with_id.ensures ∙ c.in_default.is)
 
 returns : tie.Need-returns
 unfolding is_foreign
 returns c =
-    let k = c.before.before in
-    let f = k.before.before in
+    let k = c in
+    let f = k in
     let a = f.args in
     let g = k.kind-1.given.0 in
     ap not c.is_on.ensures

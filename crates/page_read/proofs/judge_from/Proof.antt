@@ -34,7 +34,7 @@ enum_told-1 c = search rules
 
 returns-in_default : tie.Need-returns-in_default
 returns-in_default c =
-    let f = c.before.before in
+    let f = c in
     let a = f.args in
     searched a.iface a.other a.id a.extended a.bytes.now Nothing (none_found _ (sym f.with_id.ensures ∙ c.in_default.is))
 
@@ -67,7 +67,7 @@ not_false false e = sym e
 
 returns-then-not-is_on : tie.Need-returns-then-not-is_on
 returns-then-not-is_on c =
-    let o = c.before in
+    let o = c in
     told o.before.before false (sym o.is_on.ensures ∙ not-true _ c.if-not-is_on.true-raw)
 
 -- the message that was found, from the interface's test on
@@ -84,7 +84,7 @@ answer c own = told (seen c) true (sym c.is_on.ensures ∙ not_false _ own)
 returns-then-bytes-len : tie.Need-returns-then-bytes-len
 unfolding seen
 returns-then-bytes-len c =
-    let o = c.before in
+    let o = c in
     let k = seen o.before in
     let i = k.kind.given.0.1.0 in
     let bs = k.args.bytes.now in
@@ -93,7 +93,7 @@ returns-then-bytes-len c =
 returns-then-len-bytes : tie.Need-returns-then-len-bytes
 unfolding seen
 returns-then-len-bytes c =
-    let o = c.before.before in
+    let o = c in
     let k = seen o.before in
     let i = k.kind.given.0.1.0 in
     let bs = k.args.bytes.now in
@@ -108,7 +108,7 @@ judged : (c : tie.After-number-n) → (
     Judging k.kind.given.0.1.0 k.args.bytes.now c.number-n.result k.kind.given.0.0)
 unfolding seen
 judged c =
-    let s = c.before in
+    let s = c in
     let k = seen s.before.before.before in
     let f = k.before.before in
     let a = f.args in
@@ -130,7 +130,7 @@ returns-then-has_gaps : tie.Need-returns-then-has_gaps
 unfolding seen
 returns-then-has_gaps c =
     let m = c.before.before.before in
-    let o = m.before.before.before in
+    let o = m in
     let k = (seen o.before).kind.given.0.0 in
     let n = m.number-n.result in
     let t = judged m in
@@ -143,7 +143,7 @@ returns : tie.Need-returns
 unfolding seen
 returns c =
     let m = c.before.before.before in
-    let o = m.before.before.before in
+    let o = m in
     let k = (seen o.before).kind.given.0.0 in
     let n = m.number-n.result in
     let t = judged m in

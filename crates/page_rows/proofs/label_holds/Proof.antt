@@ -12,7 +12,7 @@ returns-then-labels-eq0 c = rw c.if-labels-eq0.true
 
 returns-then-bits-ge64 : tie.Need-returns-then-bits-ge64
 returns-then-bits-ge64 c =
-    let s = c.before.before in
+    let s = c in
     let small : s.args.labels < 2 ^ s.args.bits = lt_of_lt_of_le s.ranges.labels.fits (pow_mono c.if-bits-ge64.true) in
     rw (ne_eqb s.args.labels 0 c.if-labels-eq0.false, div-eq_of_lt small)
 

@@ -21,7 +21,7 @@ enum_told-1 c = search rules
 returns-in_default : tie.Need-returns-in_default
 unfolding raws_of wholes_of
 returns-in_default c =
-    let f = c.before.before in
+    let f = c in
     let g = f.args in
     let e = none_kind g.kind (sym f.first_of_kind.ensures ∙ c.in_default.is) in
     sym (ap (λ (l : List Row). get_or (pad signal_count (wholes_of g.number l)) g.place (pos 0)) e ∙ pad_none signal_count g.place)
@@ -34,8 +34,8 @@ returns-then-place-ge16 c =
 
 raw_after-requires : tie.Need-raw_after-requires
 raw_after-requires c κs =
-    let k = c.before.before in
-    let f = k.before.before in
+    let k = c in
+    let f = k in
     let e = sym f.first_of_kind.ensures ∙ k.in-At.is in
     let kind = f.args.kind in
     let i = k.in-At.i in
@@ -44,9 +44,9 @@ raw_after-requires c κs =
 returns : tie.Need-returns
 unfolding raws_of
 returns c =
-    let q = c.before in
-    let k = q.before.before in
-    let f = k.before.before in
+    let q = c in
+    let k = q in
+    let f = k in
     let g = f.args in
     let e = sym f.first_of_kind.ensures ∙ k.in-At.is in
     to_z-of_z {w = w64} (record { sfits = c.raw_after.type_inv })

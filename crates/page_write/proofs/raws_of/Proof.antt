@@ -19,7 +19,7 @@ enum_told-1 c = search rules
 returns-in_default : tie.Need-returns-in_default
 unfolding raws_of pad wholes_of
 returns-in_default c =
-    let f = c.before.before in
+    let f = c in
     ap (λ (l : List Row). pad signal_count (wholes_of f.args.number l))
     (sym (none_kind f.args.kind (sym f.first_of_kind.ensures ∙ c.in_default.is)))
 
@@ -29,8 +29,8 @@ unpack-requires c κs = search rules
 returns : tie.Need-returns
 unfolding raws_of
 returns c =
-    let k = c.before.before in
-    let f = k.before.before in
+    let k = c in
+    let f = k in
     c.unpack.ensures
     ∙ ap (λ (l : List Row). pad signal_count (wholes_of f.args.number l))
     (first_kind f.args.kind _ (sym f.first_of_kind.ensures ∙ k.in-At.is)).1

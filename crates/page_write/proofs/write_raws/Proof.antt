@@ -68,7 +68,7 @@ enum_told-1 c = search rules
 
 returns-in_default : tie.Need-returns-in_default
 returns-in_default c =
-    let f = c.before.before in
+    let f = c in
     let a = f.args in
     cannot a.kind a.raws a.buf.now
     (ap (λ (l : List Row). leb 1 (length l) && all_take l a.raws) (none_kind a.kind (sym f.first_of_kind.ensures ∙ c.in_default.is)))
@@ -84,19 +84,19 @@ enum_told-in_default-pack c = search rules
 
 -- where the kind's rows were packed
 start : (c : tie.After-pack) → tie.Start
-start c = c.before.before.before.before.before.before
+start c = c.before.before.before.before
 
 known : (c : tie.After-pack) → (c.pack.result ≡ pack_of (rows_of (start c).args.kind) (start c).args.raws) × (1 ≤ length (rows_of (start c).args.kind))
 unfolding start
 known c =
-    let i = c.before.before in
+    let i = c in
     let k = first_kind (start c).args.kind _ (sym i.first_of_kind.ensures ∙ i.in-At.is) in
     (c.pack.ensures ∙ ap (λ (l : List Row). pack_of l (start c).args.raws) k.1, k.3)
 
 returns-in_default-pack : tie.Need-returns-in_default-pack
 unfolding start
 returns-in_default-pack c =
-    let d = c.before.before in
+    let d = c.before in
     let a = (start d).args in
     let k = known d in
     cannot a.kind a.raws a.buf.now
@@ -108,9 +108,9 @@ length_of-bytes-requires c κs = search rules
 returns-then-buf-bytes : tie.Need-returns-then-buf-bytes
 unfolding start
 returns-then-buf-bytes c =
-    let l = c.before in
-    let n = l.before.before in
-    let d = n.before.before in
+    let l = c in
+    let n = l in
+    let d = n.before in
     let a = (start d).args in
     let k = known d in
     let p = packs (rows_of a.kind) a.raws (all_take (rows_of a.kind) a.raws) d.pack.result _ refl k.0 n.in-Number.is in
@@ -133,12 +133,12 @@ shape_of-buf c = search rules
 returns : tie.Need-returns
 unfolding start
 returns c =
-    let st = c.before.before.before in
-    let b = st.before.before in
-    let r = b.before in
-    let l = r.before in
-    let n = l.before.before in
-    let d = n.before.before in
+    let st = c in
+    let b = st in
+    let r = b in
+    let l = r in
+    let n = l in
+    let d = n.before in
     let a = (start d).args in
     let k = known d in
     let p = packs (rows_of a.kind) a.raws (all_take (rows_of a.kind) a.raws) d.pack.result _ refl k.0 n.in-Number.is in

@@ -12,10 +12,10 @@ use Rattle.payload.proofs.BigBytes.{Taken, taken_none, taken_more, taken_all}
 use Rattle.payload.proofs.be_number.Statement.{statement}
 use Rattle.payload.proofs.be_number.Tie as tie
 
-abbrev invariant-loop : tie.invariant-loop
+abbrev invariant-loop : tie.invariant-loop-i
 invariant-loop bytes end n₀ i₀ n i = (i ≤ end) × (end ≡ length (take 8 bytes)) × Taken (take 8 bytes) i n
 
-abbrev decreases-loop : tie.decreases-loop
+abbrev decreases-loop : tie.decreases-loop-i
 decreases-loop bytes end n₀ i₀ n i = end - i
 
 loop-i-init : tie.Need-loop-i-init invariant-loop decreases-loop

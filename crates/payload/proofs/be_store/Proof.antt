@@ -14,11 +14,11 @@ use Rattle.payload.proofs.BigBytes.{stored_before}
 use Rattle.payload.proofs.be_store.Statement.{statement}
 use Rattle.payload.proofs.be_store.Tie as tie
 
-abbrev invariant-loop : tie.invariant-loop
+abbrev invariant-loop : tie.invariant-loop-i
 invariant-loop buf₀ n len rest₀ i₀ buf rest i =
     (i ≤ len) × (length buf ≡ length buf₀) × (rest ≡ n / 2 ^ (8 * (len - i))) × (buf ≡ take i buf₀ ++ (be_bytes (len - i) n ++ drop len buf₀))
 
-abbrev decreases-loop : tie.decreases-loop
+abbrev decreases-loop : tie.decreases-loop-i
 decreases-loop buf₀ n len rest₀ i₀ buf rest i = i
 
 loop-i-init : tie.Need-loop-i-init invariant-loop decreases-loop

@@ -11,10 +11,10 @@ use Rattle.payload.proofs.Bytes.{Gathered, gathered_none, gathered_more}
 use Rattle.payload.proofs.le_first.Statement.{statement}
 use Rattle.payload.proofs.le_first.Tie as tie
 
-abbrev invariant-loop : tie.invariant-loop
+abbrev invariant-loop : tie.invariant-loop-i
 invariant-loop bytes len n₀ i₀ n i = (i ≤ len) × Gathered (take len bytes) i n
 
-abbrev decreases-loop : tie.decreases-loop
+abbrev decreases-loop : tie.decreases-loop-i
 decreases-loop bytes len n₀ i₀ n i = i
 
 loop-i-init : tie.Need-loop-i-init invariant-loop decreases-loop

@@ -16,11 +16,11 @@ use Rattle.payload.proofs.Bytes.{stored_more}
 use Rattle.payload.proofs.le_store.Statement.{statement}
 use Rattle.payload.proofs.le_store.Tie as tie
 
-abbrev invariant-loop : tie.invariant-loop
+abbrev invariant-loop : tie.invariant-loop-i
 invariant-loop buf₀ n len rest₀ i₀ buf rest i =
     (i ≤ len) × (length buf ≡ length buf₀) × (rest ≡ n / 2 ^ (8 * i)) × (buf ≡ le_bytes i n ++ drop i buf₀)
 
-abbrev decreases-loop : tie.decreases-loop
+abbrev decreases-loop : tie.decreases-loop-i
 decreases-loop buf₀ n len rest₀ i₀ buf rest i = len - i
 
 loop-i-init : tie.Need-loop-i-init invariant-loop decreases-loop

@@ -25,7 +25,7 @@ shape_of-buf-then-big c = search rules
 
 returns-then-big : tie.Need-returns-then-big
 returns-then-big c =
-    let t = c.before.before.before.before in
+    let t = c in
     let a = t.args in
     c.be_store.ensures
     ∙ ap (λ (b : Bool). bytes_of b a.len a.n ++ drop a.len a.buf.now) (sym t.if-big.true)
@@ -36,7 +36,7 @@ shape_of-buf-else-big c = search rules
 
 returns-else-big : tie.Need-returns-else-big
 returns-else-big c =
-    let t = c.before.before.before.before in
+    let t = c in
     let a = t.args in
     c.le_store.ensures
     ∙ ap (λ (b : Bool). bytes_of b a.len a.n ++ drop a.len a.buf.now) (sym t.if-big.false)

@@ -39,13 +39,13 @@ answered c g =
 
 returns-in-Frame : tie.Need-returns-in-Frame
 unfolding start
-returns-in-Frame c = answered c.before.before.before.before c.in-Frame.is
+returns-in-Frame c = answered c.before.before.before c.in-Frame.is
 
 returns-in-Refused : tie.Need-returns-in-Refused
 unfolding start
 returns-in-Refused c =
-    let j = c.before.before in
-    let e = answered j.before.before.before.before j.in-Refused.is in
+    let j = c in
+    let e = answered j.before.before.before j.in-Refused.is in
     (c.refusal_word.ensures ∙ e.0, e.1)
 
 pub rokemaipu_change_spec : {M : Type 1} → statement M

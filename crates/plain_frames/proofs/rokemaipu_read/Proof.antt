@@ -30,7 +30,7 @@ unfolding read_word raws_after
 judged m x bs raws j e = (ap (λ (q : Judged). outcome_word (read_outcome q (length raws))) e, ap (λ (q : Judged). raws_left q raws) e)
 
 start : (c : tie.In-Frame-2) → tie.Start
-start c = c.before.before.before.before
+start c = c.before.before.before
 
 -- a frame, by the room for its numbers
 frame : (c : tie.In-Frame-2) (b : Bool) → leb signal_count (length (start c).args.raws.now) ≡ b
@@ -59,17 +59,17 @@ overflow_cast-result c =
 returns-else-raws-lt-SIGNALS : tie.Need-returns-else-raws-lt-SIGNALS
 unfolding start
 returns-else-raws-lt-SIGNALS c =
-    let s = c.before in
-    let r = s.before in
-    let l = r.before.before in
+    let s = c in
+    let r = s in
+    let l = r in
     let j = l.before.before in
     let e = frame j true (le-leb _ _ l.if-raws-lt-SIGNALS.false) in
     (e.0, s.store_raws.ensures ∙ ap (λ (zs : List ℤ). zs ++ drop signal_count (start j).args.raws.now) r.raws_of.ensures ∙ e.1)
 
 returns-in-Refused : tie.Need-returns-in-Refused
 returns-in-Refused c =
-    let j = c.before.before in
-    let d = j.before.before in
+    let j = c in
+    let d = j in
     let a = d.args in
     let e = judged a.id a.extended a.payload.now a.raws.now _ (sym j.in-Refused.is ∙ d.judge-j.ensures) in
     (c.refusal_word-in-Refused.ensures ∙ e.0, e.1)

@@ -54,13 +54,13 @@ long k n e = leb-true signal_count n (both_true (is_on Newer k) (leb signal_coun
 
 load_raws-zs-requires : tie.Need-load_raws-zs-requires
 load_raws-zs-requires c κs =
-    let y = c.before in
+    let y = c in
     let a = y.args in
     long a.kind (length a.raws.now) (sym y.is_ready.ensures ∙ not-false y.is_ready.result c.if-not-is_ready.false-raw)
 
 -- the numbers are loaded where all is ready
 ready : (r : tie.After-load_raws-zs) → is_ready r.args.kind (length r.args.raws.now) ≡ true
-ready r = let i = r.before in sym i.is_ready.ensures ∙ not-false i.is_ready.result i.if-not-is_ready.false-raw
+ready r = let i = r in sym i.is_ready.ensures ∙ not-false i.is_ready.result i.if-not-is_ready.false-raw
 
 -- by the variant that the writer answered
 answered : {v : Written} (c : tie.After-write_raws-w) → c.write_raws-w.result ≡ v
@@ -73,8 +73,8 @@ answered c h =
 
 returns-then-not-is_ready : tie.Need-returns-then-not-is_ready
 returns-then-not-is_ready c =
-    let i = c.before in
-    let y = i.before in
+    let i = c in
+    let y = i in
     let a = y.args in
     let e = enough a.kind a.raws.now a.buf.now false (sym y.is_ready.ensures ∙ not-true y.is_ready.result i.if-not-is_ready.true-raw) in
     (c.refusal_word.ensures ∙ e.0, e.1)
@@ -91,14 +91,14 @@ overflow_cast-result c =
 returns-in-Wrote : tie.Need-returns-in-Wrote
 unfolding start
 returns-in-Wrote c =
-    let w = c.before in
-    answered w.before.before.before.before w.in-Wrote.is
+    let w = c in
+    answered w.before.before.before w.in-Wrote.is
 
 returns-in-Refused : tie.Need-returns-in-Refused
 unfolding start
 returns-in-Refused c =
-    let w = c.before.before in
-    let e = answered w.before.before.before.before w.in-Refused.is in
+    let w = c in
+    let e = answered w.before.before.before w.in-Refused.is in
     (c.refusal_word-in-Refused.ensures ∙ e.0, e.1)
 
 pub rokemaipu_write_spec : {M : Type 1} → statement M

@@ -11,7 +11,7 @@ use Rattle.plain_log.proofs.logged_word.Tie as tie
 
 overflow_cast-result : tie.Need-overflow_cast-result
 overflow_cast-result c =
-    let w = c.before in
+    let w = c in
     record { fits = omega (arith, subst (λ (l : Logged). Within longest_record (logged_outcome l)) w.in-Bytes.is w.requires) }
 
 returns-in-Refused : tie.Need-returns-in-Refused

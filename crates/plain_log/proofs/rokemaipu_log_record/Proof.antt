@@ -25,7 +25,7 @@ answered : {f g : Found} (s : List ℕ) (at : ℕ) (ns : List ℕ) → f ≡ fou
 answered s at ns e h = (ap (λ (q : Found). found_word q (length ns)) (sym h ∙ e), ap (λ (q : Found). entry_left q ns) (sym h ∙ e))
 
 start : (c : tie.In-Record-2) → tie.Start
-start c = c.before.before.before.before.before
+start c = c.before.before.before.before
 
 -- a record, by the room for its numbers
 whole : (c : tie.In-Record-2) (b : Bool) → leb entry_count (length (start c).args.numbers.now) ≡ b
@@ -46,29 +46,29 @@ returns-then-numbers-lt8 c =
 returns-else-numbers-lt8 : tie.Need-returns-else-numbers-lt8
 unfolding start
 returns-else-numbers-lt8 c =
-    let s = c.before.before in
-    let n = s.before in
-    let room = n.before.before in
+    let s = c in
+    let n = s in
+    let room = n in
     let f = room.before.before in
     let e = whole f true (le-leb _ _ room.if-numbers-lt8.false) in
     (e.0, s.store_entry.ensures ∙ ap (λ (ns : List ℕ). ns ++ drop entry_count (start f).args.numbers.now) n.entry_numbers.ensures ∙ e.1)
 
 returns-in-End : tie.Need-returns-in-End
 returns-in-End c =
-    let r = c.before.before in
+    let r = c in
     let a = r.args in
     answered a.s.now a.at a.numbers.now r.record_at-f.ensures c.in-End.is
 
 returns-in-Cut : tie.Need-returns-in-Cut
 returns-in-Cut c =
-    let r = c.before.before in
+    let r = c in
     let a = r.args in
     answered a.s.now a.at a.numbers.now r.record_at-f.ensures c.in-Cut.is
 
 returns-in-Refused : tie.Need-returns-in-Refused
 returns-in-Refused c =
-    let f = c.before.before in
-    let r = f.before.before in
+    let f = c in
+    let r = f in
     let a = r.args in
     let e = answered a.s.now a.at a.numbers.now r.record_at-f.ensures f.in-Refused.is in
     (c.refusal_word-in-Refused.ensures ∙ e.0, e.1)

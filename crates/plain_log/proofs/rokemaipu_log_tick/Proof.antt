@@ -8,13 +8,13 @@ use Rattle.plain_log.proofs.rokemaipu_log_tick.Tie as tie
 
 logged_word-requires : tie.Need-logged_word-requires
 logged_word-requires c κs =
-    let w = c.before.before in
+    let w = c in
     let a = w.args in
     rw w.write_tick-w.ensures.0 (log_within (tick a.time a.channel) a.out.now (omega arith))
 
 returns : tie.Need-returns
 returns c =
-    let w = c.before.before.before in
+    let w = c in
     (rw w.write_tick-w.ensures.0 at c.logged_word.ensures, w.write_tick-w.ensures.1)
 
 pub rokemaipu_log_tick_spec : {M : Type 1} → statement M

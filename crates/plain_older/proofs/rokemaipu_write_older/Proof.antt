@@ -55,13 +55,13 @@ long k n e = leb-true signal_count n (both_true (is_on Older k) (leb signal_coun
 
 load_raws-zs-requires : tie.Need-load_raws-zs-requires
 load_raws-zs-requires c κs =
-    let y = c.before in
+    let y = c in
     let a = y.args in
     long a.kind (length a.raws.now) (sym y.is_ready_older.ensures ∙ not-false y.is_ready_older.result c.if-not-is_ready_older.false-raw)
 
 -- the numbers are loaded where all is ready
 ready : (r : tie.After-load_raws-zs) → is_ready_older r.args.kind (length r.args.raws.now) ≡ true
-ready r = let i = r.before in sym i.is_ready_older.ensures ∙ not-false i.is_ready_older.result i.if-not-is_ready_older.false-raw
+ready r = let i = r in sym i.is_ready_older.ensures ∙ not-false i.is_ready_older.result i.if-not-is_ready_older.false-raw
 
 -- by the variant that the writer answered
 answered : {v : Written} (c : tie.After-write_raws-w) → c.write_raws-w.result ≡ v
@@ -74,8 +74,8 @@ answered c h =
 
 returns-then-not-is_ready_older : tie.Need-returns-then-not-is_ready_older
 returns-then-not-is_ready_older c =
-    let i = c.before in
-    let y = i.before in
+    let i = c in
+    let y = i in
     let a = y.args in
     let e = enough a.kind a.raws.now a.buf.now false (sym y.is_ready_older.ensures ∙ not-true y.is_ready_older.result i.if-not-is_ready_older.true-raw) in
     (c.refusal_word.ensures ∙ e.0, e.1)
@@ -92,14 +92,14 @@ overflow_cast-result c =
 returns-in-Wrote : tie.Need-returns-in-Wrote
 unfolding start
 returns-in-Wrote c =
-    let w = c.before in
-    answered w.before.before.before.before w.in-Wrote.is
+    let w = c in
+    answered w.before.before.before w.in-Wrote.is
 
 returns-in-Refused : tie.Need-returns-in-Refused
 unfolding start
 returns-in-Refused c =
-    let w = c.before.before in
-    let e = answered w.before.before.before.before w.in-Refused.is in
+    let w = c in
+    let e = answered w.before.before.before w.in-Refused.is in
     (c.refusal_word-in-Refused.ensures ∙ e.0, e.1)
 
 pub rokemaipu_write_older_spec : {M : Type 1} → statement M

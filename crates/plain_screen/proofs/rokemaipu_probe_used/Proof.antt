@@ -7,12 +7,12 @@ use Rattle.plain_screen.proofs.rokemaipu_probe_used.Tie as tie
 
 returns-in-NotUsed : tie.Need-returns-in-NotUsed
 returns-in-NotUsed c =
-    let p = c.before.before in
+    let p = c in
     by_case is_used p.args.raw p.ranges.raw p.probe_of-p.ensures c.in-NotUsed.is
 
 returns-in-Degrees : tie.Need-returns-in-Degrees
 returns-in-Degrees c =
-    let p = c.before.before in
+    let p = c in
     by_case is_used p.args.raw p.ranges.raw p.probe_of-p.ensures c.in-Degrees.is
 
 pub rokemaipu_probe_used_spec : {M : Type 1} → statement M

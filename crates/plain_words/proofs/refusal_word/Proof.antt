@@ -51,13 +51,13 @@ overflow_add-result c = omega (arith, number_small c.args.w)
 
 overflow_mul-result : tie.Need-overflow_mul-result
 overflow_mul-result c =
-    let s = c.before.before in
+    let s = c in
     omega (arith, c.refusal_start.ensures, start_small s.args.w _ s.well_formed.0)
 
 overflow_add-result-2 : tie.Need-overflow_add-result-2
 overflow_add-result-2 c =
-    let n = c.before in
-    let s = n.before in
+    let n = c in
+    let s = n in
     omega (arith, n.refusal_number.ensures, number_small s.args.w, c.refusal_start.ensures, start_small s.args.w _ s.well_formed.0)
 
 pub refusal_word_spec : {M : Type 1} → statement M

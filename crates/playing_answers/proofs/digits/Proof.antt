@@ -13,11 +13,11 @@ use Rattle.playing_answers.proofs.digits.Statement.{statement}
 use Rattle.playing_answers.proofs.digits.Tie as tie
 
 -- i + 20 - at places are left for digits
-abbrev invariant-loop : tie.invariant-loop
+abbrev invariant-loop : tie.invariant-loop-rest
 invariant-loop line₀ at n i₀ rest₀ line i rest =
     (length line ≡ length line₀) × (at < i + 20) × (i ≤ at) × (rest < 10 ^ (i + 20 - at)) × (numeral 10 rest ++ drop i line ≡ numeral 10 n ++ drop at line₀)
 
-abbrev decreases-loop : tie.decreases-loop
+abbrev decreases-loop : tie.decreases-loop-rest
 decreases-loop line₀ at n i₀ rest₀ line i rest = rest
 
 loop-rest-init : tie.Need-loop-rest-init invariant-loop decreases-loop

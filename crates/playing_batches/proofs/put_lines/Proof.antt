@@ -15,10 +15,10 @@ use Rattle.playing_batches.proofs.Turns.{PutSo, start, has_word, turn, stop}
 use Rattle.playing_batches.proofs.put_lines.Statement.{statement}
 use Rattle.playing_batches.proofs.put_lines.Tie as tie
 
-abbrev invariant-loop : tie.invariant-loop
+abbrev invariant-loop : tie.invariant-loop-e
 invariant-loop t count log words out₀ pen₀ k₀ at₀ n₀ out pen k at n = PutSo t.posts count log words out₀ out pen k at n
 
-abbrev decreases-loop : tie.decreases-loop
+abbrev decreases-loop : tie.decreases-loop-e
 decreases-loop t count log words out₀ pen₀ k₀ at₀ n₀ out pen k at n = length log - at
 
 loop-e-init : tie.Need-loop-e-init invariant-loop decreases-loop

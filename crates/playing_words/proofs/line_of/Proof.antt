@@ -17,8 +17,8 @@ returns-then-next-lt1 c =
 
 returns : tie.Need-returns
 returns c =
-    let t = c.before.before in
-    let n = t.before.before.before.before in
+    let t = c in
+    let n = t in
     let a = n.args in
     line_by_lem a.r a.log.now a.at a.line.now a.next.now (omega arith) n.replay_of.ensures n.next_line-x.ensures t.told.ensures
 

@@ -7,7 +7,7 @@ use Rattle.playing_words.proofs.settled.Tie as tie
 returns : tie.Need-returns
 unfolding set_up_by
 returns c =
-    let p = c.before.before.before in
+    let p = c in
     rw (c.prepared_word.ensures, c.before.plain_of_lem.ensures, p.set_up-p.ensures, p.replay_of.ensures)
 
 pub settled_spec : {M : Type 1} → statement M

@@ -10,8 +10,8 @@ use Rattle.playing_words.proofs.told.Tie as tie
 
 returns-in-Line : tie.Need-returns-in-Line
 returns-in-Line c =
-    let m = c.before.before in
-    let s = m.before.before.before.before in
+    let m = c in
+    let s = m in
     let a = s.args in
     told_by_lem a.r a.x.replay a.next.now m.in-Line.is
     (ap (λ (p : PlainReplay). record { replay = p; answer = m.in-Line.bytes % 4294967296 }) c.plain_of_lem.ensures, set_first a.next.now m.in-Line.n s.requires)

@@ -35,11 +35,11 @@ place_by-requires c κs = search rules
 returns : tie.Need-returns
 unfolding after_frame aged_to
 returns c =
-    let counts = c.before in
-    let framed = counts.before in
-    let slot = framed.before in
-    let found = slot.before in
-    let stamped = found.before.before.before in
+    let counts = c in
+    let framed = counts in
+    let slot = framed in
+    let found = slot in
+    let stamped = found in
     let a = stamped.args in
     frame_both a.h a.time a.kind a.raw
     (rw (

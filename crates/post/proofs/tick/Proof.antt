@@ -23,9 +23,9 @@ with_counts-counted-requires c κs = search rules
 returns : tie.Need-returns
 unfolding after_tick
 returns c =
-    let slot = c.before in
-    let found = slot.before in
-    let stamped = found.before.before in
+    let slot = c in
+    let found = slot in
+    let stamped = found in
     let a = stamped.args in
     tick_both a.h a.time
     (rw (c.with_counts-counted.ensures, slot.no_slot-slot.ensures, found.any_findings-findings.ensures.0, found.aged-g.ensures, stamped.stamp.ensures))

@@ -5,10 +5,10 @@ use Rattle.rules.specs.After.{count_count, with_bits, counted}
 use Rattle.post_counts.proofs.count.Statement.{statement}
 use Rattle.post_counts.proofs.count.Tie as tie
 
-abbrev invariant-loop : tie.invariant-loop
+abbrev invariant-loop : tie.invariant-loop-k
 invariant-loop findings counts q₀ bits₀ k₀ q bits k = (k ≤ count_count) × (q ≡ bits_up_to k (1 + 2 * findings) counts) × (bits ≡ halves k (1 + 2 * findings))
 
-abbrev decreases-loop : tie.decreases-loop
+abbrev decreases-loop : tie.decreases-loop-k
 decreases-loop findings counts q₀ bits₀ k₀ q bits k = count_count - k
 
 bounds-counts-0 : tie.Need-bounds-counts-0 invariant-loop decreases-loop
@@ -56,11 +56,11 @@ loop-k-smaller : tie.Need-loop-k-smaller invariant-loop decreases-loop
 loop-k-smaller c = search rules
 
 loop-k-preserved : tie.Need-loop-k-preserved invariant-loop decreases-loop
-loop-k-preserved c = let a = c.before.before in (search rules, rw (a.loop-k.invariant.1, c.with_bit.ensures, a.loop-k.invariant.2) (bits_next a.loop-k.k _ _ (search rules)), rw (halves_next, a.loop-k.invariant.2))
+loop-k-preserved c = let a = c in (search rules, rw (a.loop-k.invariant.1, c.with_bit.ensures, a.loop-k.invariant.2) (bits_next a.loop-k.k _ _ (search rules)), rw (halves_next, a.loop-k.invariant.2))
 
 returns : tie.Need-returns invariant-loop decreases-loop
 unfolding counted
-returns c = let a = c.before in a.loop-k.invariant.1 ∙ bits_all a.loop-k.k _ _ (search rules)
+returns c = let a = c in a.loop-k.invariant.1 ∙ bits_all a.loop-k.k _ _ (search rules)
 
 pub count_spec : {M : Type 1} → statement M
 count_spec =

@@ -21,7 +21,7 @@ carrying-requires c κs = search rules
 
 returns-then-is_set : tie.Need-returns-then-is_set
 returns-then-is_set c =
-    let known = c.before.before.before in
+    let known = c in
     rw (sym known.is_set.ensures ∙ known.if-is_set.true, ← c.command_by-f.ensures) c.carrying.ensures
 
 returns : tie.Need-returns

@@ -22,7 +22,7 @@ cap-requires c κs = search rules
 
 returns-then-is_set : tie.Need-returns-then-is_set
 returns-then-is_set c =
-    let known = c.before.before.before in
+    let known = c in
     let a = known.args in
     limit_known (λ q. q.charge) a.most a.l (sym known.is_set.ensures ∙ known.if-is_set.true) c.limits_by.ensures c.cap.ensures
 

@@ -95,12 +95,12 @@ overflow_add-result-5 c = search rules
 returns : tie.Need-returns
 unfolding control_findings
 returns c =
-    let f5 = c.before.before.before.before in
-    let f4 = f5.before.before.before.before in
-    let f3 = f4.before.before in
-    let f2 = f3.before.before.before.before in
-    let f1 = f2.before.before.before in
-    let v = f1.before.before.before.before in (
+    let f5 = c in
+    let f4 = f5 in
+    let f3 = f4 in
+    let f2 = f3 in
+    let f1 = f2 in
+    let v = f1 in (
       search (
         rules,
         v.is_set.ensures,

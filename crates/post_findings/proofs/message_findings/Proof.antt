@@ -9,25 +9,25 @@ use Rattle.post_findings.proofs.message_findings.Tie as tie
 returns-in-Status : tie.Need-returns-in-Status
 unfolding message_findings
 returns-in-Status c =
-    let e = c.before.before in
+    let e = c in
     (rw (sym e.role_of.ensures ∙ e.in-Status.is, ← c.status_by.ensures) c.status_findings.ensures.0, omega arith)
 
 returns-in-Opening : tie.Need-returns-in-Opening
 unfolding message_findings
 returns-in-Opening c =
-    let e = c.before.before in
+    let e = c in
     (rw (sym e.role_of.ensures ∙ e.in-Opening.is, ← c.opening_by.ensures) c.opening_findings.ensures.0, omega arith)
 
 returns-in-Command : tie.Need-returns-in-Command
 unfolding message_findings
 returns-in-Command c =
-    let e = c.before.before in
+    let e = c in
     (rw (sym e.role_of.ensures ∙ e.in-Command.is, ← c.command_by.ensures) c.control_findings.ensures.0, omega arith)
 
 returns-in-Finished : tie.Need-returns-in-Finished
 unfolding message_findings
 returns-in-Finished c =
-    let e = c.before in
+    let e = c in
     (rw (sym e.role_of.ensures ∙ e.in-Finished.is) c.finished_findings.ensures.0, omega arith)
 
 returns-in-Limits : tie.Need-returns-in-Limits

@@ -44,11 +44,11 @@ overflow_add-result c = search rules
 returns : tie.Need-returns
 unfolding status_findings
 returns c =
-    let l = c.before.before in
-    let g = l.before.before in
-    let o = g.before.before in
-    let k = o.before.before.before in
-    let d = k.before in (
+    let l = c in
+    let g = l in
+    let o = g in
+    let k = o in
+    let d = k in (
       search (
         rules,
         c.flag-2.ensures.0,

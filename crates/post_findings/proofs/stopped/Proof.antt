@@ -20,7 +20,7 @@ is_set-requires-then-is_set c κs = search rules
 returns-then-is_set : tie.Need-returns-then-is_set
 unfolding stopped_in
 returns-then-is_set c =
-    let opened = c.before.before in
+    let opened = c in
     rw (sym opened.is_set.ensures ∙ opened.if-is_set.true) c.is_set-then-is_set.ensures
 
 returns-else-is_set : tie.Need-returns-else-is_set

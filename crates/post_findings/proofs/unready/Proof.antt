@@ -17,7 +17,7 @@ unready_after-requires c κs = search rules
 returns-then-is_set : tie.Need-returns-then-is_set
 unfolding unready_in
 returns-then-is_set c =
-    let opened = c.before in
+    let opened = c in
     rw (sym opened.is_set.ensures ∙ opened.if-is_set.true) c.unready_after.ensures
 
 returns-else-is_set : tie.Need-returns-else-is_set

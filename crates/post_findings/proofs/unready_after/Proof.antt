@@ -24,7 +24,7 @@ negated-requires c κs = search rules
 
 returns-then-is_set : tie.Need-returns-then-is_set
 returns-then-is_set c =
-    let known = c.before.before.before.before in
+    let known = c in
     rw (sym known.is_set.ensures ∙ known.if-is_set.true, c.negated.ensures, c.allowed.ensures, c.status_by-x.ensures)
 
 returns : tie.Need-returns

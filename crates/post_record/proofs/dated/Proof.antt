@@ -24,8 +24,8 @@ dated_at-requires c κs = search rules
 
 returns-then-is_set : tie.Need-returns-then-is_set
 returns-then-is_set c =
-    let aged = c.before in
-    let known = aged.before.before.before in
+    let aged = c in
+    let known = aged in
     rw (sym known.is_set.ensures ∙ known.if-is_set.true, c.dated_at.ensures, aged.age.ensures, aged.received.ensures)
 
 returns-else-is_set : tie.Need-returns-else-is_set

@@ -31,8 +31,8 @@ dated-stop-requires c κs = search rules
 
 returns : tie.Need-returns
 returns c =
-    let d = c.before.before in
-    let o = d.before.before.before.before in
+    let d = c in
+    let o = d in
     rw (sym o.is_set.ensures ∙ not-false _ o.if-not-is_set.false-raw, d.dated-status.ensures, c.dated-control.ensures, c.dated-stop.ensures)
 
 pub kept_of_spec : {M : Type 1} → statement M

@@ -15,7 +15,7 @@ received-requires c κs = search rules
 
 returns-then-is_set : tie.Need-returns-then-is_set
 returns-then-is_set c =
-    let heard = c.before in
+    let heard = c in
     rw (sym heard.is_set.ensures ∙ heard.if-is_set.true, c.received.ensures)
 
 returns-else-is_set : tie.Need-returns-else-is_set

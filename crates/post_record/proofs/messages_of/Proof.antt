@@ -21,10 +21,10 @@ shown_in now slots j = record { message = dated_in now (get_or slots j unknown) 
 abbrev nothing : Latest
 nothing = record { message = dated.Nothing }
 
-abbrev invariant-loop : tie.invariant-loop
+abbrev invariant-loop : tie.invariant-loop-k
 invariant-loop now slots latest₀ k₀ latest k = (k ≤ place_count) × (latest ≡ map (filled_to (shown_in now slots) nothing k) (count_from 0 place_count))
 
-abbrev decreases-loop : tie.decreases-loop
+abbrev decreases-loop : tie.decreases-loop-k
 decreases-loop now slots latest₀ k₀ latest k = place_count - k
 
 loop-k-init : tie.Need-loop-k-init invariant-loop decreases-loop
@@ -53,12 +53,12 @@ loop-k-smaller c = search rules
 
 loop-k-preserved : tie.Need-loop-k-preserved invariant-loop decreases-loop
 loop-k-preserved c =
-    let a = c.before.before.before in
+    let a = c in
     (search rules, rw (a.loop-k.invariant.1, c.dated.ensures) (filled_next (shown_in a.args.now a.args.t2) nothing a.loop-k.k place_count))
 
 returns : tie.Need-returns invariant-loop decreases-loop
 returns c =
-    let a = c.before in
+    let a = c in
     rw a.loop-k.invariant.1 (filled_all (shown_in a.args.now a.args.t2) nothing a.loop-k.k place_count (search rules))
 
 pub messages_of_spec : {M : Type 1} → statement M

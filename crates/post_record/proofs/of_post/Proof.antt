@@ -29,11 +29,11 @@ bounds-counts-0 c = search rules
 returns : tie.Need-returns
 unfolding post_record
 returns c =
-    let last = c.before.before in
-    let kept = last.before in
-    let part = kept.before in
-    let l = part.before.before in
-    let m = l.before.before in
+    let last = c in
+    let kept = last in
+    let part = kept in
+    let l = part in
+    let m = l in
     record_both m.args.p
     (rw (c.tallies_of-tallies.ensures, last.last_time-last.ensures, kept.kept_of-kept.ensures, part.part-session.ensures, l.limits_in-limits.ensures, m.messages_of-latest.ensures))
 

@@ -22,8 +22,8 @@ age-requires c κs = search rules
 
 returns : tie.Need-returns
 returns c =
-    let n = c.before.before in
-    let o = n.before in
+    let n = c in
+    let o = n in
     rw (
       sym o.is_set.ensures ∙ not-false _ o.if-not-is_set.false-raw,
       n.session_in-n.ensures,

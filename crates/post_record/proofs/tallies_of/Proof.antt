@@ -14,10 +14,10 @@ use Rattle.post_record.proofs.tallies_of.Tie as tie
 abbrev tally_at : List ℕ → ℕ → ℕ
 tally_at counts k = get_or counts (k + 1) 0
 
-abbrev invariant-loop : tie.invariant-loop
+abbrev invariant-loop : tie.invariant-loop-k
 invariant-loop counts tallies₀ k₀ tallies k = (k ≤ finding_count) × (tallies ≡ map (filled_to (tally_at counts) 0 k) (count_from 0 finding_count))
 
-abbrev decreases-loop : tie.decreases-loop
+abbrev decreases-loop : tie.decreases-loop-k
 decreases-loop counts tallies₀ k₀ tallies k = finding_count - k
 
 loop-k-init : tie.Need-loop-k-init invariant-loop decreases-loop
@@ -45,10 +45,10 @@ loop-k-smaller : tie.Need-loop-k-smaller invariant-loop decreases-loop
 loop-k-smaller c = search rules
 
 loop-k-preserved : tie.Need-loop-k-preserved invariant-loop decreases-loop
-loop-k-preserved c = let a = c.before in (search rules, rw a.loop-k.invariant.1 (filled_next (tally_at a.args.t1) 0 a.loop-k.k finding_count))
+loop-k-preserved c = let a = c in (search rules, rw a.loop-k.invariant.1 (filled_next (tally_at a.args.t1) 0 a.loop-k.k finding_count))
 
 returns : tie.Need-returns invariant-loop decreases-loop
-returns c = let a = c.before in rw a.loop-k.invariant.1 (filled_all (tally_at a.args.t1) 0 a.loop-k.k finding_count (search rules))
+returns c = let a = c in rw a.loop-k.invariant.1 (filled_all (tally_at a.args.t1) 0 a.loop-k.k finding_count (search rules))
 
 pub tallies_of_spec : {M : Type 1} → statement M
 tallies_of_spec =

@@ -16,7 +16,7 @@ ms_between-requires c κs = search rules
 returns-then-is_set : tie.Need-returns-then-is_set
 unfolding late_after
 returns-then-is_set c =
-    let known = c.before in
+    let known = c in
     rw (sym known.is_set.ensures ∙ known.if-is_set.true, c.ms_between.ensures)
 
 returns-else-is_set : tie.Need-returns-else-is_set

@@ -11,12 +11,12 @@ is_set-requires c κs = search rules
 
 returns-then-since-st : tie.Need-returns-then-since-st
 returns-then-since-st c =
-    let known = c.before.before in
+    let known = c in
     rw (sym known.is_set.ensures ∙ known.if-is_set.true) (omega arith)
 
 returns-then-is_set : tie.Need-returns-then-is_set
 returns-then-is_set c =
-    let known = c.before.before in
+    let known = c in
     rw (sym known.is_set.ensures ∙ known.if-is_set.true) (omega arith)
 
 returns : tie.Need-returns

@@ -19,7 +19,7 @@ ms_between-requires c κs = search rules
 returns-then-is_set : tie.Need-returns-then-is_set
 unfolding silent_in
 returns-then-is_set c =
-    let opened = c.before.before in
+    let opened = c in
     rw (sym opened.is_set.ensures ∙ opened.if-is_set.true, c.ms_between.ensures, c.later.ensures)
 
 returns-else-is_set : tie.Need-returns-else-is_set

@@ -24,7 +24,7 @@ plug_number-requires-2 c κs = search rules
 returns : tie.Need-returns
 unfolding differs
 returns c =
-    let d = c.before.before.before in
+    let d = c in
     rw (← d.protocol_number.ensures, ← d.protocol_number-2.ensures, ← c.plug_number.ensures, ← c.plug_number-2.ensures, eq-eqb _ _ c.if-protocol_number.false)
 
 pub do_differ_spec : {M : Type 1} → statement M

@@ -45,15 +45,15 @@ returns-then-d-ne0 c = rw (numbers c.before.before, ne_eqb _ _ c.if-d-ne0.true)
 
 returns-then-d-ne0-2 : tie.Need-returns-then-d-ne0-2
 returns-then-d-ne0-2 c =
-    let t = c.before.before.before in
+    let t = c in
     let s = t.before.before in
     let d = s.args.d in
     rw (numbers s, eq-eqb _ _ t.if-d-ne0.false, ← zero_bits d.max (search rules), ne_eqb _ _ c.if-d-ne0-2.true)
 
 returns : tie.Need-returns
 returns c =
-    let m = c.before.before in
-    let t = m.before.before.before in
+    let m = c in
+    let t = m in
     let s = t.before.before in
     let d = s.args.d in
     rw (numbers s, eq-eqb _ _ t.if-d-ne0.false, ← zero_bits d.max (search rules), eq-eqb _ _ m.if-d-ne0-2.false, zero_bits d.min (search rules))

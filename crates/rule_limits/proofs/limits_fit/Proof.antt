@@ -11,31 +11,31 @@ returns-then-lim-lt1 c = rw (lt-leb _ _ c.if-lim-lt1.true)
 returns-then-lim-gt65535 : tie.Need-returns-then-lim-gt65535
 unfolding limits_fit
 returns-then-lim-gt65535 c =
-    let one = c.before.before in
+    let one = c in
     rw (le-leb _ _ one.if-lim-lt1.false, lt-leb _ _ c.if-lim-gt65535.true)
 
 returns-then-lim-lt1-2 : tie.Need-returns-then-lim-lt1-2
 unfolding limits_fit
 returns-then-lim-lt1-2 c =
-    let two = c.before.before in
-    let one = two.before.before in
+    let two = c in
+    let one = two in
     rw (le-leb _ _ one.if-lim-lt1.false, le-leb _ _ two.if-lim-gt65535.false, lt-leb _ _ c.if-lim-lt1-2.true)
 
 returns-then-lim-gt32767 : tie.Need-returns-then-lim-gt32767
 unfolding limits_fit
 returns-then-lim-gt32767 c =
-    let three = c.before.before in
-    let two = three.before.before in
-    let one = two.before.before in
+    let three = c in
+    let two = three in
+    let one = two in
     rw (le-leb _ _ one.if-lim-lt1.false, le-leb _ _ two.if-lim-gt65535.false, le-leb _ _ three.if-lim-lt1-2.false, lt-leb _ _ c.if-lim-gt32767.true)
 
 returns-then-lim-gt32767-2 : tie.Need-returns-then-lim-gt32767-2
 unfolding limits_fit
 returns-then-lim-gt32767-2 c =
-    let four = c.before.before in
-    let three = four.before.before in
-    let two = three.before.before in
-    let one = two.before.before in
+    let four = c in
+    let three = four in
+    let two = three in
+    let one = two in
     rw (
       le-leb _ _ one.if-lim-lt1.false,
       le-leb _ _ two.if-lim-gt65535.false,
@@ -47,11 +47,11 @@ returns-then-lim-gt32767-2 c =
 returns-then-lim-lt100 : tie.Need-returns-then-lim-lt100
 unfolding limits_fit
 returns-then-lim-lt100 c =
-    let five = c.before.before in
-    let four = five.before.before in
-    let three = four.before.before in
-    let two = three.before.before in
-    let one = two.before.before in
+    let five = c in
+    let four = five in
+    let three = four in
+    let two = three in
+    let one = two in
     rw (
       le-leb _ _ one.if-lim-lt1.false,
       le-leb _ _ two.if-lim-gt65535.false,
@@ -64,12 +64,12 @@ returns-then-lim-lt100 c =
 returns-then-lim-gt60000 : tie.Need-returns-then-lim-gt60000
 unfolding limits_fit
 returns-then-lim-gt60000 c =
-    let six = c.before.before in
-    let five = six.before.before in
-    let four = five.before.before in
-    let three = four.before.before in
-    let two = three.before.before in
-    let one = two.before.before in
+    let six = c in
+    let five = six in
+    let four = five in
+    let three = four in
+    let two = three in
+    let one = two in
     rw (
       le-leb _ _ one.if-lim-lt1.false,
       le-leb _ _ two.if-lim-gt65535.false,
@@ -83,13 +83,13 @@ returns-then-lim-gt60000 c =
 returns-then-lim-gt1 : tie.Need-returns-then-lim-gt1
 unfolding limits_fit
 returns-then-lim-gt1 c =
-    let seven = c.before.before in
-    let six = seven.before.before in
-    let five = six.before.before in
-    let four = five.before.before in
-    let three = four.before.before in
-    let two = three.before.before in
-    let one = two.before.before in
+    let seven = c in
+    let six = seven in
+    let five = six in
+    let four = five in
+    let three = four in
+    let two = three in
+    let one = two in
     rw (
       le-leb _ _ one.if-lim-lt1.false,
       le-leb _ _ two.if-lim-gt65535.false,
@@ -104,14 +104,14 @@ returns-then-lim-gt1 c =
 returns : tie.Need-returns
 unfolding limits_fit
 returns c =
-    let eight = c.before in
-    let seven = eight.before.before in
-    let six = seven.before.before in
-    let five = six.before.before in
-    let four = five.before.before in
-    let three = four.before.before in
-    let two = three.before.before in
-    let one = two.before.before in
+    let eight = c in
+    let seven = eight in
+    let six = seven in
+    let five = six in
+    let four = five in
+    let three = four in
+    let two = three in
+    let one = two in
     rw (
       le-leb _ _ one.if-lim-lt1.false,
       le-leb _ _ two.if-lim-gt65535.false,

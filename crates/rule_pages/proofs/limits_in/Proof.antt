@@ -10,9 +10,9 @@ use Rattle.rule_pages.proofs.limits_in.Tie as tie
 returns : tie.Need-returns
 unfolding limits_in
 returns c =
-    let a3 = c.before in
-    let a2 = a3.before in
-    let a1 = a2.before in
+    let a3 = c in
+    let a2 = a3 in
+    let a1 = a2 in
     c.limits.ensures
     ∙ rw (
       to_z-of_z {w = w64} (record { sfits = a1.raw_of.type_inv }) ∙ a1.raw_of.ensures,

@@ -15,7 +15,7 @@ word-requires c κs = search rules
 
 returns : tie.Need-returns
 returns c =
-    let x = c.before in
+    let x = c in
     c.word.ensures ∙ ap word_of (to_z-of_z {w = w64} (record { sfits = x.short_raw.type_inv }) ∙ x.short_raw.ensures ∙ to_z-of_z x.ranges.z)
 
 pub positive_spec : {M : Type 1} → statement M

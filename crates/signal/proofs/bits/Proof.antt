@@ -36,7 +36,7 @@ returns-then-not-fits c =
 
 of_signed-requires : tie.Need-of_signed-requires
 of_signed-requires c κs =
-    let s = c.before.before.before in
+    let s = c in
     let w = s.args.width in
     let f : (is_width w ≡ true) × (fits_in true w s.args.z ≡ true)
     = fits_both true w s.args.z (ap (λ (b : Bool). fits_of b w s.args.z) (sym c.if-signed.true) ∙ fitting c.before) in
@@ -48,12 +48,12 @@ size-requires c κs = search rules
 
 returns-then-signed : tie.Need-returns-then-signed
 returns-then-signed c =
-    let s = c.before.before.before.before in
+    let s = c in
     c.of_signed.ensures ∙ ap (of_signed s.args.width) (to_z-of_z s.ranges.z) ∙ known c.before.before true c.if-signed.true
 
 returns-else-signed : tie.Need-returns-else-signed
 returns-else-signed c =
-    let s = c.before.before.before.before in
+    let s = c in
     c.size.ensures ∙ ap mag (to_z-of_z s.ranges.z) ∙ known c.before.before false c.if-signed.false
 
 pub bits_spec : {M : Type 1} → statement M

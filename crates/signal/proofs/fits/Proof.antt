@@ -46,7 +46,7 @@ overflow_shr-result c = omega (arith, width_in c.args.width (wide c.before.befor
 
 returns-then-signed : tie.Need-returns-then-signed
 returns-then-signed c =
-    let s = c.before.before.before.before in
+    let s = c in
     let k = s.args.width - 1 in
     shr_test c.size.result k
     ∙ ap (λ (m : ℕ). ltb m (2 ^ k)) (c.size.ensures ∙ ap mag (to_z-of_z s.ranges.z))
@@ -54,7 +54,7 @@ returns-then-signed c =
 
 returns-then-z-lt0 : tie.Need-returns-then-z-lt0
 returns-then-z-lt0 c =
-    let s = c.before.before.before.before in
+    let s = c in
     sym (ap (λ (b : Bool). b && ltb (mag s.args.z) (2 ^ s.args.width)) (tested s.args.z true s.ranges.z c.if-z-lt0.true))
     ∙ known c.before.before false c.if-signed.false
 
@@ -67,7 +67,7 @@ has_bits-requires c κs =
 
 returns : tie.Need-returns
 returns c =
-    let s = c.before.before.before.before.before.before in
+    let s = c in
     let w = s.args.width in
     c.has_bits.ensures
     ∙ ap (λ (m : ℕ). ltb m (2 ^ w)) (c.size-2.ensures ∙ ap mag (to_z-of_z s.ranges.z))

@@ -30,14 +30,14 @@ size-requires-else-z-lt0 c κs = search rules
 
 returns-then-z-lt0 : tie.Need-returns-then-z-lt0
 returns-then-z-lt0 c =
-    let s = c.before.before.before in
+    let s = c in
     let z = s.args.z in
     ap₂ (λ (x y : ℕ). x - y) c.mask.ensures (c.size.ensures ∙ ap mag (to_z-of_z s.ranges.z))
     ∙ negative_bits s.args.width z (tested z true s.ranges.z c.if-z-lt0.true)
 
 returns-else-z-lt0 : tie.Need-returns-else-z-lt0
 returns-else-z-lt0 c =
-    let s = c.before.before in
+    let s = c in
     let z = s.args.z in
     c.size-else-z-lt0.ensures ∙ ap mag (to_z-of_z s.ranges.z) ∙ other_bits s.args.width z (tested z false s.ranges.z c.if-z-lt0.false)
 

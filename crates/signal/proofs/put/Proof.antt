@@ -53,7 +53,7 @@ overflow_shl-result-2 c = overflow_shl-result c
 
 returns : tie.Need-returns
 returns c =
-    let s = c.before.before.before.before.before in
+    let s = c in
     let a = s.args in
     let i = word_found a.start a.width c.in_word.result c.in_word.ensures c.if-not-in_word.false-raw in
     let l = ltb-true a.v (2 ^ a.width) (sym c.has_bits.ensures ∙ not-false c.has_bits.result c.if-not-has_bits.false-raw) in

@@ -9,10 +9,10 @@ use Rattle.text_numbers.proofs.Values.{digits_more, digits_not, digits_all}
 use Rattle.text_bytes.proofs.are_digits.Statement.{statement}
 use Rattle.text_bytes.proofs.are_digits.Tie as tie
 
-abbrev invariant-loop : tie.invariant-loop
+abbrev invariant-loop : tie.invariant-loop-i
 invariant-loop s i₀ i = are_digits 16 s ≡ are_digits 16 (drop i s)
 
-abbrev decreases-loop : tie.decreases-loop
+abbrev decreases-loop : tie.decreases-loop-i
 decreases-loop s i₀ i = length s - i
 
 loop-i-init : tie.Need-loop-i-init invariant-loop decreases-loop

@@ -13,11 +13,11 @@ use Rattle.text_bytes.proofs.Pairs.{pair_at, stored_more, behind, stored_all}
 use Rattle.text_bytes.proofs.store.Statement.{statement}
 use Rattle.text_bytes.proofs.store.Tie as tie
 
-abbrev invariant-loop : tie.invariant-loop
+abbrev invariant-loop : tie.invariant-loop-i
 invariant-loop s out₀ n i₀ out i =
     (i ≤ n) × (length out ≡ length out₀) × (bytes_of s ≡ take i out ++ bytes_of (drop (i * 2) s)) × (drop i out ≡ drop i out₀)
 
-abbrev decreases-loop : tie.decreases-loop
+abbrev decreases-loop : tie.decreases-loop-i
 decreases-loop s out₀ n i₀ out i = n - i
 
 loop-i-init : tie.Need-loop-i-init invariant-loop decreases-loop

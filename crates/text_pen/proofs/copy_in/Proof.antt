@@ -10,10 +10,10 @@ use borrow.Author.Rules.{rules}
 use Rattle.text_pen.proofs.copy_in.Statement.{statement}
 use Rattle.text_pen.proofs.copy_in.Tie as tie
 
-abbrev invariant-loop : tie.invariant-loop
+abbrev invariant-loop : tie.invariant-loop-j
 invariant-loop src dst₀ at j₀ dst j = (dst ≡ paste dst₀ at src j) × (j ≤ length src) × (length dst ≡ length dst₀)
 
-abbrev decreases-loop : tie.decreases-loop
+abbrev decreases-loop : tie.decreases-loop-j
 decreases-loop src dst₀ at j₀ dst j = length src - j
 
 loop-j-init : tie.Need-loop-j-init invariant-loop decreases-loop

@@ -12,14 +12,14 @@ use Rattle.text_written.proofs.Turns.{moved_past, moved_next_lem, inked_past, in
 use Rattle.text_written.proofs.put_hex.Statement.{statement}
 use Rattle.text_written.proofs.put_hex.Tie as tie
 
-abbrev invariant-loop : tie.invariant-loop
+abbrev invariant-loop : tie.invariant-loop-i
 invariant-loop out₀ src p₀ i₀ out p i =
     (i ≤ length src)
     × (length out ≡ length out₀)
     × (moved_by (length out₀) p₀ (hex_words src) ≡ moved_by (length out₀) p (map two_digits (drop i src)))
     × (inked_by out₀ p₀ (hex_words src) ≡ inked_by out p (map two_digits (drop i src)))
 
-abbrev decreases-loop : tie.decreases-loop
+abbrev decreases-loop : tie.decreases-loop-i
 decreases-loop out₀ src p₀ i₀ out p i = length src - i
 
 slice_bounds-put-end-in-loop-i : tie.Need-slice_bounds-put-end-in-loop-i invariant-loop decreases-loop

@@ -13,11 +13,11 @@ use Rattle.text_numbers.proofs.Numerals.{one_digit, more_digits, shorter, in_fro
 use Rattle.text_written.proofs.put_number.Statement.{statement}
 use Rattle.text_written.proofs.put_number.Tie as tie
 
-abbrev invariant-loop : tie.invariant-loop
+abbrev invariant-loop : tie.invariant-loop-rest
 invariant-loop out pen n base t₀ at₀ rest₀ t at rest =
     (length t ≡ 20) × (1 ≤ at) × (at ≤ 20) × (rest < 10 ^ at) × (numeral base n ≡ numeral base rest ++ drop at t)
 
-abbrev decreases-loop : tie.decreases-loop
+abbrev decreases-loop : tie.decreases-loop-rest
 decreases-loop out pen n base t₀ at₀ rest₀ t at rest = rest
 
 loop-rest-init : tie.Need-loop-rest-init invariant-loop decreases-loop

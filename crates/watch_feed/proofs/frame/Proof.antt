@@ -27,9 +27,9 @@ fed-requires c κs = search rules
 returns : tie.Need-returns
 unfolding feed_at
 returns c =
-    let heard = c.before in
-    let arrived = heard.before in
-    let found = arrived.before.before.before.before in
+    let heard = c in
+    let arrived = heard in
+    let found = arrived in
     let a = found.args in
     fed_both a.t1 a.channel a.time _
     (rw (c.fed.ensures, heard.hear.ensures.0, arrived.arrival_for-a.ensures, found.some_place-i.ensures.0) (feed_same a.t1 a.channel a.time (framing a.id a.extended _)))

@@ -24,8 +24,8 @@ fed-requires c κs = search rules
 returns : tie.Need-returns
 unfolding feed_at
 returns c =
-    let heard = c.before in
-    let found = heard.before.before.before in
+    let heard = c in
+    let found = heard in
     let a = found.args in
     fed_both a.t1 a.channel a.time ticking
     (rw (c.fed.ensures, heard.hear.ensures.0, found.some_place-at.ensures.0) (feed_same a.t1 a.channel a.time ticking))

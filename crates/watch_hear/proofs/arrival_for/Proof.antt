@@ -23,12 +23,12 @@ enum_known-w c = search rules
 
 returns-in-Frame : tie.Need-returns-in-Frame
 returns-in-Frame c =
-    let j = c.before.before.before in
+    let j = c in
     rw (sym j.interface_of-iface.ensures, sym j.judge_for.ensures ∙ c.in-Frame.is)
 
 returns-in-Refused : tie.Need-returns-in-Refused
 returns-in-Refused c =
-    let j = c.before.before.before in
+    let j = c in
     rw (sym j.interface_of-iface.ensures, sym j.judge_for.ensures ∙ c.in-Refused.is)
 
 pub arrival_for_spec : {M : Type 1} → statement M

@@ -18,7 +18,7 @@ frame-r-requires c κs = search rules
 
 returns : tie.Need-returns
 returns c =
-    let stepped = c.before.before in
+    let stepped = c in
     rw (sym stepped.is_full.ensures ∙ stepped.if-is_full.false, stepped.frame-r.ensures.0)
 
 pub framed_spec : {M : Type 1} → statement M

@@ -23,7 +23,7 @@ turned_away-requires-then-not-holds_channel c κs = search rules
 returns-then-not-holds_channel : tie.Need-returns-then-not-holds_channel
 unfolding heard_of
 returns-then-not-holds_channel c =
-    let asked = c.before.before in
+    let asked = c in
     heard_both _ _ _ _
     (rw (le-leb _ _ asked.if-channel-gt31.false, sym asked.holds_channel.ensures ∙ not-true _ c.if-not-holds_channel.true-raw, c.turned_away-then-not-holds_channel.ensures))
 
@@ -36,8 +36,8 @@ turned_away-requires-then-is_early c κs = search rules
 returns-then-is_early : tie.Need-returns-then-is_early
 unfolding heard_of
 returns-then-is_early c =
-    let early = c.before.before in
-    let asked = early.before.before in
+    let early = c in
+    let asked = early in
     heard_both _ _ _ _
     (rw (
       le-leb _ _ asked.if-channel-gt31.false,
@@ -67,9 +67,9 @@ turned_away-requires-in-Unread c κs = search rules
 returns-in-Tick : tie.Need-returns-in-Tick
 unfolding heard_of
 returns-in-Tick c =
-    let told = c.before in
-    let late = told.before.before in
-    let holding = late.before.before.before in
+    let told = c in
+    let late = told in
+    let holding = late in
     heard_both _ _ _ _
     (rw (
       le-leb _ _ holding.if-channel-gt31.false,
@@ -82,9 +82,9 @@ returns-in-Tick c =
 returns-in-Frame : tie.Need-returns-in-Frame
 unfolding heard_of
 returns-in-Frame c =
-    let told = c.before.before in
-    let late = told.before.before in
-    let holding = late.before.before.before in
+    let told = c in
+    let late = told in
+    let holding = late in
     heard_both _ _ _ _
     (rw (
       le-leb _ _ holding.if-channel-gt31.false,
@@ -97,9 +97,9 @@ returns-in-Frame c =
 returns-in-Unread : tie.Need-returns-in-Unread
 unfolding heard_of
 returns-in-Unread c =
-    let told = c.before.before in
-    let late = told.before.before in
-    let holding = late.before.before.before in
+    let told = c in
+    let late = told in
+    let holding = late in
     heard_both _ _ _ _
     (rw (
       le-leb _ _ holding.if-channel-gt31.false,

@@ -16,7 +16,7 @@ no_record-requires c κs = search rules
 returns-then-not-is_post : tie.Need-returns-then-not-is_post
 unfolding look_up_of
 returns-then-not-is_post c =
-    let post = c.before in
+    let post = c in
     let a = post.args in
     shown_both a.t1 a.post (rw (sym post.is_post.ensures ∙ not-true _ post.if-not-is_post.true-raw, c.no_record.ensures))
 
@@ -38,8 +38,8 @@ no_record-requires-then-not-is_set c κs = search rules
 returns-then-not-is_set : tie.Need-returns-then-not-is_set
 unfolding look_up_of
 returns-then-not-is_set c =
-    let used = c.before in
-    let post = used.before.before.before.before.before in
+    let used = c in
+    let post = used in
     let a = post.args in
     shown_both a.t1 a.post
     (rw (
@@ -54,8 +54,8 @@ of_post-requires c κs = search rules
 returns : tie.Need-returns
 unfolding look_up_of
 returns c =
-    let used = c.before in
-    let post = used.before.before.before.before.before in
+    let used = c in
+    let post = used in
     let a = post.args in
     shown_both a.t1 a.post
     (rw (

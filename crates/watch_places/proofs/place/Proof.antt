@@ -11,10 +11,10 @@ use Rattle.watch_places.proofs.Search.{place_on_lem, place_here, place_end}
 use Rattle.watch_places.proofs.place.Statement.{statement}
 use Rattle.watch_places.proofs.place.Tie as tie
 
-abbrev invariant-loop : tie.invariant-loop
+abbrev invariant-loop : tie.invariant-loop-i
 invariant-loop channel t i₀ i = (i ≤ post_count) × (place_of t.posts channel ≡ i + place_of (drop i t.posts) channel)
 
-abbrev decreases-loop : tie.decreases-loop
+abbrev decreases-loop : tie.decreases-loop-i
 decreases-loop channel t i₀ i = post_count - i
 
 loop-i-init : tie.Need-loop-i-init invariant-loop decreases-loop

@@ -31,7 +31,7 @@ is_set-requires c κs = search rules
 returns-then-not-is_set : tie.Need-returns-then-not-is_set
 unfolding release_of
 returns-then-not-is_set c =
-    let post = c.before.before.before.before.before in
+    let post = c in
     let a = post.args in
     released_both a.t1 a.post
     (rw (sym post.is_post.ensures ∙ not-false _ post.if-not-is_post.false-raw, sym c.is_set.ensures ∙ not-true _ c.if-not-is_set.true-raw))
@@ -48,8 +48,8 @@ forgotten-v-requires c κs = search rules
 returns : tie.Need-returns
 unfolding release_of
 returns c =
-    let used = c.before.before.before in
-    let post = used.before.before.before.before.before in
+    let used = c in
+    let post = used in
     let a = post.args in
     released_both a.t1 a.post
     (rw (

@@ -19,7 +19,7 @@ returns-then-not-is_post c =
 returns-then-channel-gt31 : tie.Need-returns-then-channel-gt31
 unfolding set_up_of
 returns-then-channel-gt31 c =
-    let post = c.before in
+    let post = c in
     let a = post.args in
     set_both a.t a.post a.channel a.limits (rw (sym post.is_post.ensures ∙ not-false _ post.if-not-is_post.false-raw, lt-leb _ _ c.if-channel-gt31.true))
 
@@ -32,8 +32,8 @@ other-requires c κs = search rules
 returns-then-other : tie.Need-returns-then-other
 unfolding set_up_of
 returns-then-other c =
-    let on = c.before.before.before in
-    let post = on.before in
+    let on = c in
+    let post = on in
     let a = post.args in
     set_both a.t a.post a.channel a.limits
     (rw (
@@ -49,9 +49,9 @@ limits_fit-requires c κs = search rules
 returns-then-not-limits_fit : tie.Need-returns-then-not-limits_fit
 unfolding set_up_of
 returns-then-not-limits_fit c =
-    let free = c.before.before in
-    let on = free.before.before.before in
-    let post = on.before in
+    let free = c in
+    let on = free in
+    let post = on in
     let a = post.args in
     set_both a.t a.post a.channel a.limits
     (rw (
@@ -64,16 +64,16 @@ returns-then-not-limits_fit c =
 
 seated-u-requires : tie.Need-seated-u-requires
 seated-u-requires c κs =
-    let post = c.before.before.before.before.before.before in
+    let post = c in
     ltb-true _ _ (sym post.is_post.ensures ∙ not-false _ post.if-not-is_post.false-raw)
 
 returns : tie.Need-returns
 unfolding set_up_of
 returns c =
-    let fit = c.before in
-    let free = fit.before.before in
-    let on = free.before.before.before in
-    let post = on.before in
+    let fit = c in
+    let free = fit in
+    let on = free in
+    let post = on in
     let a = post.args in
     set_both a.t a.post a.channel a.limits
     (rw (

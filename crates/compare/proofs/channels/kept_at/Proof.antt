@@ -3,10 +3,10 @@ use Rattle.std.proofs.Common.{◌-◌, ◌≤◌, rules}
 use Rattle.compare.proofs.channels.kept_at.Statement.{statement}
 use Rattle.compare.proofs.channels.kept_at.Tie as tie
 
-abbrev invariant-loop : tie.invariant-loop
+abbrev invariant-loop : tie.invariant-loop-i
 invariant-loop bytes channel place l₀ i₀ l i = i ≤ 512
 
-abbrev decreases-loop : tie.decreases-loop
+abbrev decreases-loop : tie.decreases-loop-i
 decreases-loop bytes channel place l₀ i₀ l i = 512 - i
 
 loop-i-init : tie.Need-loop-i-init invariant-loop decreases-loop

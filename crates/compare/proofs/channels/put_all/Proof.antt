@@ -3,11 +3,11 @@ use Rattle.std.proofs.Common.{◌≡◌, ◌-◌, ◌≤◌, length, rules}
 use Rattle.compare.proofs.channels.put_all.Statement.{statement}
 use Rattle.compare.proofs.channels.put_all.Tie as tie
 
-abbrev invariant-loop : tie.invariant-loop
+abbrev invariant-loop : tie.invariant-loop-channel
 invariant-loop bytes numbers bytes2 numbers2 out₀ places x₀ channel₀ out x channel =
     (channel ≤ 32) × (length out ≡ length out₀)
 
-abbrev decreases-loop : tie.decreases-loop
+abbrev decreases-loop : tie.decreases-loop-channel
 decreases-loop bytes numbers bytes2 numbers2 out₀ places x₀ channel₀ out x channel =
     32 - channel
 

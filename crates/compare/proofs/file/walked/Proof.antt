@@ -3,10 +3,10 @@ use Rattle.std.proofs.Common.{◌≡◌, length, rules}
 use Rattle.compare.proofs.file.walked.Statement.{statement}
 use Rattle.compare.proofs.file.walked.Tie as tie
 
-abbrev invariant-loop : tie.invariant-loop
+abbrev invariant-loop : tie.invariant-loop-turns
 invariant-loop fd w name buf₀ bytes₀ numbers₀ c₀ turns₀ buf bytes numbers c turns = (length buf ≡ length buf₀) × (length bytes ≡ length bytes₀) × (length numbers ≡ length numbers₀)
 
-abbrev decreases-loop : tie.decreases-loop
+abbrev decreases-loop : tie.decreases-loop-turns
 decreases-loop fd w name buf₀ bytes₀ numbers₀ c₀ turns₀ buf bytes numbers c turns = turns
 
 loop-turns-init : tie.Need-loop-turns-init invariant-loop decreases-loop

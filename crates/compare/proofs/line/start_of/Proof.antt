@@ -3,10 +3,10 @@ use Rattle.std.proofs.Common.{◌-◌, ◌≤◌, rules}
 use Rattle.compare.proofs.line.start_of.Statement.{statement}
 use Rattle.compare.proofs.line.start_of.Tie as tie
 
-abbrev invariant-loop : tie.invariant-loop
+abbrev invariant-loop : tie.invariant-loop-k
 invariant-loop bytes i at₀ k₀ at k = k ≤ i
 
-abbrev decreases-loop : tie.decreases-loop
+abbrev decreases-loop : tie.decreases-loop-k
 decreases-loop bytes i at₀ k₀ at k = i - k
 
 loop-k-init : tie.Need-loop-k-init invariant-loop decreases-loop

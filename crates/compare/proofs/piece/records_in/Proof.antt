@@ -3,10 +3,10 @@ use Rattle.std.proofs.Common.{◌≡◌, length, rules}
 use Rattle.compare.proofs.piece.records_in.Statement.{statement}
 use Rattle.compare.proofs.piece.records_in.Tie as tie
 
-abbrev invariant-loop : tie.invariant-loop
+abbrev invariant-loop : tie.invariant-loop-turns
 invariant-loop w piece bytes₀ numbers₀ c₀ turns₀ bytes numbers c turns = (length bytes ≡ length bytes₀) × (length numbers ≡ length numbers₀)
 
-abbrev decreases-loop : tie.decreases-loop
+abbrev decreases-loop : tie.decreases-loop-turns
 decreases-loop w piece bytes₀ numbers₀ c₀ turns₀ bytes numbers c turns = turns
 
 loop-turns-init : tie.Need-loop-turns-init invariant-loop decreases-loop

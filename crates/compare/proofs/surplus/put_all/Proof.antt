@@ -3,10 +3,10 @@ use Rattle.std.proofs.Common.{◌≡◌, ◌-◌, ◌≤◌, length, rules}
 use Rattle.compare.proofs.surplus.put_all.Statement.{statement}
 use Rattle.compare.proofs.surplus.put_all.Tie as tie
 
-abbrev invariant-loop : tie.invariant-loop
+abbrev invariant-loop : tie.invariant-loop-i
 invariant-loop side list bytes numbers out₀ p₀ i₀ out p i = (i ≤ length list) × (length out ≡ length out₀)
 
-abbrev decreases-loop : tie.decreases-loop
+abbrev decreases-loop : tie.decreases-loop-i
 decreases-loop side list bytes numbers out₀ p₀ i₀ out p i = length list - i
 
 loop-i-init : tie.Need-loop-i-init invariant-loop decreases-loop

@@ -11,10 +11,10 @@ use native.Mathlib.Omega.{arith}
 use Rattle.compare_logs.proofs.pair.first_free.Statement.{statement}
 use Rattle.compare_logs.proofs.pair.first_free.Tie as tie
 
-abbrev invariant-loop : tie.invariant-loop
+abbrev invariant-loop : tie.invariant-loop-j
 invariant-loop a sa ka n i b sb kb m used low j₀ j = (j ≤ m) × ((l : ℕ) → l < j → low ≤ l → get_or used l 0 ≡ 0 → same (at (records_of a) i) (at (records_of b) l) ≡ true → ⊥)
 
-abbrev decreases-loop : tie.decreases-loop
+abbrev decreases-loop : tie.decreases-loop-j
 decreases-loop a sa ka n i b sb kb m used low j₀ j = m - j
 
 loop-j-init : tie.Need-loop-j-init invariant-loop decreases-loop

@@ -5,10 +5,10 @@ use native.Mathlib.Omega.{arith}
 use Rattle.compare_logs.proofs.pair.list_free.Statement.{statement}
 use Rattle.compare_logs.proofs.pair.list_free.Tie as tie
 
-abbrev invariant-loop : tie.invariant-loop
+abbrev invariant-loop : tie.invariant-loop-j
 invariant-loop used m list₀ j₀ k₀ list j k = Listing used m list₀ list j k
 
-abbrev decreases-loop : tie.decreases-loop
+abbrev decreases-loop : tie.decreases-loop-j
 decreases-loop used m list₀ j₀ k₀ list j k = m - j
 
 loop-j-init : tie.Need-loop-j-init invariant-loop decreases-loop

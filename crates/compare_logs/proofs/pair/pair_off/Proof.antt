@@ -8,10 +8,10 @@ use native.Mathlib.Omega.{arith}
 use Rattle.compare_logs.proofs.pair.pair_off.Statement.{statement}
 use Rattle.compare_logs.proofs.pair.pair_off.Tie as tie
 
-abbrev invariant-loop : tie.invariant-loop
+abbrev invariant-loop : tie.invariant-loop-i
 invariant-loop a sa ka n b sb kb m used₀ list₀ i₀ k₀ low₀ used list i k low = Paired (records_of a) (records_of b) list₀ used list i k low
 
-abbrev decreases-loop : tie.decreases-loop
+abbrev decreases-loop : tie.decreases-loop-i
 decreases-loop a sa ka n b sb kb m used₀ list₀ i₀ k₀ low₀ used list i k low = n - i
 
 loop-i-init : tie.Need-loop-i-init invariant-loop decreases-loop

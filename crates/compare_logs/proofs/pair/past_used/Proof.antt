@@ -6,10 +6,10 @@ use native.Mathlib.Omega.{arith}
 use Rattle.compare_logs.proofs.pair.past_used.Statement.{statement}
 use Rattle.compare_logs.proofs.pair.past_used.Tie as tie
 
-abbrev invariant-loop : tie.invariant-loop
+abbrev invariant-loop : tie.invariant-loop-i
 invariant-loop used low m i₀ i = (i ≤ m) × UsedBelow used i
 
-abbrev decreases-loop : tie.decreases-loop
+abbrev decreases-loop : tie.decreases-loop-i
 decreases-loop used low m i₀ i = m - i
 
 loop-i-init : tie.Need-loop-i-init invariant-loop decreases-loop

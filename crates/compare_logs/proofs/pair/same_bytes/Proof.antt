@@ -5,10 +5,10 @@ use native.Mathlib.Omega.{arith}
 use Rattle.compare_logs.proofs.pair.same_bytes.Statement.{statement}
 use Rattle.compare_logs.proofs.pair.same_bytes.Tie as tie
 
-abbrev invariant-loop : tie.invariant-loop
+abbrev invariant-loop : tie.invariant-loop-i
 invariant-loop a b i₀ i = Same a b i
 
-abbrev decreases-loop : tie.decreases-loop
+abbrev decreases-loop : tie.decreases-loop-i
 decreases-loop a b i₀ i = i
 
 returns-then-a-b : tie.Need-returns-then-a-b invariant-loop decreases-loop

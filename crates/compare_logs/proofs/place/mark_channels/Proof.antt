@@ -7,10 +7,10 @@ use native.Mathlib.Omega.{arith}
 use Rattle.compare_logs.proofs.place.mark_channels.Statement.{statement}
 use Rattle.compare_logs.proofs.place.mark_channels.Tie as tie
 
-abbrev invariant-loop : tie.invariant-loop
+abbrev invariant-loop : tie.invariant-loop-i
 invariant-loop keys n seen₀ i₀ seen i = (i ≤ n) × Marked keys seen₀ seen i
 
-abbrev decreases-loop : tie.decreases-loop
+abbrev decreases-loop : tie.decreases-loop-i
 decreases-loop keys n seen₀ i₀ seen i = n - i
 
 loop-i-init : tie.Need-loop-i-init invariant-loop decreases-loop

@@ -7,10 +7,10 @@ use native.Mathlib.Omega.{arith}
 use Rattle.compare_logs.proofs.place.next_on.Statement.{statement}
 use Rattle.compare_logs.proofs.place.next_on.Tie as tie
 
-abbrev invariant-loop : tie.invariant-loop
+abbrev invariant-loop : tie.invariant-loop-i
 invariant-loop keys c from n i₀ i = (from ≤ i) × (i ≤ n) × ((j : ℕ) → j < i → from ≤ j → get_or keys j 0 / 4294967296 ≡ c → ⊥)
 
-abbrev decreases-loop : tie.decreases-loop
+abbrev decreases-loop : tie.decreases-loop-i
 decreases-loop keys c from n i₀ i = n - i
 
 loop-i-init : tie.Need-loop-i-init invariant-loop decreases-loop

@@ -8,10 +8,10 @@ use native.Mathlib.Omega.{arith}
 use Rattle.compare_logs.proofs.place.place_of.Statement.{statement}
 use Rattle.compare_logs.proofs.place.place_of.Tie as tie
 
-abbrev invariant-loop : tie.invariant-loop
+abbrev invariant-loop : tie.invariant-loop-n
 invariant-loop a sa ka n b sb kb m c x₀ y₀ k₀ x y k = (x ≤ n) × (y ≤ m) × (k ≤ x + 1) × Placing c (records_of a) (records_of b) x y k
 
-abbrev decreases-loop : tie.decreases-loop
+abbrev decreases-loop : tie.decreases-loop-n
 decreases-loop a sa ka n b sb kb m c x₀ y₀ k₀ x y k = n - x
 
 loop-n-init : tie.Need-loop-n-init invariant-loop decreases-loop

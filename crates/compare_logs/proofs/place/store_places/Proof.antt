@@ -8,10 +8,10 @@ use native.Mathlib.Omega.{arith}
 use Rattle.compare_logs.proofs.place.store_places.Statement.{statement}
 use Rattle.compare_logs.proofs.place.store_places.Tie as tie
 
-abbrev invariant-loop : tie.invariant-loop
+abbrev invariant-loop : tie.invariant-loop-c
 invariant-loop a sa ka n b sb kb m seen places₀ c₀ places c = Storing (records_of a) (records_of b) places₀ places c
 
-abbrev decreases-loop : tie.decreases-loop
+abbrev decreases-loop : tie.decreases-loop-c
 decreases-loop a sa ka n b sb kb m seen places₀ c₀ places c = channels - c
 
 loop-c-init : tie.Need-loop-c-init invariant-loop decreases-loop

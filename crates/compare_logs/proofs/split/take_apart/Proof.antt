@@ -8,10 +8,10 @@ use native.Mathlib.Omega.{arith}
 use Rattle.compare_logs.proofs.split.take_apart.Statement.{statement}
 use Rattle.compare_logs.proofs.split.take_apart.Tie as tie
 
-abbrev invariant-loop : tie.invariant-loop
+abbrev invariant-loop : tie.invariant-loop-at
 invariant-loop s starts₀ keys₀ at₀ n₀ starts keys at n = Told s starts keys at n
 
-abbrev decreases-loop : tie.decreases-loop
+abbrev decreases-loop : tie.decreases-loop-at
 decreases-loop s starts₀ keys₀ at₀ n₀ starts keys at n = length s - at
 
 put_start-requires : tie.Need-put_start-requires invariant-loop decreases-loop

@@ -5,10 +5,10 @@ use borrow.Author.Rules.{rules}
 use Rattle.desk_log.proofs.reading.put_records.Statement.{statement}
 use Rattle.desk_log.proofs.reading.put_records.Tie as tie
 
-abbrev invariant-loop : tie.invariant-loop
+abbrev invariant-loop : tie.invariant-loop-left
 invariant-loop bytes records out₀ p₀ at₀ left₀ out p at left = length out ≡ length out₀
 
-abbrev decreases-loop : tie.decreases-loop
+abbrev decreases-loop : tie.decreases-loop-left
 decreases-loop bytes records out₀ p₀ at₀ left₀ out p at left = left
 
 put_count-p-requires : tie.Need-put_count-p-requires invariant-loop decreases-loop

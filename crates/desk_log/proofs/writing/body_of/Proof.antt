@@ -6,10 +6,10 @@ use borrow.Author.Rules.{rules}
 use Rattle.desk_log.proofs.writing.body_of.Statement.{statement}
 use Rattle.desk_log.proofs.writing.body_of.Tie as tie
 
-abbrev invariant-loop : tie.invariant-loop
+abbrev invariant-loop : tie.invariant-loop-i
 invariant-loop bytes n body₀ i₀ body i = (length body ≡ 9) × (i ≤ 9)
 
-abbrev decreases-loop : tie.decreases-loop
+abbrev decreases-loop : tie.decreases-loop-i
 decreases-loop bytes n body₀ i₀ body i = 9 - i
 
 loop-i-init : tie.Need-loop-i-init invariant-loop decreases-loop

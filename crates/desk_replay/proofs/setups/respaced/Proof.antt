@@ -6,10 +6,10 @@ use borrow.Author.Rules.{rules}
 use Rattle.desk_replay.proofs.setups.respaced.Statement.{statement}
 use Rattle.desk_replay.proofs.setups.respaced.Tie as tie
 
-abbrev invariant-loop : tie.invariant-loop
+abbrev invariant-loop : tie.invariant-loop-i
 invariant-loop s room₀ i₀ room i = (length room ≡ length room₀) × (i ≤ length s)
 
-abbrev decreases-loop : tie.decreases-loop
+abbrev decreases-loop : tie.decreases-loop-i
 decreases-loop s room₀ i₀ room i = length s - i
 
 loop-i-init : tie.Need-loop-i-init invariant-loop decreases-loop

@@ -6,10 +6,10 @@ use borrow.Author.Rules.{rules}
 use Rattle.desk_replay.proofs.setups.set_ups.Statement.{statement}
 use Rattle.desk_replay.proofs.setups.set_ups.Tie as tie
 
-abbrev invariant-loop : tie.invariant-loop
+abbrev invariant-loop : tie.invariant-loop-at
 invariant-loop s room₀ r₀ at₀ room r at = (length room ≡ length room₀) × (at ≤ length s + 1)
 
-abbrev decreases-loop : tie.decreases-loop
+abbrev decreases-loop : tie.decreases-loop-at
 decreases-loop s room₀ r₀ at₀ room r at = length s + 1 - at
 
 fresh-r-requires : tie.Need-fresh-r-requires invariant-loop decreases-loop

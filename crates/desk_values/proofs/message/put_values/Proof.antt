@@ -6,10 +6,10 @@ use borrow.Author.Rules.{rules}
 use Rattle.desk_values.proofs.message.put_values.Statement.{statement}
 use Rattle.desk_values.proofs.message.put_values.Tie as tie
 
-abbrev invariant-loop : tie.invariant-loop
+abbrev invariant-loop : tie.invariant-loop-i
 invariant-loop out₀ all count p₀ i₀ out p i = (length out ≡ length out₀) × (length all ≡ 16)
 
-abbrev decreases-loop : tie.decreases-loop
+abbrev decreases-loop : tie.decreases-loop-i
 decreases-loop out₀ all count p₀ i₀ out p i = 16 - i
 
 loop-i-init : tie.Need-loop-i-init invariant-loop decreases-loop

@@ -6,10 +6,10 @@ use borrow.Author.Rules.{rules}
 use Rattle.desk_values.proofs.values.same.Statement.{statement}
 use Rattle.desk_values.proofs.values.same.Tie as tie
 
-abbrev invariant-loop : tie.invariant-loop
+abbrev invariant-loop : tie.invariant-loop-i
 invariant-loop v w i₀ i = (length v ≡ 16) × (length w ≡ 16)
 
-abbrev decreases-loop : tie.decreases-loop
+abbrev decreases-loop : tie.decreases-loop-i
 decreases-loop v w i₀ i = 16 - i
 
 loop-i-init : tie.Need-loop-i-init invariant-loop decreases-loop

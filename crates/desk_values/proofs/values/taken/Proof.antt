@@ -5,10 +5,10 @@ use borrow.Author.Rules.{rules}
 use Rattle.desk_values.proofs.values.taken.Statement.{statement}
 use Rattle.desk_values.proofs.values.taken.Tie as tie
 
-abbrev invariant-loop : tie.invariant-loop
+abbrev invariant-loop : tie.invariant-loop-at
 invariant-loop s v₀ at₀ v at = at ≤ length s + 1
 
-abbrev decreases-loop : tie.decreases-loop
+abbrev decreases-loop : tie.decreases-loop-at
 decreases-loop s v₀ at₀ v at = length s + 1 - at
 
 loop-at-init : tie.Need-loop-at-init invariant-loop decreases-loop

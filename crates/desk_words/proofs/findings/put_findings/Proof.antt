@@ -6,10 +6,10 @@ use borrow.Author.Rules.{rules}
 use Rattle.desk_words.proofs.findings.put_findings.Statement.{statement}
 use Rattle.desk_words.proofs.findings.put_findings.Tie as tie
 
-abbrev invariant-loop : tie.invariant-loop
+abbrev invariant-loop : tie.invariant-loop-k
 invariant-loop out₀ n p₀ rest₀ k₀ out p rest k = (length out ≡ length out₀) × (k ≤ 13)
 
-abbrev decreases-loop : tie.decreases-loop
+abbrev decreases-loop : tie.decreases-loop-k
 decreases-loop out₀ n p₀ rest₀ k₀ out p rest k = 13 - k
 
 loop-k-init : tie.Need-loop-k-init invariant-loop decreases-loop

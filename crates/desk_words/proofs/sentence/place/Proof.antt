@@ -5,10 +5,10 @@ use borrow.Author.Rules.{rules}
 use Rattle.desk_words.proofs.sentence.place.Statement.{statement}
 use Rattle.desk_words.proofs.sentence.place.Tie as tie
 
-abbrev invariant-loop : tie.invariant-loop
+abbrev invariant-loop : tie.invariant-loop-left
 invariant-loop list n at₀ left₀ at left = at ≤ length list
 
-abbrev decreases-loop : tie.decreases-loop
+abbrev decreases-loop : tie.decreases-loop-left
 decreases-loop list n at₀ left₀ at left = left
 
 loop-left-init : tie.Need-loop-left-init invariant-loop decreases-loop

@@ -10,10 +10,10 @@ use Rattle.log_write.proofs.number.number_size.Tie as tie
 use Rattle.log_write.proofs.number.number_size.Reads as reads
 use Rattle.log_write.proofs.number.number_size.Lts as lts
 
-abbrev invariant-loop : tie.invariant-loop
+abbrev invariant-loop : tie.invariant-loop-rest
 invariant-loop n rest₀ size₀ rest size = (size + size_of rest ≡ 1 + size_of n) × (rest ≤ n)
 
-abbrev decreases-loop : tie.decreases-loop
+abbrev decreases-loop : tie.decreases-loop-rest
 decreases-loop n rest₀ size₀ rest size = rest
 
 loop-rest-init : tie.Need-loop-rest-init invariant-loop decreases-loop

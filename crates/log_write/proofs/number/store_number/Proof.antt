@@ -10,10 +10,10 @@ use Rattle.log_write.proofs.number.store_number.Tie as tie
 use Rattle.log_write.proofs.number.store_number.Reads as reads
 use Rattle.log_write.proofs.number.store_number.Lts as lts
 
-abbrev invariant-loop : tie.invariant-loop
+abbrev invariant-loop : tie.invariant-loop-rest
 invariant-loop out₀ at n rest₀ i₀ out rest i = Wrote out₀ at n out i rest
 
-abbrev decreases-loop : tie.decreases-loop
+abbrev decreases-loop : tie.decreases-loop-rest
 decreases-loop out₀ at n rest₀ i₀ out rest i = rest
 
 loop-rest-init : tie.Need-loop-rest-init invariant-loop decreases-loop

@@ -7,10 +7,10 @@ use Rattle.log_write.proofs.Stores.{Copied, copied_none, copied_more, copied_all
 use Rattle.log_write.proofs.store.store_bytes.Statement.{statement}
 use Rattle.log_write.proofs.store.store_bytes.Tie as tie
 
-abbrev invariant-loop : tie.invariant-loop
+abbrev invariant-loop : tie.invariant-loop-i
 invariant-loop out₀ at bytes i₀ out i = Copied out₀ at bytes out i
 
-abbrev decreases-loop : tie.decreases-loop
+abbrev decreases-loop : tie.decreases-loop-i
 decreases-loop out₀ at bytes i₀ out i = length bytes - i
 
 loop-i-init : tie.Need-loop-i-init invariant-loop decreases-loop

@@ -5,11 +5,11 @@ use Rattle.message_charger.proofs.build.ev_id.Tie as tie
 
 returns : tie.Need-returns
 returns c =
-    let b4 = c.before.before in
-    let b3 = b4.before.before in
-    let b2 = b3.before.before in
-    let b1 = b2.before.before in
-    let b0 = b1.before.before in
+    let b4 = c in
+    let b3 = b4 in
+    let b2 = b3 in
+    let b1 = b2 in
+    let b0 = b1 in
     search (rules, b0.byte.ensures, b1.byte-2.ensures, b2.byte-3.ensures, b3.byte-4.ensures, b4.byte-5.ensures, c.byte-6.ensures)
 
 pub ev_id_spec : {M : Type 1} → statement M

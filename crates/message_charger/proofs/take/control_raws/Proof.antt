@@ -8,17 +8,17 @@ use Rattle.message_charger.proofs.take.control_raws.Tie as tie
 returns : tie.Need-returns
 unfolding pad
 returns c =
-    let l = c.before in
-    let b3 = l.before in
-    let k = b3.before in
-    let b2 = k.before in
-    let m = b2.before in
-    let r = m.before in
-    let b1 = r.before in
-    let f = b1.before in
-    let b = f.before in
-    let a = b.before.before in
-    let v = a.before.before in
+    let l = c in
+    let b3 = l in
+    let k = b3 in
+    let b2 = k in
+    let m = b2 in
+    let r = m in
+    let b1 = r in
+    let f = b1 in
+    let b = f in
+    let a = b in
+    let v = a in
     -- the message's signed fields fit
     let g = a.struct_told-1.given in
     simp (to_z-of_z, sfits_of, v.word_raw.type_inv, a.short_raw.type_inv, b.short_raw-2.type_inv, b1.byte_raw.type_inv, r.flag_raw.type_inv, b2.byte_raw-2.type_inv, b3.byte_raw-3.type_inv, c.byte_raw-4.type_inv)

@@ -8,11 +8,11 @@ use Rattle.message_charger.proofs.take.id_raws.Tie as tie
 returns : tie.Need-returns
 unfolding pad
 returns c =
-    let b4 = c.before in
-    let b3 = b4.before in
-    let b2 = b3.before in
-    let b1 = b2.before in
-    let b0 = b1.before in
+    let b4 = c in
+    let b3 = b4 in
+    let b2 = b3 in
+    let b1 = b2 in
+    let b0 = b1 in
     simp (to_z-of_z, sfits_of, b0.byte_raw.type_inv, b1.byte_raw-2.type_inv, b2.byte_raw-3.type_inv, b3.byte_raw-4.type_inv, b4.byte_raw-5.type_inv, c.byte_raw-6.type_inv)
     (simp (b0.byte_raw.ensures, b1.byte_raw-2.ensures, b2.byte_raw-3.ensures, b3.byte_raw-4.ensures, b4.byte_raw-5.ensures, c.byte_raw-6.ensures))
 

@@ -8,9 +8,9 @@ use Rattle.message_charger.proofs.take.parameters_raws.Tie as tie
 returns : tie.Need-returns
 unfolding pad
 returns c =
-    let d = c.before.before in
-    let g = d.before in
-    let v = g.before in
+    let d = c in
+    let g = d in
+    let v = g in
     simp (to_z-of_z, sfits_of, v.word_raw.type_inv, g.word_raw-2.type_inv, d.word_raw-3.type_inv, c.short_raw.type_inv)
     (search (rules, v.word_raw.ensures, g.word_raw-2.ensures, d.word_raw-3.ensures, c.short_raw.ensures))
 

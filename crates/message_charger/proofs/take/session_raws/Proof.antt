@@ -8,8 +8,8 @@ use Rattle.message_charger.proofs.take.session_raws.Tie as tie
 returns : tie.Need-returns
 unfolding pad
 returns c =
-    let n = c.before in
-    let p = n.before in
+    let n = c in
+    let p = n in
     simp (to_z-of_z, sfits_of, p.byte_raw.type_inv, c.byte_raw-2.type_inv)
     (search (rules, p.protocol_number.ensures, p.byte_raw.ensures, n.plug_number.ensures, c.byte_raw-2.ensures))
 

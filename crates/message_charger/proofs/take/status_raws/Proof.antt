@@ -8,12 +8,12 @@ use Rattle.message_charger.proofs.take.status_raws.Tie as tie
 returns : tie.Need-returns
 unfolding pad
 returns c =
-    let b = c.before in
-    let e = b.before in
-    let t = e.before in
-    let m = t.before.before in
-    let a = m.before.before in
-    let v = a.before.before in
+    let b = c in
+    let e = b in
+    let t = e in
+    let m = t in
+    let a = m in
+    let v = a in
     -- the message's signed fields fit
     let g = a.struct_told-1.given in
     simp (to_z-of_z, sfits_of, v.word_raw.type_inv, a.short_raw.type_inv, m.celsius_raw.type_inv, t.celsius_raw-2.type_inv, b.byte_raw.type_inv, c.kilohms_raw.type_inv)

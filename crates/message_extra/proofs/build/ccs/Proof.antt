@@ -6,9 +6,9 @@ use Rattle.message_extra.proofs.build.ccs.Tie as tie
 
 returns : tie.Need-returns
 returns c =
-    let x4 = c.before.before in
-    let x2 = x4.before.before in
-    let x1 = x2.before in
+    let x4 = c in
+    let x2 = x4 in
+    let x1 = x2 in
     simp (
       to_z-of_z,
       sfits_of,

@@ -6,10 +6,10 @@ use Rattle.message_extra.proofs.build.mcs.Tie as tie
 
 returns : tie.Need-returns
 returns c =
-    let x5 = c.before.before in
-    let x4 = x5.before in
-    let x2 = x4.before.before in
-    let x1 = x2.before in
+    let x5 = c in
+    let x4 = x5 in
+    let x2 = x4 in
+    let x1 = x2 in
     simp (
       to_z-of_z,
       sfits_of,

@@ -8,10 +8,10 @@ use Rattle.message_extra.proofs.take.mcs_raws.Tie as tie
 returns : tie.Need-returns
 unfolding pad
 returns c =
-    let x3 = c.before in
-    let x2 = x3.before in
-    let x1 = x2.before in
-    let x0 = x1.before in
+    let x3 = c in
+    let x2 = x3 in
+    let x1 = x2 in
+    let x0 = x1 in
     simp (to_z-of_z, sfits_of, x1.byte_raw.type_inv, x3.byte_raw-2.type_inv, c.wide_raw.type_inv)
     (simp (
       x0.ce_number.ensures,

@@ -6,16 +6,16 @@ use Rattle.message_inputs.proofs.build.cui.Tie as tie
 
 returns : tie.Need-returns
 returns c =
-    let x19 = c.before.before in
-    let x17 = x19.before.before in
-    let x15 = x17.before.before in
-    let x13 = x15.before.before in
-    let x11 = x13.before.before in
-    let x9 = x11.before.before in
-    let x7 = x9.before.before in
-    let x5 = x7.before.before in
-    let x3 = x5.before.before in
-    let x1 = x3.before.before in
+    let x19 = c in
+    let x17 = x19 in
+    let x15 = x17 in
+    let x13 = x15 in
+    let x11 = x13 in
+    let x9 = x11 in
+    let x7 = x9 in
+    let x5 = x7 in
+    let x3 = x5 in
+    let x1 = x3 in
     simp (to_z-of_z, sfits_of, x15.celsius.type_inv, x17.celsius-2.type_inv, x19.celsius-3.type_inv, c.celsius-4.type_inv)
     (simp (
       to_z-of_z,

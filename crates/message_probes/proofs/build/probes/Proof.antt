@@ -6,17 +6,17 @@ use Rattle.message_probes.proofs.build.probes.Tie as tie
 
 returns : tie.Need-returns
 returns c =
-    let x10 = c.before.before in
-    let x9 = x10.before.before in
-    let x8 = x9.before.before in
-    let x7 = x8.before.before in
-    let x6 = x7.before.before in
-    let x5 = x6.before.before in
-    let x4 = x5.before.before in
-    let x3 = x4.before.before in
-    let x2 = x3.before.before in
-    let x1 = x2.before.before in
-    let x0 = x1.before.before in
+    let x10 = c in
+    let x9 = x10 in
+    let x8 = x9 in
+    let x7 = x8 in
+    let x6 = x7 in
+    let x5 = x6 in
+    let x4 = x5 in
+    let x3 = x4 in
+    let x2 = x3 in
+    let x1 = x2 in
+    let x0 = x1 in
     simp (to_z-of_z, sfits_of, x0.short.type_inv, x3.short-2.type_inv, x6.short-3.type_inv, x9.short-4.type_inv)
     (simp (
       to_z-of_z,

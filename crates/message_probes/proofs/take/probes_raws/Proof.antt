@@ -8,17 +8,17 @@ use Rattle.message_probes.proofs.take.probes_raws.Tie as tie
 returns : tie.Need-returns
 unfolding pad
 returns c =
-    let x10 = c.before in
-    let x9 = x10.before in
-    let x8 = x9.before.before in
-    let x7 = x8.before in
-    let x6 = x7.before in
-    let x5 = x6.before.before in
-    let x4 = x5.before in
-    let x3 = x4.before in
-    let x2 = x3.before.before in
-    let x1 = x2.before in
-    let x0 = x1.before in
+    let x10 = c in
+    let x9 = x10 in
+    let x8 = x9 in
+    let x7 = x8 in
+    let x6 = x7 in
+    let x5 = x6 in
+    let x4 = x5 in
+    let x3 = x4 in
+    let x2 = x3 in
+    let x1 = x2 in
+    let x0 = x1 in
     -- the message's signed fields fit
     let g = x0.struct_told-1.given in
     simp (to_z-of_z, sfits_of, x0.short_raw.type_inv, x1.flag_raw.type_inv, x2.flag_raw-2.type_inv, x3.short_raw-2.type_inv, x4.flag_raw-3.type_inv, x5.flag_raw-4.type_inv, x6.short_raw-3.type_inv, x7.flag_raw-5.type_inv, x8.flag_raw-6.type_inv, x9.short_raw-4.type_inv, x10.flag_raw-7.type_inv, c.flag_raw-8.type_inv)

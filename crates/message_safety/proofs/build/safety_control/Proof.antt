@@ -6,9 +6,9 @@ use Rattle.message_safety.proofs.build.safety_control.Tie as tie
 
 returns : tie.Need-returns
 returns c =
-    let x2 = c.before.before in
-    let x1 = x2.before.before in
-    let x0 = x1.before.before in
+    let x2 = c in
+    let x1 = x2 in
+    let x0 = x1 in
     simp (
       to_z-of_z,
       sfits_of,

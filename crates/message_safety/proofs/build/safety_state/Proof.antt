@@ -6,22 +6,22 @@ use Rattle.message_safety.proofs.build.safety_state.Tie as tie
 
 returns : tie.Need-returns
 returns c =
-    let x15 = c.before.before in
-    let x14 = x15.before.before in
-    let x13 = x14.before.before in
-    let x12 = x13.before.before in
-    let x11 = x12.before.before in
-    let x10 = x11.before.before in
-    let x9 = x10.before.before in
-    let x8 = x9.before.before in
-    let x7 = x8.before.before in
-    let n6 = x7.before in
-    let x5 = n6.before.before in
-    let x4 = x5.before.before in
-    let x3 = x4.before.before in
-    let n2 = x3.before in
-    let x1 = n2.before.before in
-    let x0 = x1.before.before in
+    let x15 = c in
+    let x14 = x15 in
+    let x13 = x14 in
+    let x12 = x13 in
+    let x11 = x12 in
+    let x10 = x11 in
+    let x9 = x10 in
+    let x8 = x9 in
+    let x7 = x8 in
+    let n6 = x7 in
+    let x5 = n6 in
+    let x4 = x5 in
+    let x3 = x4 in
+    let n2 = x3 in
+    let x1 = n2 in
+    let x0 = x1 in
     simp (
       to_z-of_z,
       sfits_of,

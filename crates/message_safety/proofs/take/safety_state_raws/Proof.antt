@@ -8,22 +8,22 @@ use Rattle.message_safety.proofs.take.safety_state_raws.Tie as tie
 returns : tie.Need-returns
 unfolding pad
 returns c =
-    let x15 = c.before in
-    let x14 = x15.before in
-    let x13 = x14.before in
-    let x12 = x13.before in
-    let x11 = x12.before in
-    let x10 = x11.before in
-    let x9 = x10.before in
-    let x8 = x9.before in
-    let x7 = x8.before in
-    let x6 = x7.before in
-    let x5 = x6.before in
-    let x4 = x5.before in
-    let x3 = x4.before in
-    let x2 = x3.before in
-    let x1 = x2.before in
-    let x0 = x1.before in
+    let x15 = c in
+    let x14 = x15 in
+    let x13 = x14 in
+    let x12 = x13 in
+    let x11 = x12 in
+    let x10 = x11 in
+    let x9 = x10 in
+    let x8 = x9 in
+    let x7 = x8 in
+    let x6 = x7 in
+    let x5 = x6 in
+    let x4 = x5 in
+    let x3 = x4 in
+    let x2 = x3 in
+    let x1 = x2 in
+    let x0 = x1 in
     simp (to_z-of_z, sfits_of, x0.word_raw.type_inv, x1.flag_raw.type_inv, x3.byte_raw.type_inv, x4.flag_raw-2.type_inv, x5.flag_raw-3.type_inv, x7.byte_raw-2.type_inv, x8.flag_raw-4.type_inv, x9.flag_raw-5.type_inv, x10.flag_raw-6.type_inv, x11.flag_raw-7.type_inv, x12.flag_raw-8.type_inv, x13.flag_raw-9.type_inv, x14.flag_raw-10.type_inv, x15.flag_raw-11.type_inv, c.flag_raw-12.type_inv)
     (simp (
       x0.word_raw.ensures,

@@ -6,10 +6,10 @@ use Rattle.message_sequence.proofs.build.outputs.Tie as tie
 
 returns : tie.Need-returns
 returns c =
-    let x7 = c.before.before in
-    let x5 = x7.before.before in
-    let x3 = x5.before.before in
-    let x1 = x3.before.before in
+    let x7 = c in
+    let x5 = x7 in
+    let x3 = x5 in
+    let x1 = x3 in
     simp (
       to_z-of_z,
       sfits_of,

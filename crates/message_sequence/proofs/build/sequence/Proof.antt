@@ -6,17 +6,17 @@ use Rattle.message_sequence.proofs.build.sequence.Tie as tie
 
 returns : tie.Need-returns
 returns c =
-    let x16 = c.before in
-    let x14 = x16.before.before in
-    let x13 = x14.before in
-    let x11 = x13.before.before in
-    let x10 = x11.before in
-    let x8 = x10.before.before in
-    let x7 = x8.before in
-    let x5 = x7.before.before in
-    let x4 = x5.before in
-    let x2 = x4.before.before in
-    let x1 = x2.before in
+    let x16 = c in
+    let x14 = x16 in
+    let x13 = x14 in
+    let x11 = x13 in
+    let x10 = x11 in
+    let x8 = x10 in
+    let x7 = x8 in
+    let x5 = x7 in
+    let x4 = x5 in
+    let x2 = x4 in
+    let x1 = x2 in
     simp (
       to_z-of_z,
       sfits_of,

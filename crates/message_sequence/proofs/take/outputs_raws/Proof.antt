@@ -8,10 +8,10 @@ use Rattle.message_sequence.proofs.take.outputs_raws.Tie as tie
 returns : tie.Need-returns
 unfolding pad
 returns c =
-    let x3 = c.before in
-    let x2 = x3.before in
-    let x1 = x2.before in
-    let x0 = x1.before in
+    let x3 = c in
+    let x2 = x3 in
+    let x1 = x2 in
+    let x0 = x1 in
     simp (to_z-of_z, sfits_of, x0.flag_raw.type_inv, x1.flag_raw-2.type_inv, x2.flag_raw-3.type_inv, x3.flag_raw-4.type_inv, c.wide_raw.type_inv)
     (simp (
       x0.flag_raw.ensures,

@@ -8,17 +8,17 @@ use Rattle.message_sequence.proofs.take.sequence_raws.Tie as tie
 returns : tie.Need-returns
 unfolding pad
 returns c =
-    let x10 = c.before in
-    let x9 = x10.before in
-    let x8 = x9.before in
-    let x7 = x8.before in
-    let x6 = x7.before in
-    let x5 = x6.before in
-    let x4 = x5.before in
-    let x3 = x4.before in
-    let x2 = x3.before in
-    let x1 = x2.before in
-    let x0 = x1.before in
+    let x10 = c in
+    let x9 = x10 in
+    let x8 = x9 in
+    let x7 = x8 in
+    let x6 = x7 in
+    let x5 = x6 in
+    let x4 = x5 in
+    let x3 = x4 in
+    let x2 = x3 in
+    let x1 = x2 in
+    let x0 = x1 in
     simp (to_z-of_z, sfits_of, x1.byte_raw.type_inv, x3.byte_raw-2.type_inv, x5.byte_raw-3.type_inv, x7.byte_raw-4.type_inv, x9.byte_raw-5.type_inv, c.byte_raw-6.type_inv)
     (simp (
       x0.permission_number.ensures,

@@ -6,10 +6,10 @@ use Rattle.message_vehicle.proofs.build.battery.Tie as tie
 
 returns : tie.Need-returns
 returns c =
-    let x3 = c.before.before in
-    let x2 = x3.before.before in
-    let x1 = x2.before.before in
-    let x0 = x1.before.before in
+    let x3 = c in
+    let x2 = x3 in
+    let x1 = x2 in
+    let x0 = x1 in
     simp (
       to_z-of_z,
       sfits_of,

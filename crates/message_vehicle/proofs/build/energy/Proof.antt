@@ -6,8 +6,8 @@ use Rattle.message_vehicle.proofs.build.energy.Tie as tie
 
 returns : tie.Need-returns
 returns c =
-    let x1 = c.before.before in
-    let x0 = x1.before.before in
+    let x1 = c in
+    let x0 = x1 in
     simp (to_z-of_z, sfits_of, x0.short.type_inv, x1.short-2.type_inv, c.short-3.type_inv)
     (simp (
       to_z-of_z,

@@ -6,8 +6,8 @@ use Rattle.message_vehicle.proofs.build.voltages.Tie as tie
 
 returns : tie.Need-returns
 returns c =
-    let x1 = c.before.before in
-    let x0 = x1.before.before in
+    let x1 = c in
+    let x0 = x1 in
     simp (
       to_z-of_z,
       sfits_of,

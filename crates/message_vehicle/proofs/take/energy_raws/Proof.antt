@@ -8,8 +8,8 @@ use Rattle.message_vehicle.proofs.take.energy_raws.Tie as tie
 returns : tie.Need-returns
 unfolding pad
 returns c =
-    let x1 = c.before.before in
-    let x0 = x1.before.before in
+    let x1 = c in
+    let x0 = x1 in
     -- the message's signed fields fit
     let g = x0.struct_told-1.given in
     simp (to_z-of_z, sfits_of, x0.short_raw.type_inv, x1.short_raw-2.type_inv, c.short_raw-3.type_inv)

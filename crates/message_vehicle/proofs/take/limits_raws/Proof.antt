@@ -8,9 +8,9 @@ use Rattle.message_vehicle.proofs.take.limits_raws.Tie as tie
 returns : tie.Need-returns
 unfolding pad
 returns c =
-    let x2 = c.before in
-    let x1 = x2.before in
-    let x0 = x1.before in
+    let x2 = c in
+    let x1 = x2 in
+    let x0 = x1 in
     simp (to_z-of_z, sfits_of, x0.word_raw.type_inv, x1.word_raw-2.type_inv, x2.word_raw-3.type_inv, c.word_raw-4.type_inv)
     (simp (
       x0.word_raw.ensures,

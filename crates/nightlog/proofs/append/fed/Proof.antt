@@ -3,10 +3,10 @@ use Rattle.std.proofs.Common.{◌≡◌, ◌-◌, ◌≤◌, length, rules}
 use Rattle.nightlog.proofs.append.fed.Statement.{statement}
 use Rattle.nightlog.proofs.append.fed.Tie as tie
 
-abbrev invariant-loop : tie.invariant-loop
+abbrev invariant-loop : tie.invariant-loop-i
 invariant-loop name piece line₀ room₀ out₀ n₀ i₀ line room out n i = (i ≤ length piece) × (length line ≡ length line₀) × (length room ≡ length room₀) × (length out ≡ length out₀)
 
-abbrev decreases-loop : tie.decreases-loop
+abbrev decreases-loop : tie.decreases-loop-i
 decreases-loop name piece line₀ room₀ out₀ n₀ i₀ line room out n i = length piece - i
 
 loop-i-init : tie.Need-loop-i-init invariant-loop decreases-loop

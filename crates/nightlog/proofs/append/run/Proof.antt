@@ -3,10 +3,10 @@ use Rattle.std.proofs.Common.{◌≡◌, length, rules}
 use Rattle.nightlog.proofs.append.run.Statement.{statement}
 use Rattle.nightlog.proofs.append.run.Tie as tie
 
-abbrev invariant-loop : tie.invariant-loop
+abbrev invariant-loop : tie.invariant-loop-turns
 invariant-loop name piece₀ line₀ room₀ out₀ n₀ turns₀ piece line room out n turns = (length piece ≡ length piece₀) × (length line ≡ length line₀) × (length room ≡ length room₀) × (length out ≡ length out₀)
 
-abbrev decreases-loop : tie.decreases-loop
+abbrev decreases-loop : tie.decreases-loop-turns
 decreases-loop name piece₀ line₀ room₀ out₀ n₀ turns₀ piece line room out n turns = turns
 
 loop-turns-init : tie.Need-loop-turns-init invariant-loop decreases-loop

@@ -3,10 +3,10 @@ use Rattle.std.proofs.Common.{◌≡◌, length, rules}
 use Rattle.nightlog.proofs.pieces.records_in.Statement.{statement}
 use Rattle.nightlog.proofs.pieces.records_in.Tie as tie
 
-abbrev invariant-loop : tie.invariant-loop
+abbrev invariant-loop : tie.invariant-loop-turns
 invariant-loop piece shown out₀ c₀ turns₀ out c turns = length out ≡ length out₀
 
-abbrev decreases-loop : tie.decreases-loop
+abbrev decreases-loop : tie.decreases-loop-turns
 decreases-loop piece shown out₀ c₀ turns₀ out c turns = turns
 
 loop-turns-init : tie.Need-loop-turns-init invariant-loop decreases-loop

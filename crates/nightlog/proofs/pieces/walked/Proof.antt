@@ -3,10 +3,10 @@ use Rattle.std.proofs.Common.{◌≡◌, length, rules}
 use Rattle.nightlog.proofs.pieces.walked.Statement.{statement}
 use Rattle.nightlog.proofs.pieces.walked.Tie as tie
 
-abbrev invariant-loop : tie.invariant-loop
+abbrev invariant-loop : tie.invariant-loop-turns
 invariant-loop fd shown name buf₀ out₀ c₀ turns₀ buf out c turns = (length buf ≡ length buf₀) × (length out ≡ length out₀)
 
-abbrev decreases-loop : tie.decreases-loop
+abbrev decreases-loop : tie.decreases-loop-turns
 decreases-loop fd shown name buf₀ out₀ c₀ turns₀ buf out c turns = turns
 
 loop-turns-init : tie.Need-loop-turns-init invariant-loop decreases-loop

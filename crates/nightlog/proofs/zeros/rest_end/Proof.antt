@@ -3,10 +3,10 @@ use Rattle.std.proofs.Common.{◌≤◌, length, rules}
 use Rattle.nightlog.proofs.zeros.rest_end.Statement.{statement}
 use Rattle.nightlog.proofs.zeros.rest_end.Tie as tie
 
-abbrev invariant-loop : tie.invariant-loop
+abbrev invariant-loop : tie.invariant-loop-i
 invariant-loop piece i₀ i = i ≤ length piece
 
-abbrev decreases-loop : tie.decreases-loop
+abbrev decreases-loop : tie.decreases-loop-i
 decreases-loop piece i₀ i = i
 
 loop-i-init : tie.Need-loop-i-init invariant-loop decreases-loop

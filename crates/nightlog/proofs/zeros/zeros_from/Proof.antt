@@ -3,10 +3,10 @@ use Rattle.std.proofs.Common.{◌≡◌, length, rules}
 use Rattle.nightlog.proofs.zeros.zeros_from.Statement.{statement}
 use Rattle.nightlog.proofs.zeros.zeros_from.Tie as tie
 
-abbrev invariant-loop : tie.invariant-loop
+abbrev invariant-loop : tie.invariant-loop-turns
 invariant-loop fd size buf₀ l₀ turns₀ buf l turns = length buf ≡ length buf₀
 
-abbrev decreases-loop : tie.decreases-loop
+abbrev decreases-loop : tie.decreases-loop-turns
 decreases-loop fd size buf₀ l₀ turns₀ buf l turns = turns
 
 loop-turns-init : tie.Need-loop-turns-init invariant-loop decreases-loop

@@ -27,7 +27,7 @@ headed : {b : Head} (c : tie.After-take_head) → c.take_head.result ≡ b
 headed c e =
     let a = c.args in
     let k = c.channel-1.given in
-    let r = stamped c.before.before.before.before k.1 in
+    let r = stamped c.before.before k.1 in
     let h = sym e ∙ c.take_head.ensures in
     (ap (with_head a.s.now (length a.room.now) k.0.0 k.0.1.0) h ∙ r.0, ap (room_by a.s.now a.room.now) h ∙ r.1)
 
@@ -40,7 +40,7 @@ filled : {b : Bytes} (c : tie.After-take_rest) → c.take_rest.result ≡ b
 filled c e =
     let k = c.channel-1.given.0 in
     let i = c.id-1.given in
-    let r = headed c.before.before.before.before.before i.1 in
+    let r = headed c.before.before.before i.1 in
     (ap (with_bytes k.0 k.1.0 i.0.0 i.0.1.0) (sym e ∙ c.take_rest.ensures.0) ∙ r.0, c.take_rest.ensures.1 ∙ r.1)
 
 take_stamp-requires : tie.Need-take_stamp-requires
@@ -53,7 +53,7 @@ enum_told-1 : tie.Need-enum_told-1
 enum_told-1 c = search rules
 
 returns-in_default : tie.Need-returns-in_default
-returns-in_default c = stamped c.before.before c.in_default.is
+returns-in_default c = stamped c.before c.in_default.is
 
 take_head-requires : tie.Need-take_head-requires
 take_head-requires c κs = search rules
@@ -65,7 +65,7 @@ enum_told-in_default-take_head : tie.Need-enum_told-in_default-take_head
 enum_told-in_default-take_head c = search rules
 
 returns-in_default-take_head : tie.Need-returns-in_default-take_head
-returns-in_default-take_head c = headed c.before.before c.in_default-take_head.is
+returns-in_default-take_head c = headed c.before c.in_default-take_head.is
 
 take_rest-requires : tie.Need-take_rest-requires
 take_rest-requires c κs = search rules
@@ -80,13 +80,13 @@ shape_of-room-in_default-take_rest : tie.Need-shape_of-room-in_default-take_rest
 shape_of-room-in_default-take_rest c = search rules
 
 returns-in_default-take_rest : tie.Need-returns-in_default-take_rest
-returns-in_default-take_rest c = filled c.before.before.before.before c.in_default-take_rest.is
+returns-in_default-take_rest c = filled c.before.before.before c.in_default-take_rest.is
 
 shape_of-room : tie.Need-shape_of-room
 shape_of-room c = search rules
 
 returns : tie.Need-returns
-returns c = filled c.before.before.before.before.before c.in-Is-take_rest.is
+returns c = filled c.before.before.before c.in-Is-take_rest.is
 
 pub frame_line_spec : {M : Type 1} → statement M
 frame_line_spec =

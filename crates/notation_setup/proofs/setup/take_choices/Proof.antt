@@ -27,7 +27,7 @@ told1 c e =
     ∙ sym (ap (λ b. cond b (with_sensor a.s.now (field_of 10 a.s.now a.at)) (IsChoices 0 0)) (le-leb a.at (length a.s.now) c.if-at-s.false))
 
 told2 : {b : Last} (c : tie.After-take_interface) → c.take_interface.result ≡ b → with_interface c.in-Is.sensor b ≡ choices_of c.args.s.now c.args.at
-told2 c e = ap (with_interface c.in-Is.sensor) (sym e ∙ c.take_interface.ensures) ∙ told1 c.before.before.before.before c.in-Is.is
+told2 c e = ap (with_interface c.in-Is.sensor) (sym e ∙ c.take_interface.ensures) ∙ told1 c.before.before c.in-Is.is
 
 take_u32-requires : tie.Need-take_u32-requires
 take_u32-requires c κs = search rules
@@ -39,7 +39,7 @@ enum_told-1 : tie.Need-enum_told-1
 enum_told-1 c = search rules
 
 returns-in_default : tie.Need-returns-in_default
-returns-in_default c = told1 c.before.before c.in_default.is
+returns-in_default c = told1 c.before c.in_default.is
 
 take_interface-requires : tie.Need-take_interface-requires
 take_interface-requires c κs = search rules
@@ -51,10 +51,10 @@ enum_told-in_default-take_interface : tie.Need-enum_told-in_default-take_interfa
 enum_told-in_default-take_interface c = search rules
 
 returns-in_default-take_interface : tie.Need-returns-in_default-take_interface
-returns-in_default-take_interface c = told2 c.before.before c.in_default-take_interface.is
+returns-in_default-take_interface c = told2 c.before c.in_default-take_interface.is
 
 returns : tie.Need-returns
-returns c = told2 c.before.before.before c.in-Is-take_interface.is
+returns c = told2 c.before c.in-Is-take_interface.is
 
 pub take_choices_spec : {M : Type 1} → statement M
 take_choices_spec =

@@ -6,11 +6,11 @@ use Rattle.older_controller.proofs.build.id.Tie as tie
 
 returns : tie.Need-returns
 returns c =
-    let x9 = c.before.before in
-    let x7 = x9.before.before in
-    let x5 = x7.before.before in
-    let x3 = x5.before.before in
-    let x1 = x3.before.before in
+    let x9 = c in
+    let x7 = x9 in
+    let x5 = x7 in
+    let x3 = x5 in
+    let x1 = x3 in
     simp (
       to_z-of_z,
       sfits_of,

@@ -8,11 +8,11 @@ use Rattle.older_controller.proofs.take.id_raws.Tie as tie
 returns : tie.Need-returns
 unfolding pad
 returns c =
-    let x4 = c.before in
-    let x3 = x4.before in
-    let x2 = x3.before in
-    let x1 = x2.before in
-    let x0 = x1.before in
+    let x4 = c in
+    let x3 = x4 in
+    let x2 = x3 in
+    let x1 = x2 in
+    let x0 = x1 in
     simp (to_z-of_z, sfits_of, x0.byte_raw.type_inv, x1.byte_raw-2.type_inv, x2.byte_raw-3.type_inv, x3.byte_raw-4.type_inv, x4.byte_raw-5.type_inv, c.byte_raw-6.type_inv)
     (simp (
       x0.byte_raw.ensures,

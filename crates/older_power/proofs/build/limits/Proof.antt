@@ -6,8 +6,8 @@ use Rattle.older_power.proofs.build.limits.Tie as tie
 
 returns : tie.Need-returns
 returns c =
-    let x3 = c.before.before in
-    let x1 = x3.before.before in
+    let x3 = c in
+    let x1 = x3 in
     simp (to_z-of_z, sfits_of, x3.short.type_inv)
     (simp (
       to_z-of_z,

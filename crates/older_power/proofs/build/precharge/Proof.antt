@@ -6,7 +6,7 @@ use Rattle.older_power.proofs.build.precharge.Tie as tie
 
 returns : tie.Need-returns
 returns c =
-    let x1 = c.before.before in
+    let x1 = c in
     simp (
       to_z-of_z,
       sfits_of,

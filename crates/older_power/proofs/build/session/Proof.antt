@@ -6,13 +6,13 @@ use Rattle.older_power.proofs.build.session.Tie as tie
 
 returns : tie.Need-returns
 returns c =
-    let x11 = c.before.before in
-    let x9 = x11.before.before in
-    let x7 = x9.before.before in
-    let x5 = x7.before.before in
-    let x4 = x5.before in
-    let x2 = x4.before.before in
-    let x1 = x2.before in
+    let x11 = c in
+    let x9 = x11 in
+    let x7 = x9 in
+    let x5 = x7 in
+    let x4 = x5 in
+    let x2 = x4 in
+    let x1 = x2 in
     simp (
       to_z-of_z,
       sfits_of,

@@ -6,12 +6,12 @@ use Rattle.older_power.proofs.build.status.Tie as tie
 
 returns : tie.Need-returns
 returns c =
-    let x10 = c.before.before in
-    let x9 = x10.before in
-    let x7 = x9.before.before in
-    let x5 = x7.before.before in
-    let x3 = x5.before.before in
-    let x1 = x3.before.before in
+    let x10 = c in
+    let x9 = x10 in
+    let x7 = x9 in
+    let x5 = x7 in
+    let x3 = x5 in
+    let x1 = x3 in
     simp (to_z-of_z, sfits_of, x3.short.type_inv, x5.celsius.type_inv, x7.celsius-2.type_inv)
     (simp (
       to_z-of_z,

@@ -8,7 +8,7 @@ use Rattle.older_power.proofs.take.change_raws.Tie as tie
 returns : tie.Need-returns
 unfolding pad
 returns c =
-    let x0 = c.before in
+    let x0 = c in
     simp (to_z-of_z, sfits_of, c.byte_raw.type_inv)
     (simp (
       x0.status_number.ensures,

@@ -8,8 +8,8 @@ use Rattle.older_power.proofs.take.limits_raws.Tie as tie
 returns : tie.Need-returns
 unfolding pad
 returns c =
-    let x2 = c.before in
-    let x0 = x2.before.before in
+    let x2 = c in
+    let x0 = x2 in
     -- the message's signed fields fit
     let g = x2.struct_told-1.given in
     simp (to_z-of_z, sfits_of, x0.word_raw.type_inv, x2.short_raw.type_inv, c.wide_raw.type_inv)

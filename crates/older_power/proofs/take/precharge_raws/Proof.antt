@@ -8,7 +8,7 @@ use Rattle.older_power.proofs.take.precharge_raws.Tie as tie
 returns : tie.Need-returns
 unfolding pad
 returns c =
-    let x0 = c.before in
+    let x0 = c in
     simp (to_z-of_z, sfits_of, x0.word_raw.type_inv, c.word_raw-2.type_inv)
     (simp (
       x0.word_raw.ensures,

@@ -8,13 +8,13 @@ use Rattle.older_power.proofs.take.session_raws.Tie as tie
 returns : tie.Need-returns
 unfolding pad
 returns c =
-    let x6 = c.before in
-    let x5 = x6.before in
-    let x4 = x5.before in
-    let x3 = x4.before in
-    let x2 = x3.before in
-    let x1 = x2.before in
-    let x0 = x1.before in
+    let x6 = c in
+    let x5 = x6 in
+    let x4 = x5 in
+    let x3 = x4 in
+    let x2 = x3 in
+    let x1 = x2 in
+    let x0 = x1 in
     simp (to_z-of_z, sfits_of, x1.byte_raw.type_inv, x3.byte_raw-2.type_inv, x4.word_raw.type_inv, x5.word_raw-2.type_inv, x6.capacity_raw.type_inv, c.byte_raw-3.type_inv)
     (simp (
       x0.protocol_number.ensures,

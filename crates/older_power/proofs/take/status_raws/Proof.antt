@@ -8,12 +8,12 @@ use Rattle.older_power.proofs.take.status_raws.Tie as tie
 returns : tie.Need-returns
 unfolding pad
 returns c =
-    let x8 = c.before in
-    let x7 = x8.before in
-    let x6 = x7.before in
-    let x4 = x6.before.before in
-    let x2 = x4.before.before in
-    let x0 = x2.before.before in
+    let x8 = c in
+    let x7 = x8 in
+    let x6 = x7 in
+    let x4 = x6 in
+    let x2 = x4 in
+    let x0 = x2 in
     -- the message's signed fields fit
     let g = x2.struct_told-1.given in
     simp (to_z-of_z, sfits_of, x0.word_raw.type_inv, x2.short_raw.type_inv, x4.celsius_raw.type_inv, x6.celsius_raw-2.type_inv, x8.byte_raw.type_inv, c.kilohms_raw.type_inv)

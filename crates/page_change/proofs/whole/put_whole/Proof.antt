@@ -32,7 +32,7 @@ shape_of-bytes c = search rules
 
 returns : tie.Need-returns
 returns c =
-    let s = c.before.before.before.before.before in
+    let s = c in
     let bs = s.args.bytes.now in
     let a = s.args.at in
     let k = s.args.k in

@@ -29,7 +29,7 @@ whole c = edges c.args.r c.is_whole.result c.is_whole.ensures c.if-is_whole.true
 
 facts : (c : tie.Then-is_whole) → (let a = c.args in WholeFacts a.r.big (length a.bytes.now) a.r.start a.r.width)
 facts c =
-    let s = c.before.before.before in
+    let s = c in
     let w = whole c in
     whole_facts s.args.r.big (length s.args.bytes.now) s.args.r.start s.args.r.width w.1 w.0 s.requires.1
 
@@ -50,10 +50,10 @@ shape_of-bytes-then-is_whole c = search rules
 
 returns-then-is_whole : tie.Need-returns-then-is_whole
 returns-then-is_whole c =
-    let p = c.before.before in
+    let p = c in
     let t = p.before.before.before.before in
-    let k = t.before.before in
-    let s = k.before in
+    let k = t in
+    let s = k in
     let r = s.args.r in
     let bs = s.args.bytes.now in
     let w = whole t in
@@ -69,7 +69,7 @@ shape_of-bytes c = search rules
 
 returns : tie.Need-returns
 returns c =
-    let p = c.before.before in
+    let p = c in
     let a = p.args in
     p.store.ensures ∙ stored_all a.r.big a.bytes.now a.m
 

@@ -17,13 +17,13 @@ enum_told-1 c = search rules
 
 returns-in-Start : tie.Need-returns-in-Start
 returns-in-Start c =
-    let f = c.before.before.before in
+    let f = c in
     let a = f.args in
     ap (λ (o : Offence). judged_by a.kind a.n o 0) (sym c.in-Start.is ∙ f.offence-o.ensures)
 
 returns : tie.Need-returns
 returns c =
-    let f = c.before.before in
+    let f = c in
     let a = f.args in
     ap (λ (o : Offence). judged_by a.kind a.n o 0) (sym c.in_default.is ∙ f.offence-o.ensures)
 

@@ -21,30 +21,30 @@ enum_told-1 c = search rules
 
 returns-in-Start : tie.Need-returns-in-Start
 returns-in-Start c =
-    let s = c.before.before.before in
+    let s = c in
     let a = s.args in
     sym (ap (λ (o : Offence). judged_by a.kind a.n o s.sifted-s.result.rest) c.in-Start.is) ∙ s.sifted-s.ensures
 
 -- what `sifted` found, where no signal offends
 left : (c : tie.In_default) → (
-    let s = c.before.before in
+    let s = c.before in
     let a = s.args in
     judged_by a.kind a.n Nothing s.sifted-s.result.rest ≡ judged_by a.kind a.n s.sifted-s.result.offence s.sifted-s.result.rest)
 left c =
-    let s = c.before.before in
+    let s = c in
     let a = s.args in
     sym (ap (λ (o : Offence). judged_by a.kind a.n o s.sifted-s.result.rest) c.in_default.is)
 
 returns-then-s-ne0 : tie.Need-returns-then-s-ne0
 returns-then-s-ne0 c =
-    let s = c.before.before.before.before in
+    let s = c in
     let a = s.args in
     let e : judged_by a.kind a.n Nothing s.sifted-s.result.rest ≡ Refused UncoveredBit = rw (ne_eqb s.sifted-s.result.rest 0 c.if-s-ne0.true) in
     sym e ∙ left c.before.before ∙ s.sifted-s.ensures
 
 returns : tie.Need-returns
 returns c =
-    let s = c.before.before.before.before in
+    let s = c in
     let a = s.args in
     let e : judged_by a.kind a.n Nothing s.sifted-s.result.rest ≡ Frame a.kind a.n = rw (eq-eqb s.sifted-s.result.rest 0 c.if-s-ne0.false) in
     sym e ∙ left c.before.before ∙ s.sifted-s.ensures

@@ -26,7 +26,7 @@ held : (c : tie.After-label_holds) → (
     let a = c.args in
     takes (row_of a.l).labels (bits_at a.n (row_of a.l)) ≡ c.label_holds.result)
 held c =
-    let r = c.before.before in
+    let r = c in
     sym
     (c.label_holds.ensures
     ∙ ap (takes r.row_of-r.result.labels) c.signal_bits.ensures

@@ -53,7 +53,7 @@ rows-smaller : tie.Need-rows-smaller invariant-rows decreases-rows
 rows-smaller c = omega arith
 
 held : (c : tie.After-label_holds invariant-rows decreases-rows) → (
-    let k = c.before.before.before.before in
+    let k = c in
     takes k.row_to_sift-r.result.labels (bits_at k.args.n k.row_to_sift-r.result) ≡ c.label_holds.result)
 held c =
     let r = c.row_to_sift-r.result in
@@ -62,11 +62,11 @@ held c =
 rows-preserved : tie.Need-rows-preserved invariant-rows decreases-rows
 unfolding offence_of cleared
 rows-preserved c =
-    let x = c.before in
+    let x = c in
     let t = x.before in
-    let q = t.before.before in
-    let k = q.before.before in
-    let a = k.before.before in
+    let q = t in
+    let k = q in
+    let a = k in
     let g = a.args in
     let r = k.row_to_sift-r.result in
     let f = fine_at a.rows.i r (omega arith) k.row_to_sift-r.ensures in
@@ -87,15 +87,15 @@ ended kind n rest l m e o s = ap₂ (judged_by kind n) (sym (ap (offence_of n) e
 
 returns-then-i-ge-ROW_COUNT : tie.Need-returns-then-i-ge-ROW_COUNT invariant-rows decreases-rows
 returns-then-i-ge-ROW_COUNT c =
-    let a = c.before in
+    let a = c in
     let g = a.args in
     ended g.kind g.n a.rows.rest (block g.kind (drop a.rows.i rows)) (block g.kind (drop g.at rows))
     (block_end g.kind a.rows.i c.if-i-ge-ROW_COUNT.true) a.rows.invariant.0 a.rows.invariant.1
 
 returns-then-r-kind : tie.Need-returns-then-r-kind invariant-rows decreases-rows
 returns-then-r-kind c =
-    let k = c.before.before in
-    let a = k.before.before in
+    let k = c in
+    let a = k in
     let g = a.args in
     ended g.kind g.n a.rows.rest (block g.kind (drop a.rows.i rows)) (block g.kind (drop g.at rows))
     (block_out g.kind a.rows.i k.row_to_sift-r.result (omega arith) k.row_to_sift-r.ensures c.if-r-kind.true) a.rows.invariant.0 a.rows.invariant.1
@@ -103,11 +103,11 @@ returns-then-r-kind c =
 returns-then-not-label_holds : tie.Need-returns-then-not-label_holds invariant-rows decreases-rows
 unfolding offence_of
 returns-then-not-label_holds c =
-    let b = c.before in
+    let b = c in
     let t = b.before in
-    let q = t.before.before in
-    let k = q.before.before in
-    let a = k.before.before in
+    let q = t in
+    let k = q in
+    let a = k in
     let g = a.args in
     let l = block g.kind (drop g.at rows) in
     let e = block_in g.kind a.rows.i k.row_to_sift-r.result (omega arith) k.row_to_sift-r.ensures q.if-r-kind.false in

@@ -11,7 +11,7 @@ get-requires c κs = search rules
 
 returns : tie.Need-returns
 returns c =
-    let s = c.before in
+    let s = c in
     let r = s.args.r in
     c.get.ensures ∙ get_in s.args.n (lowest r) r.width s.requires.0 s.requires.2
 

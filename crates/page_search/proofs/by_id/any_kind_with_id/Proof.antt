@@ -17,8 +17,8 @@ enum_known-k c = search rules
 
 returns-in-At : tie.Need-returns-in-At
 returns-in-At c =
-    let k = c.before in
-    let f = k.before.before in
+    let k = c in
+    let f = k in
     let a = f.args in
     scan_is 0 kind_count (first_at (has_id a.id a.extended) 0 rows) k.in-At.k (sym f.kind_with_id.ensures ∙ k.in-At.is)
 
@@ -33,8 +33,8 @@ enum_known-k-in-At-older_kind_with_id c = search rules
 
 returns-in-At-older_kind_with_id : tie.Need-returns-in-At-older_kind_with_id
 returns-in-At-older_kind_with_id c =
-    let k = c.before in
-    let o = k.before.before in
+    let k = c in
+    let o = k in
     let a = o.args in
     scan_is kind_count rest_kind (first_at (has_id a.id a.extended) 0 rows) k.in-At-older_kind_with_id.k (sym o.older_kind_with_id.ensures ∙ k.in-At-older_kind_with_id.is)
 
@@ -46,10 +46,10 @@ rest_kind_with_id-requires c κs = search rules
 
 returns : tie.Need-returns
 returns c =
-    let e = c.before in
-    let o = e.before.before in
-    let t = o.before in
-    let f = t.before.before in
+    let e = c in
+    let o = e in
+    let t = o in
+    let f = t in
     let a = f.args in
     let all = first_at (has_id a.id a.extended) 0 rows in
     c.rest_kind_with_id.ensures

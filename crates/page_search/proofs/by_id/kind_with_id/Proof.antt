@@ -41,9 +41,9 @@ messages-smaller c = omega arith
 
 messages-preserved : tie.Need-messages-preserved invariant-messages decreases-messages
 messages-preserved c =
-    let n = c.before in
-    let a = n.before.before.before in
-    let w = a.before in
+    let n = c in
+    let a = n in
+    let w = a in
     let g = w.args in
     let k = a.messages.k in
     one_more_lem (λ j. kind_key j ≡ key_of g.id g.extended) k a.messages.invariant
@@ -51,16 +51,16 @@ messages-preserved c =
 
 returns-then-k-ge-KIND_COUNT : tie.Need-returns-then-k-ge-KIND_COUNT invariant-messages decreases-messages
 returns-then-k-ge-KIND_COUNT c =
-    let a = c.before in
+    let a = c in
     let g = a.args in
     scan_none 0 kind_count g.id g.extended
     (λ j low high e. a.messages.invariant j (omega (arith, c.if-k-ge-KIND_COUNT.true)) e)
 
 returns-then-key-wanted : tie.Need-returns-then-key-wanted invariant-messages decreases-messages
 returns-then-key-wanted c =
-    let n = c.before in
-    let a = n.before.before.before in
-    let w = a.before in
+    let n = c in
+    let a = n in
+    let w = a in
     let g = w.args in
     let k = a.messages.k in
     scan_found 0 kind_count g.id g.extended k (omega arith) (omega arith) (omega arith)

@@ -17,7 +17,7 @@ enum_told-1 c = search rules
 
 returns-in_default : tie.Need-returns-in_default
 returns-in_default c =
-    let f = c.before.before in
+    let f = c in
     let a = f.args in
     message_none a.iface (first_at (has_id a.id a.extended) 0 rows) (sym f.with_id.ensures ∙ c.in_default.is)
 
@@ -26,8 +26,8 @@ is_on-requires c κs = search rules
 
 returns-then-is_on : tie.Need-returns-then-is_on
 returns-then-is_on c =
-    let k = c.before.before.before in
-    let f = k.before.before in
+    let k = c in
+    let f = k in
     let a = f.args in
     let g = k.kind-1.given.0 in
     message_own a.iface (first_at (has_id a.id a.extended) 0 rows) g.0 g.1.0 g.1.1.0 g.1.1.1.0 (sym f.with_id.ensures ∙ k.in-At.is)
@@ -35,8 +35,8 @@ returns-then-is_on c =
 
 returns : tie.Need-returns
 returns c =
-    let k = c.before.before.before in
-    let f = k.before.before in
+    let k = c in
+    let f = k in
     let a = f.args in
     let g = k.kind-1.given.0 in
     message_other a.iface (first_at (has_id a.id a.extended) 0 rows) g.0 g.1.0 g.1.1.0 g.1.1.1.0 (sym f.with_id.ensures ∙ k.in-At.is)

@@ -44,9 +44,9 @@ messages-smaller c = omega arith
 
 messages-preserved : tie.Need-messages-preserved invariant-messages decreases-messages
 messages-preserved c =
-    let n = c.before in
-    let a = n.before.before.before in
-    let w = a.before in
+    let n = c in
+    let a = n in
+    let w = a in
     let g = w.args in
     let k = a.messages.k in
     one_more_lem (λ j. kind_key (rest_kind + j) ≡ key_of g.id g.extended) k a.messages.invariant
@@ -54,7 +54,7 @@ messages-preserved c =
 
 returns-then-k-ge-REST_COUNT : tie.Need-returns-then-k-ge-REST_COUNT invariant-messages decreases-messages
 returns-then-k-ge-REST_COUNT c =
-    let a = c.before in
+    let a = c in
     let g = a.args in
     scan_none rest_kind message_count g.id g.extended
     (λ j low high e. let s : rest_kind + (j - rest_kind) ≡ j = omega arith in
@@ -62,9 +62,9 @@ returns-then-k-ge-REST_COUNT c =
 
 returns-then-key-wanted : tie.Need-returns-then-key-wanted invariant-messages decreases-messages
 returns-then-key-wanted c =
-    let n = c.before in
-    let a = n.before.before.before in
-    let w = a.before in
+    let n = c in
+    let a = n in
+    let w = a in
     let g = w.args in
     let k = a.messages.k in
     scan_found rest_kind message_count g.id g.extended (rest_kind + k) (omega arith) (omega arith) (omega arith)

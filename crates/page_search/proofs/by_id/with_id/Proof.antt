@@ -21,7 +21,7 @@ enum_told-1 c = search rules
 
 returns-in_default : tie.Need-returns-in_default
 returns-in_default c =
-    let f = c.before.before in
+    let f = c in
     let a = f.args in
     kind_nothing (first_at (has_id a.id a.extended) 0 rows) (sym f.any_kind_with_id.ensures ∙ c.in_default.is)
 
@@ -30,8 +30,8 @@ message_at-m-requires c κs = search rules
 
 returns : tie.Need-returns
 returns c =
-    let k = c.before.before in
-    let f = k.before.before in
+    let k = c in
+    let f = k in
     let a = f.args in
     let kind = k.in-At.k in
     ap (λ (m : Message). message.At kind m.4 m.2 m.3) c.message_at-m.ensures

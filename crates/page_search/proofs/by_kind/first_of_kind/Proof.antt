@@ -15,7 +15,7 @@ message_at-requires c κs = search rules
 
 returns : tie.Need-returns
 returns c =
-    let t = c.before in
+    let t = c in
     ap (λ (m : Message). At m.4) c.message_at.ensures ∙ sym (first_place t.args.kind t.if-kind-ge-MESSAGE_COUNT.false)
 
 pub first_of_kind_spec : {M : Type 1} → statement M

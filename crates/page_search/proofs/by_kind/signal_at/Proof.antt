@@ -56,14 +56,14 @@ enum_told-1 c = search rules
 
 returns-in_default : tie.Need-returns-in_default invariant-rows decreases-rows
 returns-in_default c =
-    let f = c.before.before in
+    let f = c in
     let g = f.args in
     kind_nothing g.kind (is_signal g.kind g.start) (no_kind g.kind g.start) (sym f.first_of_kind.ensures ∙ c.in_default.is)
 
 rows-init : tie.Need-rows-init invariant-rows decreases-rows
 rows-init c =
-    let k = c.before in
-    let f = k.before.before in
+    let k = c in
+    let f = k in
     let g = f.args in
     kind_search g.kind (is_signal g.kind g.start) (no_kind g.kind g.start) _ (sym f.first_of_kind.ensures ∙ k.in-At.is)
 
@@ -78,13 +78,13 @@ rows-smaller c = omega arith
 
 -- the arguments, from the loop's head
 asked : (a : tie.At-rows invariant-rows decreases-rows) → tie.Start invariant-rows decreases-rows
-asked a = a.before.before.before.before.before
+asked a = a.before.before.before
 
 rows-preserved : tie.Need-rows-preserved invariant-rows decreases-rows
 unfolding asked
 rows-preserved c =
-    let q = c.before.before in
-    let k = q.before.before in
+    let q = c in
+    let k = q in
     let a = k.before.before in
     let g = (asked a).args in
     let r = k.row_to_seek-r.result in
@@ -104,7 +104,7 @@ returns-then-i-ge-ROW_COUNT c =
 returns-then-r-kind : tie.Need-returns-then-r-kind invariant-rows decreases-rows
 unfolding asked
 returns-then-r-kind c =
-    let k = c.before.before in
+    let k = c in
     let a = k.before.before in
     let g = (asked a).args in
     let i = a.rows.i in
@@ -115,8 +115,8 @@ returns-then-r-kind c =
 returns-then-r-start : tie.Need-returns-then-r-start invariant-rows decreases-rows
 unfolding asked
 returns-then-r-start c =
-    let q = c.before.before in
-    let k = q.before.before in
+    let q = c in
+    let k = q in
     let a = k.before.before in
     let g = (asked a).args in
     let r = k.row_to_seek-r.result in

@@ -15,7 +15,7 @@ overflow_shr-result c = search rules
 
 returns : tie.Need-returns
 returns c =
-    let m = c.before in
+    let m = c in
     let a = m.args in
     rw (c.at_most_63.ensures, m.labels_or_all.ensures) (label_test a.labels a.v m.requires)
 

@@ -28,9 +28,9 @@ overflow_shl-result-2 c = search rules
 
 returns : tie.Need-returns
 returns c =
-    let b = c.before in
-    let o = b.before.before in
-    let s = o.before in
+    let b = c in
+    let o = b in
+    let s = o in
     let r = s.args.r in
     let n = s.args.n in
     let z = s.args.z in

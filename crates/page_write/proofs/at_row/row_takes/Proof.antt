@@ -23,7 +23,7 @@ overflow_add-most c = search rules
 
 overflow_mul-r : tie.Need-overflow_mul-r
 overflow_mul-r c =
-    let o = c.before.before in
+    let o = c in
     let r = o.args.r in
     let p = o.requires.0 in
     record { fits = rw (below r.signed r.width o.ones-most.result p.0 o.ones-most.ensures) (below_fits r.signed r.width p.1) }
@@ -36,9 +36,9 @@ answered : (c : tie.After-wrapping_add_u64) → (
     let a = o.args in
     leb c.wrapping_add_u64.result o.ones-most.result ≡ fits_in a.r.signed a.r.width a.z)
 answered c =
-    let w = c.before.before in
-    let o = w.before in
-    let s = o.before in
+    let w = c in
+    let o = w in
+    let s = o in
     let r = s.args.r in
     let p = s.requires.0 in
     ap₂ leb
@@ -59,9 +59,9 @@ has_label-requires c κs = search rules
 returns : tie.Need-returns
 returns c =
     let t = c.before.before in
-    let w = t.before.before in
-    let o = w.before in
-    let s = o.before in
+    let w = t in
+    let o = w in
+    let s = o in
     let r = s.args.r in
     let f : fits_in r.signed r.width s.args.z ≡ true
     = sym (answered t) ∙ le-leb t.wrapping_add_u64.result o.ones-most.result c.if-most-wrapping_add_u64.false in

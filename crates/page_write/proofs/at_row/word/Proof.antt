@@ -11,7 +11,7 @@ bits-requires c κs = search rules
 
 returns : tie.Need-returns
 returns c =
-    let s = c.before in
+    let s = c in
     c.bits.ensures
     ∙ ap (bits_of true 64) (to_z-of_z s.ranges.z)
     ∙ bits_in_lem true 64 s.args.z (omega arith) (omega arith) (lt-ltb (mag s.args.z) (2 ^ 63) s.ranges.z.sfits)

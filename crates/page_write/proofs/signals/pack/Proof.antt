@@ -72,9 +72,9 @@ step : (c : tie.After-z-1 invariant-rows decreases-rows) → (
     pack_from a.rows.n (k.row_at-r.result ∷ block g.kind (drop (a.rows.i + 1) rows))
     (get_or g.t3 a.rows.j (pos 0) ∷ drop (a.rows.j + 1) g.t3) ≡ pack_of (block g.kind (drop g.at rows)) g.t3)
 step c =
-    let q = c.before.before in
-    let k = q.before.before in
-    let a = k.before.before in
+    let q = c in
+    let k = q in
+    let a = k in
     let g = a.args in
     let room : a.rows.j < length g.t3 = omega (arith, full a.before, c.if-j-ge16.false) in
     sym
@@ -85,16 +85,16 @@ step c =
 
 told : (c : tie.After-row_takes invariant-rows decreases-rows) → (
     let k = c.before.before.before.before.before in
-    let a = k.before.before in
+    let a = k in
     row_takes k.row_at-r.result (get_or a.args.t3 a.rows.j (pos 0)) ≡ c.row_takes.result)
 told c =
-    let k = c.before.before.before.before.before in
+    let k = c in
     sym (c.row_takes.ensures ∙ ap (row_takes k.row_at-r.result) (to_z-of_z {w = w64} (record { sfits = c.z-1.given })))
 
 put_raw-n-requires : tie.Need-put_raw-n-requires invariant-rows decreases-rows
 put_raw-n-requires c κs =
-    let t = c.before in
-    let k = t.before.before.before.before.before in
+    let t = c in
+    let k = t in
     (fine_at _ _ (omega arith) k.row_at-r.ensures, sym t.row_takes.ensures ∙ not-false t.row_takes.result c.if-not-row_takes.false-raw)
 
 overflow_add-j : tie.Need-overflow_add-j invariant-rows decreases-rows
@@ -109,8 +109,8 @@ rows-smaller c = omega arith
 rows-preserved : tie.Need-rows-preserved invariant-rows decreases-rows
 rows-preserved c =
     let t = c.before.before in
-    let k = t.before.before.before.before.before in
-    let a = k.before.before in
+    let k = t in
+    let a = k in
     let g = a.args in
     let r = k.row_at-r.result in
     let z = get_or g.t3 a.rows.j (pos 0) in
@@ -123,7 +123,7 @@ rows-preserved c =
 
 returns-then-i-ge-ROW_COUNT : tie.Need-returns-then-i-ge-ROW_COUNT invariant-rows decreases-rows
 returns-then-i-ge-ROW_COUNT c =
-    let a = c.before in
+    let a = c in
     let g = a.args in
     sym
     (ap (λ (l : List Row). pack_from a.rows.n l (drop a.rows.j g.t3)) (block_end g.kind a.rows.i c.if-i-ge-ROW_COUNT.true)
@@ -132,8 +132,8 @@ returns-then-i-ge-ROW_COUNT c =
 
 returns-then-r-kind : tie.Need-returns-then-r-kind invariant-rows decreases-rows
 returns-then-r-kind c =
-    let k = c.before.before in
-    let a = k.before.before in
+    let k = c in
+    let a = k in
     let g = a.args in
     let e = block_out g.kind a.rows.i k.row_at-r.result (omega arith) k.row_at-r.ensures c.if-r-kind.true in
     sym
@@ -142,9 +142,9 @@ returns-then-r-kind c =
 
 returns-then-j-ge16 : tie.Need-returns-then-j-ge16 invariant-rows decreases-rows
 returns-then-j-ge16 c =
-    let q = c.before in
-    let k = q.before.before in
-    let a = k.before.before in
+    let q = c in
+    let k = q in
+    let a = k in
     let g = a.args in
     let over : length g.t3 ≤ a.rows.j = omega (arith, full a.before, c.if-j-ge16.true) in
     sym
@@ -157,8 +157,8 @@ returns-then-j-ge16 c =
 returns-then-not-row_takes : tie.Need-returns-then-not-row_takes invariant-rows decreases-rows
 returns-then-not-row_takes c =
     let t = c.before in
-    let k = t.before.before.before.before.before in
-    let a = k.before.before in
+    let k = t in
+    let a = k in
     let g = a.args in
     sym
     (from_refused a.rows.n k.row_at-r.result (block g.kind (drop (a.rows.i + 1) rows)) (get_or g.t3 a.rows.j (pos 0))

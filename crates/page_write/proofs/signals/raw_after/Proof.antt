@@ -20,17 +20,17 @@ row_at-r-requires c κs = search rules
 
 returns-then-r-kind : tie.Need-returns-then-r-kind
 returns-then-r-kind c =
-    let k = c.before.before in
+    let k = c in
     let g = k.args in
     sym (number_out g.n g.kind g.place g.at (inr (λ e. c.if-r-kind.true (ap (λ (r : Row). r.kind) k.row_at-r.ensures ∙ e))))
 
 signal_whole-requires : tie.Need-signal_whole-requires
-signal_whole-requires c κs = let k = c.before.before in fine_at _ _ k.if-i-ge-ROW_COUNT.false k.row_at-r.ensures
+signal_whole-requires c κs = let k = c in fine_at _ _ k.if-i-ge-ROW_COUNT.false k.row_at-r.ensures
 
 returns : tie.Need-returns
 returns c =
-    let q = c.before in
-    let k = q.before.before in
+    let q = c in
+    let k = q in
     let g = k.args in
     let e = k.row_at-r.ensures in
     to_z-of_z {w = w64} (record { sfits = c.signal_whole.type_inv })

@@ -16,7 +16,7 @@ whole-requires c κs = search rules
 
 returns : tie.Need-returns
 returns c =
-    let s = c.before.before in
+    let s = c in
     let r = s.args.r in
     let n = s.args.n in
     to_z-of_z {w = w64} (record { sfits = c.whole.type_inv })

@@ -66,9 +66,9 @@ rows-smaller c = omega arith
 rows-preserved : tie.Need-rows-preserved invariant-rows decreases-rows
 unfolding wholes_of
 rows-preserved c =
-    let q = c.before in
-    let k = q.before.before in
-    let a = k.before.before.before in
+    let q = c in
+    let k = q in
+    let a = k in
     let g = a.args in
     let w = c.signal_whole.result in
     let e = block_in g.kind a.rows.i k.row_to_unpack-r.result (omega arith) k.row_to_unpack-r.ensures q.if-r-kind.false in
@@ -81,14 +81,14 @@ rows-preserved c =
 returns-then-i-ge-ROW_COUNT : tie.Need-returns-then-i-ge-ROW_COUNT invariant-rows decreases-rows
 unfolding wholes_of
 returns-then-i-ge-ROW_COUNT c =
-    let a = c.before in
+    let a = c in
     let g = a.args in
     sym (ap (λ (l : List Row). sets a.rows.raws a.rows.j (wholes_of g.n l)) (block_end g.kind a.rows.i c.if-i-ge-ROW_COUNT.true))
     ∙ a.rows.invariant.1
 
 returns-then-j-ge16 : tie.Need-returns-then-j-ge16 invariant-rows decreases-rows
 returns-then-j-ge16 c =
-    let a = c.before.before in
+    let a = c in
     let g = a.args in
     let h : length a.rows.raws ≤ a.rows.j = omega (arith, a.rows.invariant.0, c.if-j-ge16.true) in
     sym (sets_out a.rows.raws a.rows.j (wholes_of g.n (block g.kind (drop a.rows.i rows))) h) ∙ a.rows.invariant.1
@@ -96,8 +96,8 @@ returns-then-j-ge16 c =
 returns-then-r-kind : tie.Need-returns-then-r-kind invariant-rows decreases-rows
 unfolding wholes_of
 returns-then-r-kind c =
-    let k = c.before.before in
-    let a = k.before.before.before in
+    let k = c in
+    let a = k in
     let g = a.args in
     let e = block_out g.kind a.rows.i k.row_to_unpack-r.result (omega arith) k.row_to_unpack-r.ensures c.if-r-kind.true in
     sym (ap (λ (l : List Row). sets a.rows.raws a.rows.j (wholes_of g.n l)) e) ∙ a.rows.invariant.1

@@ -16,31 +16,31 @@ returns-in-Limits c = rw (sym c.role_of.ensures ∙ c.in-Limits.is)
 returns-in-Status : tie.Need-returns-in-Status
 unfolding with_frame session_after
 returns-in-Status c =
-    let e = c.before in
+    let e = c in
     rw (sym e.role_of.ensures ∙ e.in-Status.is, c.kept_put-g.ensures)
 
 returns-in-Command : tie.Need-returns-in-Command
 unfolding with_frame session_after
 returns-in-Command c =
-    let e = c.before in
+    let e = c in
     rw (sym e.role_of.ensures ∙ e.in-Command.is, c.kept_put-g-in-Command.ensures)
 
 returns-in-Opening : tie.Need-returns-in-Opening
 unfolding with_frame session_after
 returns-in-Opening c =
-    let e = c.before in
+    let e = c in
     rw (sym e.role_of.ensures ∙ e.in-Opening.is, c.opened_by-g.ensures)
 
 returns-in-Finished : tie.Need-returns-in-Finished
 unfolding with_frame session_after
 returns-in-Finished c =
-    let e = c.before in
+    let e = c in
     rw (sym e.role_of.ensures ∙ e.in-Finished.is, c.no_session-g.ensures)
 
 returns-in-Stop : tie.Need-returns-in-Stop
 unfolding with_frame session_after
 returns-in-Stop c =
-    let e = c.before in
+    let e = c in
     rw (sym e.role_of.ensures ∙ e.in-Stop.is, c.kept_put-g-in-Stop.ensures)
 
 returns-in-Other : tie.Need-returns-in-Other

@@ -5,10 +5,10 @@ use Rattle.page_table.specs.Table.{signal_count}
 use Rattle.readings.proofs.show.raws.Statement.{statement}
 use Rattle.readings.proofs.show.raws.Tie as tie
 
-abbrev invariant-loop : tie.invariant-loop
+abbrev invariant-loop : tie.invariant-loop-j
 invariant-loop zs j₀ j = j ≤ signal_count
 
-abbrev decreases-loop : tie.decreases-loop
+abbrev decreases-loop : tie.decreases-loop-j
 decreases-loop zs j₀ j = signal_count - j
 
 loop-j-init : tie.Need-loop-j-init invariant-loop decreases-loop

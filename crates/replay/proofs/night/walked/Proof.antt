@@ -3,10 +3,10 @@ use Rattle.std.proofs.Common.{◌≡◌, length, rules}
 use Rattle.replay.proofs.night.walked.Statement.{statement}
 use Rattle.replay.proofs.night.walked.Tie as tie
 
-abbrev invariant-loop : tie.invariant-loop
+abbrev invariant-loop : tie.invariant-loop-turns
 invariant-loop fd watched name buf₀ words₀ counts₀ out₀ n₀ turns₀ buf words counts out n turns = (length buf ≡ length buf₀) × (length words ≡ length words₀) × (length counts ≡ length counts₀) × (length out ≡ length out₀)
 
-abbrev decreases-loop : tie.decreases-loop
+abbrev decreases-loop : tie.decreases-loop-turns
 decreases-loop fd watched name buf₀ words₀ counts₀ out₀ n₀ turns₀ buf words counts out n turns = turns
 
 loop-turns-init : tie.Need-loop-turns-init invariant-loop decreases-loop

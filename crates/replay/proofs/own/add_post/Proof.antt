@@ -4,10 +4,10 @@ use Rattle.rules.specs.After.{count_count}
 use Rattle.replay.proofs.own.add_post.Statement.{statement}
 use Rattle.replay.proofs.own.add_post.Tie as tie
 
-abbrev invariant-loop : tie.invariant-loop
+abbrev invariant-loop : tie.invariant-loop-k
 invariant-loop sums₀ counts k₀ sums k = length sums ≡ length sums₀
 
-abbrev decreases-loop : tie.decreases-loop
+abbrev decreases-loop : tie.decreases-loop-k
 decreases-loop sums₀ counts k₀ sums k = count_count - k
 
 loop-k-init : tie.Need-loop-k-init invariant-loop decreases-loop

@@ -4,10 +4,10 @@ use Rattle.watch_rules.specs.Table.{post_count}
 use Rattle.replay.proofs.own.add_posts.Statement.{statement}
 use Rattle.replay.proofs.own.add_posts.Tie as tie
 
-abbrev invariant-loop : tie.invariant-loop
+abbrev invariant-loop : tie.invariant-loop-i
 invariant-loop sums₀ t i₀ sums i = length sums ≡ length sums₀
 
-abbrev decreases-loop : tie.decreases-loop
+abbrev decreases-loop : tie.decreases-loop-i
 decreases-loop sums₀ t i₀ sums i = post_count - i
 
 loop-i-init : tie.Need-loop-i-init invariant-loop decreases-loop

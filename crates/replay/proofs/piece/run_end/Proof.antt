@@ -3,10 +3,10 @@ use Rattle.std.proofs.Common.{rules}
 use Rattle.replay.proofs.piece.run_end.Statement.{statement}
 use Rattle.replay.proofs.piece.run_end.Tie as tie
 
-abbrev invariant-loop : tie.invariant-loop
+abbrev invariant-loop : tie.invariant-loop-turns
 invariant-loop start piece w₀ turns₀ w turns = Unit {0}
 
-abbrev decreases-loop : tie.decreases-loop
+abbrev decreases-loop : tie.decreases-loop-turns
 decreases-loop start piece w₀ turns₀ w turns = turns
 
 loop-turns-init : tie.Need-loop-turns-init invariant-loop decreases-loop

@@ -3,10 +3,10 @@ use Rattle.std.proofs.Common.{◌+◌, ◌-◌, ◌≤◌, length, rules}
 use Rattle.replay.proofs.posts.lines_in.Statement.{statement}
 use Rattle.replay.proofs.posts.lines_in.Tie as tie
 
-abbrev invariant-loop : tie.invariant-loop
+abbrev invariant-loop : tie.invariant-loop-at
 invariant-loop name file p₀ at₀ p at = at ≤ length file + 1
 
-abbrev decreases-loop : tie.decreases-loop
+abbrev decreases-loop : tie.decreases-loop-at
 decreases-loop name file p₀ at₀ p at = length file + 1 - at
 
 fresh-p-requires : tie.Need-fresh-p-requires invariant-loop decreases-loop

@@ -3,10 +3,10 @@ use Rattle.std.proofs.Common.{◌≡◌, ◌-◌, ◌≤◌, length, rules}
 use Rattle.replay.proofs.summary.put_numbers.Statement.{statement}
 use Rattle.replay.proofs.summary.put_numbers.Tie as tie
 
-abbrev invariant-loop : tie.invariant-loop
+abbrev invariant-loop : tie.invariant-loop-k
 invariant-loop out₀ name counts p₀ k₀ out p k = (k ≤ 32) × (length out ≡ length out₀)
 
-abbrev decreases-loop : tie.decreases-loop
+abbrev decreases-loop : tie.decreases-loop-k
 decreases-loop out₀ name counts p₀ k₀ out p k = 32 - k
 
 loop-k-init : tie.Need-loop-k-init invariant-loop decreases-loop

@@ -3,10 +3,10 @@ use Rattle.std.proofs.Common.{◌≡◌, ◌-◌, ◌≤◌, length, rules}
 use Rattle.replay.proofs.tally.add_words.Statement.{statement}
 use Rattle.replay.proofs.tally.add_words.Tie as tie
 
-abbrev invariant-loop : tie.invariant-loop
+abbrev invariant-loop : tie.invariant-loop-i
 invariant-loop counts₀ words n i₀ counts i = (length counts ≡ length counts₀) × (i ≤ length words)
 
-abbrev decreases-loop : tie.decreases-loop
+abbrev decreases-loop : tie.decreases-loop-i
 decreases-loop counts₀ words n i₀ counts i = length words - i
 
 loop-i-init : tie.Need-loop-i-init invariant-loop decreases-loop

@@ -11,10 +11,10 @@ use Rattle.text_numbers.proofs.Values.{after, at_first, not_shortest, next, no_d
 use Rattle.text_numbers.proofs.numbers.whole.Statement.{statement}
 use Rattle.text_numbers.proofs.numbers.whole.Tie as tie
 
-abbrev invariant-loop : tie.invariant-loop
+abbrev invariant-loop : tie.invariant-loop-i
 invariant-loop s base most v₀ i₀ v i = (v ≤ most) × (i ≤ length s) × (number_of base most s ≡ after base most v (drop i s))
 
-abbrev decreases-loop : tie.decreases-loop
+abbrev decreases-loop : tie.decreases-loop-i
 decreases-loop s base most v₀ i₀ v i = length s - i
 
 is_shortest-requires : tie.Need-is_shortest-requires invariant-loop decreases-loop
