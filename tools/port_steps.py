@@ -31,6 +31,7 @@ class Steps:
         for (old, parent, (was, now), _, subs), named, arm in zip(of['places'], of['places_by_name'], of['arms']):
             self.at.setdefault(plain(old), len(self.places))
             self.places.append((plain(old), plain(parent) if parent else None, plain(was), now, dict(subs), named, arm))
+        self.params = {plain(old): of['params'].get(callee) for old, _, _, callee, _ in of['places'] if callee}
         self.asked = {new: self.at.get(plain(old)) for (_, new), (old, _) in zip(of['needs'], of['asked_at'])}
         self.loops = {}
         for it in of.get('loops') or []:
@@ -77,6 +78,17 @@ class Steps:
             i, count = self.before(i), count + 1
         return None
 
+    def partial(self, i, parts):
+        """An arm that holds what stands below an older value's `given`, where the parts lead only on the way to it."""
+        it = plain(parts[0])
+        for form in (it, re.sub(r'2$', '', it)):
+            for at in list(self.up(i)) if i is not None else range(len(self.places)):
+                arm = self.places[at][6]
+                subs = [(sub, path[len(parts) - 1:]) for sub, field, path in (arm[2] if arm else []) if plain(field) == form and path[:len(parts) - 1] == parts[1:] and len(path) >= len(parts)]
+                if subs:
+                    return arm[0], subs
+        return None
+
     def resolve(self, i, parts):
         """How many of the parts are taken for what: the new parts, or None. i is the place, or None where it is not known."""
         it = plain(parts[0])
@@ -95,12 +107,40 @@ class Steps:
                         return 1, [arm[0], own]
                     if len(parts) > 1 and parts[1] in subs:
                         return 2, [now, subs[parts[1]]]
+                    params = self.params.get(self.places[at][0])
+                    if params and len(parts) > 2 and parts[1] == 'new':
+                        n, name = param_at(params, parts[2:])
+                        if name:
+                            return 2 + n, [now, 'new', name]
                     return 1, [now]
         return None
+
+    def called(self, i, parts):
+        """The parameters of the call that the parts name, and nothing below it."""
+        it = plain(parts[0])
+        if len(parts) != 1:
+            return None
+        for form in (it, re.sub(r'2$', '', it)):
+            for at in list(self.up(i)) if i is not None else range(len(self.places)):
+                if self.places[at][2] == form and self.params.get(self.places[at][0]):
+                    return self.params[self.places[at][0]]
+        return None
+
+
+def param_at(params, path):
+    """The parameter that a path of an older nest of pairs leads to (0, 1.0, 1.1.0, ..), and the path's length."""
+    n = 0
+    while n < len(path) and path[n] == '1':
+        n += 1
+    if n < len(path) and path[n] == '0' and n < len(params):
+        return n + 1, params[n]
+    return 0, None
 
 
 def turn(text, of):
     steps, said = Steps(of), set()
+    # the place that a helper of the file speaks of
+    helpers = {name: steps.place(place) for name, place in re.findall(r'(?m)^(?:abbrev |pub )*(\S+) : (?:\{[^{}\n]*\} )*\(\w+ : tie\.([^\s(){};,]+)', text)}
 
     def tie(parts):
         it = parts[1]
@@ -118,7 +158,7 @@ def turn(text, of):
 
     def block(lines):
         """One declaration, with the places of its variables."""
-        known = {}
+        known, aliases, calls = {}, {}, {}
         head = re.match(r'(?:abbrev |pub )*(\S+) : tie\.Need-([^\s(){};,]+)', lines)
         if head:
             new = steps.goal(head[2])
@@ -134,8 +174,17 @@ def turn(text, of):
             parts = word.split('.')
             if parts[0] == 'tie':
                 return tie(parts) or word
+            if parts[0] in aliases:
+                for sub, path in sorted(aliases[parts[0]], key=lambda s: -len(s[1])):
+                    if path and parts[1:1 + len(path)] == path:
+                        return '.'.join([parts[0], sub, *parts[1 + len(path):]])
+                return word
+            if parts[0] in calls and parts[1] == 'new':
+                n, name = param_at(calls[parts[0]], parts[2:])
+                return '.'.join([parts[0], 'new', name, *parts[2 + n:]]) if name else word
             at = known.get(parts[0])
             seen = parts[0] in known
+            start = at
             out, i, ups = [parts[0]], 1, 0
             while i < len(parts) and parts[i] == 'before':
                 ups += 1
@@ -149,13 +198,30 @@ def turn(text, of):
                     # a place gives what stands further out too
                     if not re.search(r'(?<![\w\'.-])' + re.escape(bound[1]) + r'(?![\w\'.-])', lines[m.end():]):
                         return '.'.join([parts[0]] + rest)
-                count = steps.befores(known.get(parts[0]), at) if at is not None else None
+                helper = re.search(r'([^\s(){};,@]+) \(?$', lines[:m.start()])
+                if helper and helpers.get(helper[1]) is not None and seen:
+                    at = helpers[helper[1]]
+                count = steps.befores(start, at) if at is not None else None
                 return '.'.join([parts[0]] + ['before'] * (ups if count is None else count) + rest)
-            if not seen and ups == 0 and i == 1:
+            if not seen and ups == 0 and i == 1 and parts[0]:
                 # a value that is no place: only the spelling of a field can have changed
                 return '.'.join([parts[0], *[WORDS.get(p, p) for p in parts[1:]]])
             if rest[0] not in ('args', 'ranges', 'requires', 'well_formed', 'well-formed', 'type-inv', 'type_inv', 'given', 'world'):
-                found = steps.resolve(at, rest)
+                bound = re.search(r'let (\S+) = $', lines[:m.start()])
+                found = None
+                if 'given' in rest:
+                    whole = steps.resolve(at, rest) or steps.resolve(start, rest)
+                    found = None if whole and whole[0] > 1 else steps.partial(at, rest) or steps.partial(start, rest)
+                    if found and bound:
+                        aliases[bound[1]] = found[1]
+                        return '.'.join([parts[0], found[0]])
+                    if found:
+                        said.add(f'part of an arm: {word}')
+                if bound:
+                    it = steps.called(at, rest) or steps.called(start, rest)
+                    if it:
+                        calls[bound[1]] = it
+                found = steps.resolve(at, rest) or steps.resolve(start, rest)
                 if found:
                     n, new = found
                     rest = new + rest[n:]

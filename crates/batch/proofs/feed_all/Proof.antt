@@ -106,8 +106,8 @@ bounds-heads-i c = search rules
 arrival_of-a-requires : tie.Need-arrival_of-a-requires invariant-loop decreases-loop
 arrival_of-a-requires c κs =
     let z = c in
-    let e = c.e-1.given in
-    (entry_lies z.args.log.now z.loop-e.at e.0.0 (sym c.record_at.ensures ∙ e.1)).0
+    let e = c.in-Record in
+    (entry_lies z.args.log.now z.loop-e.at e.e (sym c.record_at.ensures ∙ e.is)).0
 
 offset_bounds-heads-i-in-loop-e : tie.Need-offset_bounds-heads-i-in-loop-e invariant-loop decreases-loop
 offset_bounds-heads-i-in-loop-e c = search rules
@@ -135,9 +135,9 @@ offset_bounds-answers-n c =
     let z = c in
     let l = z.loop-e in
     let a = z.args in
-    let e = c.e-1.given in
-    let here = sym c.record_at.ensures ∙ e.1 in
-    let p : l.n < length l.answers = has_place _ a.log.now a.answers.now l.answers l.heads l.latest l.refused l.at l.n l.invariant e.0.0 here in
+    let e = c.in-Record in
+    let here = sym c.record_at.ensures ∙ e.is in
+    let p : l.n < length l.answers = has_place _ a.log.now a.answers.now l.answers l.heads l.latest l.refused l.at l.n l.invariant e.e here in
     search (rules, l.invariant.2)
 
 bounds-answers-n : tie.Need-bounds-answers-n invariant-loop decreases-loop
@@ -145,18 +145,18 @@ bounds-answers-n c =
     let z = c in
     let l = z.loop-e in
     let a = z.args in
-    let e = c.e-1.given in
-    let here = sym c.record_at.ensures ∙ e.1 in
-    has_place _ a.log.now a.answers.now l.answers l.heads l.latest l.refused l.at l.n l.invariant e.0.0 here
+    let e = c.in-Record in
+    let here = sym c.record_at.ensures ∙ e.is in
+    has_place _ a.log.now a.answers.now l.answers l.heads l.latest l.refused l.at l.n l.invariant e.e here
 
 overflow_add-n : tie.Need-overflow_add-n invariant-loop decreases-loop
 overflow_add-n c =
     let z = c in
     let l = z.loop-e in
     let a = z.args in
-    let e = c.e-1.given in
-    let here = sym c.record_at.ensures ∙ e.1 in
-    let p : l.n < length l.answers = has_place _ a.log.now a.answers.now l.answers l.heads l.latest l.refused l.at l.n l.invariant e.0.0 here in
+    let e = c.in-Record in
+    let here = sym c.record_at.ensures ∙ e.is in
+    let p : l.n < length l.answers = has_place _ a.log.now a.answers.now l.answers l.heads l.latest l.refused l.at l.n l.invariant e.e here in
     search (rules, l.invariant.2)
 
 offset_bounds-latest-i : tie.Need-offset_bounds-latest-i invariant-loop decreases-loop
@@ -176,9 +176,9 @@ loop-e-smaller-then-k-lt-PLACES c =
     let z = c in
     let l = z.loop-e in
     let a = z.args in
-    let e = c.e-1.given in
-    let here = sym c.record_at.ensures ∙ e.1 in
-    let w = entry_lies a.log.now l.at e.0.0 here in
+    let e = c.in-Record in
+    let here = sym c.record_at.ensures ∙ e.is in
+    let w = entry_lies a.log.now l.at e.e here in
     omega (arith, w.1, w.2)
 
 loop-e-preserved-then-k-lt-PLACES : tie.Need-loop-e-preserved-then-k-lt-PLACES invariant-loop decreases-loop
@@ -186,12 +186,12 @@ loop-e-preserved-then-k-lt-PLACES c =
     let z = c in
     let l = z.loop-e in
     let a = z.args in
-    let e = c.e-1.given in
-    let here = sym c.record_at.ensures ∙ e.1 in
+    let e = c.in-Record in
+    let here = sym c.record_at.ensures ∙ e.is in
     let i = c.place_named-i in
     let w = c.arrival_of-a in
     let r = c.hear-r in
-    turn _ a.log.now a.answers.now l.answers l.heads l.latest l.refused l.at l.n l.invariant e.0.0 here i.result i.ensures.1 i.ensures.0 r.result (heard_read _ a.log.now e.0.0 _ _ w.ensures r.ensures.0) c.refused_after-refused.result c.refused_after-refused.ensures c.answer_word.result c.answer_word.ensures _
+    turn _ a.log.now a.answers.now l.answers l.heads l.latest l.refused l.at l.n l.invariant e.e here i.result i.ensures.1 i.ensures.0 r.result (heard_read _ a.log.now e.e _ _ w.ensures r.ensures.0) c.refused_after-refused.result c.refused_after-refused.ensures c.answer_word.result c.answer_word.ensures _
     (latest_kept l.heads l.latest a.t.index l.refused i.result (omega (arith, l.invariant.0, i.ensures.1)) (omega (arith, l.invariant.1, i.ensures.1)) r.result c.if-k-lt-PLACES.true)
 
 loop-e-smaller : tie.Need-loop-e-smaller invariant-loop decreases-loop
@@ -199,9 +199,9 @@ loop-e-smaller c =
     let z = c in
     let l = z.loop-e in
     let a = z.args in
-    let e = c.e-1.given in
-    let here = sym c.record_at.ensures ∙ e.1 in
-    let w = entry_lies a.log.now l.at e.0.0 here in
+    let e = c.in-Record in
+    let here = sym c.record_at.ensures ∙ e.is in
+    let w = entry_lies a.log.now l.at e.e here in
     omega (arith, w.1, w.2)
 
 loop-e-preserved : tie.Need-loop-e-preserved invariant-loop decreases-loop
@@ -209,12 +209,12 @@ loop-e-preserved c =
     let z = c in
     let l = z.loop-e in
     let a = z.args in
-    let e = c.e-1.given in
-    let here = sym c.record_at.ensures ∙ e.1 in
+    let e = c.in-Record in
+    let here = sym c.record_at.ensures ∙ e.is in
     let i = c.place_named-i in
     let w = c.arrival_of-a in
     let r = c.hear-r in
-    turn _ a.log.now a.answers.now l.answers l.heads l.latest l.refused l.at l.n l.invariant e.0.0 here i.result i.ensures.1 i.ensures.0 r.result (heard_read _ a.log.now e.0.0 _ _ w.ensures r.ensures.0) c.refused_after-refused.result c.refused_after-refused.ensures c.answer_word.result c.answer_word.ensures _
+    turn _ a.log.now a.answers.now l.answers l.heads l.latest l.refused l.at l.n l.invariant e.e here i.result i.ensures.1 i.ensures.0 r.result (heard_read _ a.log.now e.e _ _ w.ensures r.ensures.0) c.refused_after-refused.result c.refused_after-refused.ensures c.answer_word.result c.answer_word.ensures _
     (latest_left l.heads l.latest a.t.index l.refused i.result (omega (arith, l.invariant.0, i.ensures.1)) (omega (arith, l.invariant.1, i.ensures.1)) r.result c.if-k-lt-PLACES.false)
 
 bounds-latest-i : tie.Need-bounds-latest-i invariant-loop decreases-loop

@@ -21,8 +21,8 @@ returns-then-answers-count c =
     let a = c.args in
     let s = a.records.now in
     let w = a.answers.now in
-    let p = c.count-1.given in
-    let k = told s (scan.End p.0.0) c.scan_log.ensures p.1 in
+    let p = c.in-End in
+    let k = told s (scan.End p.count) c.scan_log.ensures p.is in
     refused_whole a.t s w BatchAnswers c.refused-then-answers-count.ensures (why_answers s (length w) c.if-records-gt-MOST.false k.0 (omega (arith, k.1, c.if-answers-count.true)))
 
 feed_all-u-requires : tie.Need-feed_all-u-requires
@@ -30,8 +30,8 @@ feed_all-u-requires c κs =
     let a = c.args in
     let s = a.records.now in
     let w = a.answers.now in
-    let p = c.count-1.given in
-    let k = told s (scan.End p.0.0) c.scan_log.ensures p.1 in
+    let p = c.in-End in
+    let k = told s (scan.End p.count) c.scan_log.ensures p.is in
     omega (arith, k.1, c.if-answers-count.false)
 
 overflow_cast-result : tie.Need-overflow_cast-result
@@ -39,8 +39,8 @@ overflow_cast-result c =
     let a = c.args in
     let s = a.records.now in
     let w = a.answers.now in
-    let p = c.count-1.given in
-    let k = told s (scan.End p.0.0) c.scan_log.ensures p.1 in
+    let p = c.in-End in
+    let k = told s (scan.End p.count) c.scan_log.ensures p.is in
     omega (arith, k.1, few_records s, c.if-records-gt-MOST.false)
 
 returns-else-answers-count : tie.Need-returns-else-answers-count
@@ -48,9 +48,9 @@ returns-else-answers-count c =
     let a = c.args in
     let s = a.records.now in
     let w = a.answers.now in
-    let p = c.count-1.given in
-    let k = told s (scan.End p.0.0) c.scan_log.ensures p.1 in
-    taken_whole a.t s w c.feed_all-u.result p.0.0 _ (why_none s (length w) c.if-records-gt-MOST.false k.0 (omega (arith, k.1, c.if-answers-count.false))) (omega (arith, k.1)) c.feed_all-u.ensures
+    let p = c.in-End in
+    let k = told s (scan.End p.count) c.scan_log.ensures p.is in
+    taken_whole a.t s w c.feed_all-u.result p.count _ (why_none s (length w) c.if-records-gt-MOST.false k.0 (omega (arith, k.1, c.if-answers-count.false))) (omega (arith, k.1)) c.feed_all-u.ensures
 
 returns-in-Cut : tie.Need-returns-in-Cut
 returns-in-Cut c =

@@ -27,9 +27,6 @@ overflow_add-i c = search rules
 half_full-p-requires : tie.Need-half_full-p-requires invariant-loop decreases-loop
 half_full-p-requires c κs = search rules
 
-slice-aggregate-named : tie.Need-slice-aggregate-named invariant-loop decreases-loop
-slice-aggregate-named c = search rules
-
 named-p-requires : tie.Need-named-p-requires invariant-loop decreases-loop
 named-p-requires c κs = search rules
 

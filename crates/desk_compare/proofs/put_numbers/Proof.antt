@@ -12,9 +12,6 @@ invariant-loop numbers out₀ p₀ i₀ t8 out p i = (i ≤ length numbers) × (
 abbrev decreases-loop : tie.decreases-loop-i
 decreases-loop numbers out₀ p₀ i₀ t8 out p i = length numbers - i
 
-slice-aggregate-put : tie.Need-slice-aggregate-put invariant-loop decreases-loop
-slice-aggregate-put c = search rules
-
 put-requires : tie.Need-put-requires invariant-loop decreases-loop
 put-requires c κs = search rules
 
@@ -29,9 +26,6 @@ loop-i-init c = search rules
 
 put_joint-q-requires : tie.Need-put_joint-q-requires invariant-loop decreases-loop
 put_joint-q-requires c κs = search rules
-
-slice-aggregate-named : tie.Need-slice-aggregate-named invariant-loop decreases-loop
-slice-aggregate-named c = search rules
 
 offset_bounds-numbers-i : tie.Need-offset_bounds-numbers-i invariant-loop decreases-loop
 offset_bounds-numbers-i c = search rules

@@ -13,9 +13,6 @@ invariant-loop out₀ tallies p₀ k₀ t8 out p k = length out ≡ length out�
 abbrev decreases-loop : tie.decreases-loop-k
 decreases-loop out₀ tallies p₀ k₀ t8 out p k = finding_count - k
 
-slice-aggregate-named : tie.Need-slice-aggregate-named invariant-loop decreases-loop
-slice-aggregate-named c = search rules
-
 bounds-tallies-0 : tie.Need-bounds-tallies-0 invariant-loop decreases-loop
 bounds-tallies-0 c = search rules
 
@@ -24,9 +21,6 @@ named-p-requires c κs = search rules
 
 loop-k-init : tie.Need-loop-k-init invariant-loop decreases-loop
 loop-k-init c = search rules
-
-slice-aggregate-named-2 : tie.Need-slice-aggregate-named-2 invariant-loop decreases-loop
-slice-aggregate-named-2 c = search rules
 
 offset_bounds-tallies-k : tie.Need-offset_bounds-tallies-k invariant-loop decreases-loop
 offset_bounds-tallies-k c = search rules

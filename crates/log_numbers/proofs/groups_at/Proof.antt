@@ -46,8 +46,8 @@ returns-then-i-eq4 c =
 abbrev turn : (c : tie.Else-i-eq4 invariant-loop decreases-loop) → tie.At-loop-i invariant-loop decreases-loop
 turn c = c.before.before.before.before.before
 
-high : (c : tie.Else-i-eq4 invariant-loop decreases-loop) → High (turn c).args.s.now (turn c).args.at (turn c).loop.n (turn c).loop.weight (turn c).loop.i
-high c = turn_high (turn c).loop.invariant c.group_bound.ensures c.if-i-eq4.false c.if-b-group_bound.false
+high : (c : tie.Else-i-eq4 invariant-loop decreases-loop) → High (turn c).args.s.now (turn c).args.at (turn c).loop-i.n (turn c).loop-i.weight (turn c).loop-i.i
+high c = turn_high (turn c).loop-i.invariant c.group_bound.ensures c.if-i-eq4.false c.if-b-group_bound.false
 
 overflow_sub-n-in-loop-i : tie.Need-overflow_sub-n-in-loop-i invariant-loop decreases-loop
 overflow_sub-n-in-loop-i c = (high c).high
@@ -65,7 +65,7 @@ overflow_mul-weight : tie.Need-overflow_mul-weight invariant-loop decreases-loop
 overflow_mul-weight c = search (rules, high c)
 
 loop-i-preserved : tie.Need-loop-i-preserved invariant-loop decreases-loop
-loop-i-preserved c = turn_more (turn c).loop.invariant (high c) (omega arith) c.if-i-eq4.false
+loop-i-preserved c = turn_more (turn c).loop-i.invariant (high c) (omega arith) c.if-i-eq4.false
 
 pub groups_at_spec : {M : Type 1} → statement M
 groups_at_spec =

@@ -31,7 +31,7 @@ returns : tie.Need-returns
 returns c =
     let a = c.args in
     logged (tick a.time a.channel) a.out.now c.head_size-size.result (search rules, omega arith)
-    (omega (arith, tick_length a.time a.channel)) c.store_head.new.0 c.if-out-size.false
+    (omega (arith, tick_length a.time a.channel)) c.store_head.new.out c.if-out-size.false
     (c.store_head.ensures.1 ∙ ap (sets a.out.now 0) (tick_bytes a.time a.channel))
 
 pub write_tick_spec : {M : Type 1} → statement M

@@ -21,9 +21,9 @@ returns c =
     let k = c in
     let f = k in
     let a = f.args in
-    let g = k.kind-1.given.0 in
+    let g = k.in-At in
     ap not c.is_on.ensures
-    ∙ foreign_at_lem a.iface (first_at (has_id a.id a.extended) 0 rows) g.0 g.1.0 g.1.1.0 g.1.1.1.0 (sym f.with_id.ensures ∙ k.in-At.is)
+    ∙ foreign_at_lem a.iface (first_at (has_id a.id a.extended) 0 rows) g.kind g.field-1 g.field-2 g.field-3 (sym f.with_id.ensures ∙ k.in-At.is)
 
 pub is_foreign_spec : {M : Type 1} → statement M
 is_foreign_spec = tie.close (tie.spec (λ c κs. search rules) (λ c. search rules) (λ c. search rules) returns-in_default (λ c κs. search rules) returns)

@@ -44,16 +44,16 @@ is_on-requires c κs = search rules
 -- the row that the message's first is
 found : (c : tie.In-At-2) → (
     let a = c.args in
-    let g = c.kind-1.given.0 in
-    Of g.0 g.1.0 g.1.1.0 g.1.1.1.0 (first_at (has_id a.id a.extended) 0 rows))
-found c = let g = c.kind-1.given.0 in of g.0 g.1.0 g.1.1.0 g.1.1.1.0 _ (sym c.with_id.ensures ∙ c.in-At.is)
+    let g = c.in-At in
+    Of g.kind g.at g.len g.big (first_at (has_id a.id a.extended) 0 rows))
+found c = let g = c.in-At in of g.kind g.at g.len g.big _ (sym c.with_id.ensures ∙ c.in-At.is)
 
 -- the answer, by whether the interface has the kind
 told : (c : tie.In-At-2) (b : Bool) → (
     let a = c.args in
-    let g = c.kind-1.given.0 in
-    is_on a.iface g.0 ≡ b
-    → cond b (judged_row (row_at g.1.0) a.bytes.now) (Refused a.other) ≡ judge_from a.iface a.other a.id a.extended a.bytes.now)
+    let g = c.in-At in
+    is_on a.iface g.kind ≡ b
+    → cond b (judged_row (row_at g.at) a.bytes.now) (Refused a.other) ≡ judge_from a.iface a.other a.id a.extended a.bytes.now)
 told c b o =
     let a = c.args in
     let i = c.in-At.at in
@@ -131,7 +131,7 @@ unfolding seen
 returns-then-has_gaps c =
     let m = c.before.before.before in
     let o = m in
-    let k = (seen o.before).kind.given.0.0 in
+    let k = (seen o.before).in-At.kind in
     let n = m.number-n.result in
     let t = judged m in
     c.judge_number.ensures ∙ ap (λ (rs : List Row). judged_by k n (offence_of n rs) (cleared rs n)) t.1 ∙ t.0 ∙ answer o.before o.if-not-is_on.false-raw
@@ -144,7 +144,7 @@ unfolding seen
 returns c =
     let m = c.before.before.before in
     let o = m in
-    let k = (seen o.before).kind.given.0.0 in
+    let k = (seen o.before).in-At.kind in
     let n = m.number-n.result in
     let t = judged m in
     c.judge_labels.ensures ∙ ap (judged_by k n (offence_of n (rows_of k))) (sym (cleared_none k n t.3 (sym c.has_gaps.ensures ∙ c.if-has_gaps.false) t.2)) ∙ t.0 ∙ answer o.before o.if-not-is_on.false-raw

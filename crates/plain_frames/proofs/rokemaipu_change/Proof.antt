@@ -31,7 +31,7 @@ start c = c.before.before.before
 
 -- by the variant that the change answered
 answered : {b : Judged} (c : tie.After-change-j) → c.change-j.result ≡ b
-    → Ends (start c).args.id (start c).args.extended (start c).args.payload.now (start c).args.start (start c).args.raw (outcome_word (changed_outcome b)) c.change-j.new.1.1.0
+    → Ends (start c).args.id (start c).args.extended (start c).args.payload.now (start c).args.start (start c).args.raw (outcome_word (changed_outcome b)) c.change-j.new.bytes
 unfolding start
 answered c g =
     let a = (start c).args in

@@ -64,7 +64,7 @@ ready r = let i = r in sym i.is_ready.ensures ∙ not-false i.is_ready.result i.
 
 -- by the variant that the writer answered
 answered : {v : Written} (c : tie.After-write_raws-w) → c.write_raws-w.result ≡ v
-    → Ends (start c).args.kind (start c).args.raws.now (start c).args.buf.now (outcome_word (written_outcome v)) c.write_raws-w.new.1.1.0
+    → Ends (start c).args.kind (start c).args.raws.now (start c).args.buf.now (outcome_word (written_outcome v)) c.write_raws-w.new.buf
 unfolding start
 answered c h =
     let a = (start c).args in

@@ -33,7 +33,7 @@ start c = c.before.before.before
 
 -- by the variant that the change answered
 answered : {b : Judged} (c : tie.After-change_on-j) → c.change_on-j.result ≡ b
-    → Ends (start c).args.id (start c).args.extended (start c).args.payload.now (start c).args.start (start c).args.raw (outcome_word (changed_outcome b)) c.change_on-j.new.1.1.1.0
+    → Ends (start c).args.id (start c).args.extended (start c).args.payload.now (start c).args.start (start c).args.raw (outcome_word (changed_outcome b)) c.change_on-j.new.bytes
 unfolding start
 answered c g =
     let a = (start c).args in

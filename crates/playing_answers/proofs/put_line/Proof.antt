@@ -36,10 +36,10 @@ shape_of-out c = search rules
 returns : tie.Need-returns
 returns c =
     let a = c.args in
-    let m = c.before.before.before.before.before.before.before.made in
-    let k : length m.new.0 ≡ 86 = search rules in
-    let e : take (86 - m.result) (drop m.result m.new.0) ≡ word_line a.count a.post a.word =
-    take_all (86 - m.result) (drop m.result m.new.0) (omega (arith, k, length-drop m.result m.new.0)) ∙ m.ensures.0 in
+    let m = c.made-at in
+    let k : length m.new.line ≡ 86 = search rules in
+    let e : take (86 - m.result) (drop m.result m.new.line) ≡ word_line a.count a.post a.word =
+    take_all (86 - m.result) (drop m.result m.new.line) (omega (arith, k, length-drop m.result m.new.line)) ∙ m.ensures.0 in
     let p = c.put.ensures in
     one a.out.now a.pen (word_line a.count a.post a.word) (
       p.0 ∙ ap (λ (l : List ℕ). moved (length a.out.now) a.pen (length l)) e,

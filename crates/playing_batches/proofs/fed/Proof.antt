@@ -29,8 +29,8 @@ returns-then-word-eq0 c =
 put_lines-pen-requires : tie.Need-put_lines-pen-requires
 put_lines-pen-requires c κs =
     let a = c.args in
-    let f = c.before.before.before.before.before.before.feed-batch in
-    enough a.r a.records.now a.answers.now a.out.now f.ensures.0 f.ensures.1 c.before.before.before.if1.false
+    let f = c.feed_batch-f in
+    enough a.r a.records.now a.answers.now a.out.now f.ensures.0 f.ensures.1 c.if-word-ge65536.false
 
 overflow_cast-word : tie.Need-overflow_cast-word
 overflow_cast-word c = search rules
@@ -47,9 +47,9 @@ shape_of-out c = search rules
 returns : tie.Need-returns
 returns c =
     let a = c.args in
-    let f = c.before.before.before.before.before.before.before.before.before.before.before.feed-batch in
+    let f = c.feed_batch-f in
     let w = c.put_lines-pen.ensures in
-    some_lines a.r a.records.now a.answers.now a.out.now f.ensures.0 f.ensures.1 c.before.before.before.before.before.before.before.before.if1.false c.requires (λ i. omega (arith, place_low a.r.table.posts i, w.1)) w.0 c.before.before.before.before.before.before.before.if2.false c.wrapping_add_u64.result c.wrapping_add_u64.ensures
+    some_lines a.r a.records.now a.answers.now a.out.now f.ensures.0 f.ensures.1 c.if-word-ge65536.false c.requires (λ i. omega (arith, place_low a.r.table.posts i, w.1)) w.0 c.if-word-eq0.false c.wrapping_add_u64.result c.wrapping_add_u64.ensures
 
 pub fed_spec : {M : Type 1} → statement M
 fed_spec =

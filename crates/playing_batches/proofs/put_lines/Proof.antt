@@ -61,18 +61,18 @@ offset_bounds-words-n : tie.Need-offset_bounds-words-n invariant-loop decreases-
 offset_bounds-words-n c =
     let a = c.args in
     let l = c.loop-e in
-    let e = c.e-1.given in
-    let here = sym c.record_at.ensures ∙ e.1 in
-    let p : l.n < length a.words.now = has_word a.t.posts a.count a.log.now a.words.now a.out.now l.out l.pen l.k l.at l.n l.invariant e.0.0 here in
+    let e = c.in-Record in
+    let here = sym c.record_at.ensures ∙ e.is in
+    let p : l.n < length a.words.now = has_word a.t.posts a.count a.log.now a.words.now a.out.now l.out l.pen l.k l.at l.n l.invariant e.e here in
     search rules
 
 bounds-words-n : tie.Need-bounds-words-n invariant-loop decreases-loop
 bounds-words-n c =
     let a = c.args in
     let l = c.loop-e in
-    let e = c.e-1.given in
-    let here = sym c.record_at.ensures ∙ e.1 in
-    let p : l.n < length a.words.now = has_word a.t.posts a.count a.log.now a.words.now a.out.now l.out l.pen l.k l.at l.n l.invariant e.0.0 here in
+    let e = c.in-Record in
+    let here = sym c.record_at.ensures ∙ e.is in
+    let p : l.n < length a.words.now = has_word a.t.posts a.count a.log.now a.words.now a.out.now l.out l.pen l.k l.at l.n l.invariant e.e here in
     p
 
 wrapping_add_u64-k-requires : tie.Need-wrapping_add_u64-k-requires invariant-loop decreases-loop
@@ -85,27 +85,27 @@ overflow_add-n : tie.Need-overflow_add-n invariant-loop decreases-loop
 overflow_add-n c =
     let a = c.args in
     let l = c.loop-e in
-    let e = c.e-1.given in
-    let here = sym c.record_at.ensures ∙ e.1 in
-    let p : l.n < length a.words.now = has_word a.t.posts a.count a.log.now a.words.now a.out.now l.out l.pen l.k l.at l.n l.invariant e.0.0 here in
+    let e = c.in-Record in
+    let here = sym c.record_at.ensures ∙ e.is in
+    let p : l.n < length a.words.now = has_word a.t.posts a.count a.log.now a.words.now a.out.now l.out l.pen l.k l.at l.n l.invariant e.e here in
     search rules
 
 loop-e-smaller : tie.Need-loop-e-smaller invariant-loop decreases-loop
 loop-e-smaller c =
     let a = c.args in
     let l = c.loop-e in
-    let e = c.e-1.given in
-    let here = sym c.record_at.ensures ∙ e.1 in
-    let w = entry_lies a.log.now l.at e.0.0 here in
+    let e = c.in-Record in
+    let here = sym c.record_at.ensures ∙ e.is in
+    let w = entry_lies a.log.now l.at e.e here in
     omega (arith, w.1, w.2)
 
 loop-e-preserved : tie.Need-loop-e-preserved invariant-loop decreases-loop
 loop-e-preserved c =
     let a = c.args in
     let l = c.loop-e in
-    let e = c.e-1.given in
-    let here = sym c.record_at.ensures ∙ e.1 in
-    turn a.t.posts a.count a.log.now a.words.now a.out.now l.out l.pen l.k l.at l.n l.invariant e.0.0 here c.wrapping_add_u64-k.result _ _ c.wrapping_add_u64-k.ensures c.place-post.ensures.0 refl (search rules) c.put_line-pen.ensures
+    let e = c.in-Record in
+    let here = sym c.record_at.ensures ∙ e.is in
+    turn a.t.posts a.count a.log.now a.words.now a.out.now l.out l.pen l.k l.at l.n l.invariant e.e here c.wrapping_add_u64-k.result _ _ c.wrapping_add_u64-k.ensures c.place-post.ensures.0 refl (search rules) c.put_line-pen.ensures
 
 pub put_lines_spec : {M : Type 1} → statement M
 put_lines_spec =

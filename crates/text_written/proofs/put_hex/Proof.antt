@@ -52,9 +52,6 @@ glyph-requires c κs = omega (arith, c.shared_slice_known-in-loop-i-1.given c.lo
 glyph-requires-in-loop-i : tie.Need-glyph-requires-in-loop-i invariant-loop decreases-loop
 glyph-requires-in-loop-i c κs = search rules
 
-slice-aggregate-put-2 : tie.Need-slice-aggregate-put-2 invariant-loop decreases-loop
-slice-aggregate-put-2 c = search rules
-
 put-p-requires : tie.Need-put-p-requires invariant-loop decreases-loop
 put-p-requires c κs = search rules
 
@@ -74,7 +71,7 @@ loop-i-preserved c =
     let two : c.glyph.result ∷ c.glyph-in-loop-i.result ∷ [] ≡ two_digits (get_or src l.i 0) =
     ap₂ (λ (x y : ℕ). x ∷ y ∷ []) c.glyph.ensures c.glyph-in-loop-i.ensures in
     let p : moved (length l.out) l.p 2 ≡ put.result = sym put.ensures.0 in
-    let o : inked l.out l.p (two_digits (get_or src l.i 0)) ≡ put.new.0 = ap (inked l.out l.p) (sym two) ∙ sym put.ensures.1 in (
+    let o : inked l.out l.p (two_digits (get_or src l.i 0)) ≡ put.new.out = ap (inked l.out l.p) (sym two) ∙ sym put.ensures.1 in (
       omega arith,
       search rules,
       l.invariant.2 ∙ moved_next_lem (length a.out.now) l.p src l.i c.loop-i-test.true ∙ ap (λ (q : Pen). moved_by (length a.out.now) q rest) (ap (λ (n : ℕ). moved n l.p 2) (sym l.invariant.1) ∙ p),

@@ -88,8 +88,8 @@ slice_bounds-put-start c = search rules
 
 slice_bounds-put-end : tie.Need-slice_bounds-put-end invariant-loop decreases-loop
 slice_bounds-put-end c =
-    let l = c.before.before.before.before.loop in
-    let e : length (set l.t (l.at - 1) c.before.before.glyph2.result) ≡ 20 = length-set l.t (l.at - 1) c.before.before.glyph2.result ∙ l.invariant.0 in
+    let l = c.loop-rest in
+    let e : length (set l.t (l.at - 1) c.glyph-2.result) ≡ 20 = length-set l.t (l.at - 1) c.glyph-2.result ∙ l.invariant.0 in
     search rules
 
 put-requires : tie.Need-put-requires invariant-loop decreases-loop
@@ -114,12 +114,12 @@ spelt c =
 returns : tie.Need-returns invariant-loop decreases-loop
 returns c =
     let a = c.args in
-    let l = c.before.before.before.before.before.before.before.before.loop in
+    let l = c.loop-rest in
     let i = l.at - 1 in
-    let t = set l.t i c.before.before.before.before.before.before.glyph2.result in
-    let e : length t ≡ 20 = length-set l.t i c.before.before.before.before.before.before.glyph2.result ∙ l.invariant.0 in
+    let t = set l.t i c.glyph-2.result in
+    let e : length t ≡ 20 = length-set l.t i c.glyph-2.result ∙ l.invariant.0 in
     let whole : take (20 - i) (drop i t) ≡ numeral a.base a.n =
-    take_all (20 - i) (drop i t) (omega (arith, length-drop i t)) ∙ sym (spelt c.before.before.before.before.before.before) in (
+    take_all (20 - i) (drop i t) (omega (arith, length-drop i t)) ∙ sym (spelt c.before.before.before.before.before) in (
       c.put.ensures.0 ∙ ap (λ (ds : List ℕ). moved (length a.out.now) a.pen (length ds)) whole,
       c.put.ensures.1 ∙ ap (inked a.out.now a.pen) whole,
     )

@@ -34,7 +34,7 @@ returns-then-v-lt0 c =
     let w = with_dash out a.pen b.0 a.v b.1 in
     let first = c.put-p in
     let then = c.put_decimal in
-    let k : length first.new.0 ≡ length out = search rules in
+    let k : length first.new.out ≡ length out = search rules in
     let text : numeral 10 c.size.result ≡ numeral 10 (suc b.0) =
     ap (numeral 10) (c.size.ensures ∙ ap nat_abs (to_z-of_z c.ranges.v ∙ b.1)) in (
       then.ensures.0
@@ -42,7 +42,7 @@ returns-then-v-lt0 c =
           ∙ ap₂ (λ (q : Pen) (ds : List ℕ). moved (length out) q (length ds)) first.ensures.0 text
           ∙ w.0,
       then.ensures.1
-          ∙ ap (inked first.new.0 first.result) text
+          ∙ ap (inked first.new.out first.result) text
           ∙ ap₂ (λ (l : List ℕ) (q : Pen). inked l q (numeral 10 (suc b.0))) first.ensures.1 first.ensures.0
           ∙ w.1,
     )

@@ -18,10 +18,10 @@ loop-i-init : tie.Need-loop-i-init invariant-loop decreases-loop
 loop-i-init c = pair_start (records_of c.args.a.now) (records_of c.args.b.now) c.args.list.now c.args.used.now (omega (arith, c.requires.1.0, c.requires.1.1)) c.requires.3
 
 past_used-low-requires : tie.Need-past_used-low-requires invariant-loop decreases-loop
-past_used-low-requires c κs = (c.before.before.loop.invariant.4, omega (arith, c.before.before.loop.invariant.2, c.requires.1.1), c.requires.1.0)
+past_used-low-requires c κs = (c.loop-i.invariant.4, omega (arith, c.loop-i.invariant.2, c.requires.1.1), c.requires.1.0)
 
 first_free-j-requires : tie.Need-first_free-j-requires invariant-loop decreases-loop
-first_free-j-requires c κs = (c.requires.0, c.requires.1, c.before.before.before.loop-test.true, c.before.past-used.ensures.1)
+first_free-j-requires c κs = (c.requires.0, c.requires.1, c.loop-i-test.true, c.past_used-low.ensures.1)
 
 overflow_add-i : tie.Need-overflow_add-i invariant-loop decreases-loop
 overflow_add-i c = omega arith
@@ -33,7 +33,7 @@ loop-i-smaller-then-j-m : tie.Need-loop-i-smaller-then-j-m invariant-loop decrea
 loop-i-smaller-then-j-m c = omega arith
 
 loop-i-preserved-then-j-m : tie.Need-loop-i-preserved-then-j-m invariant-loop decreases-loop
-loop-i-preserved-then-j-m c = pair_found (records_of c.args.a.now) (records_of c.args.b.now) c.args.list.now c.before.before.before.before.before.before.loop.used c.before.before.before.before.before.before.loop.list c.before.before.before.before.before.before.loop.i c.before.before.before.before.before.before.loop.k c.before.before.before.before.before.before.loop.low c.past_used-low.result c.first_free-j.result (omega (arith, c.requires.0.1)) (omega (arith, c.requires.1.0, c.requires.1.1)) c.before.before.before.before.before.before.loop.invariant c.past_used-low.ensures.0 (omega (arith, c.past_used-low.ensures.1, c.requires.1.1)) (subst (λ (x : ℕ). FirstFree (records_of c.args.a.now) (records_of c.args.b.now) c.before.before.before.before.before.before.loop.used c.before.before.before.before.before.before.loop.i c.past_used-low.result x c.first_free-j.result) c.requires.1.1 c.first_free-j.ensures) (omega (arith, c.requires.1.1, c.if-j-m.true))
+loop-i-preserved-then-j-m c = pair_found (records_of c.args.a.now) (records_of c.args.b.now) c.args.list.now c.loop-i.used c.loop-i.list c.loop-i.i c.loop-i.k c.loop-i.low c.past_used-low.result c.first_free-j.result (omega (arith, c.requires.0.1)) (omega (arith, c.requires.1.0, c.requires.1.1)) c.loop-i.invariant c.past_used-low.ensures.0 (omega (arith, c.past_used-low.ensures.1, c.requires.1.1)) (subst (λ (x : ℕ). FirstFree (records_of c.args.a.now) (records_of c.args.b.now) c.loop-i.used c.loop-i.i c.past_used-low.result x c.first_free-j.result) c.requires.1.1 c.first_free-j.ensures) (omega (arith, c.requires.1.1, c.if-j-m.true))
 
 overflow_cast-list : tie.Need-overflow_cast-list invariant-loop decreases-loop
 overflow_cast-list c = omega (arith, c.requires.0.0)
@@ -42,16 +42,16 @@ offset_bounds-list-k : tie.Need-offset_bounds-list-k invariant-loop decreases-lo
 offset_bounds-list-k c = omega arith
 
 bounds-list-k : tie.Need-bounds-list-k invariant-loop decreases-loop
-bounds-list-k c = omega (arith, c.requires.0.0, c.requires.2, c.before.before.before.before.before.before.loop.invariant.1, c.before.before.before.before.before.before.loop.invariant.6.2)
+bounds-list-k c = omega (arith, c.requires.0.0, c.requires.2, c.loop-i.invariant.1, c.loop-i.invariant.6.2)
 
 overflow_add-k : tie.Need-overflow_add-k invariant-loop decreases-loop
-overflow_add-k c = omega (arith, c.requires.0.0, c.before.before.before.before.before.before.loop.invariant.1)
+overflow_add-k c = omega (arith, c.requires.0.0, c.loop-i.invariant.1)
 
 loop-i-smaller : tie.Need-loop-i-smaller invariant-loop decreases-loop
 loop-i-smaller c = omega arith
 
 loop-i-preserved : tie.Need-loop-i-preserved invariant-loop decreases-loop
-loop-i-preserved c = pair_none (records_of c.args.a.now) (records_of c.args.b.now) c.args.list.now c.before.before.before.before.before.before.loop.used c.before.before.before.before.before.before.loop.list c.before.before.before.before.before.before.loop.i c.before.before.before.before.before.before.loop.k c.before.before.before.before.before.before.loop.low c.before.before.before.past-used.result c.first_free-j.result (omega (arith, c.requires.0.1)) (omega (arith, c.requires.1.0, c.requires.1.1)) c.before.before.before.before.before.before.loop.invariant c.before.before.before.past-used.ensures.0 (omega (arith, c.before.before.before.past-used.ensures.1, c.requires.1.1)) (subst (λ (x : ℕ). FirstFree (records_of c.args.a.now) (records_of c.args.b.now) c.before.before.before.before.before.before.loop.used c.before.before.before.before.before.before.loop.i c.before.before.before.past-used.result x c.first_free-j.result) c.requires.1.1 c.first_free-j.ensures) (omega (arith, c.requires.1.1, c.if-j-m.false))
+loop-i-preserved c = pair_none (records_of c.args.a.now) (records_of c.args.b.now) c.args.list.now c.loop-i.used c.loop-i.list c.loop-i.i c.loop-i.k c.loop-i.low c.past_used-low.result c.first_free-j.result (omega (arith, c.requires.0.1)) (omega (arith, c.requires.1.0, c.requires.1.1)) c.loop-i.invariant c.past_used-low.ensures.0 (omega (arith, c.past_used-low.ensures.1, c.requires.1.1)) (subst (λ (x : ℕ). FirstFree (records_of c.args.a.now) (records_of c.args.b.now) c.loop-i.used c.loop-i.i c.past_used-low.result x c.first_free-j.result) c.requires.1.1 c.first_free-j.ensures) (omega (arith, c.requires.1.1, c.if-j-m.false))
 
 shape_of-list : tie.Need-shape_of-list invariant-loop decreases-loop
 shape_of-list c = c.loop-i.invariant.6.2

@@ -26,7 +26,7 @@ returns c =
     let n₂ = c.store_number-b in
     let n₃ = c.store_number-c in
     let n₄ = c.store_number in
-    head_stored a.out.now n₁.new.0 n₂.new.0 n₃.new.0 n₄.new.0 a.time a.channel a.p a.n n₁.result n₂.result n₃.result n₄.result
+    head_stored a.out.now n₁.new.out n₂.new.out n₃.new.out n₄.new.out a.time a.channel a.p a.n n₁.result n₂.result n₃.result n₄.result
     n₁.ensures n₂.ensures n₃.ensures n₄.ensures
 
 pub store_head_spec : {M : Type 1} → statement M

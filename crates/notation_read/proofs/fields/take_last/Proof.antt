@@ -27,15 +27,15 @@ returns-in_default c = told c.before c.in_default.is
 
 returns-then-next-s : tie.Need-returns-then-next-s
 returns-then-next-s c =
-    let k = c.n-1.given in
+    let k = c.in-Is in
     let s = c.args.s.now in
-    rw (← told c.before.before k.1, le-leb k.0.1.0 (length s) c.if-next-s.true)
+    rw (← told c.before.before k.is, le-leb k.next (length s) c.if-next-s.true)
 
 returns : tie.Need-returns
 returns c =
-    let k = c.n-1.given in
+    let k = c.in-Is in
     let s = c.args.s.now in
-    rw (← told c.before.before k.1, lt-leb k.0.1.0 (length s) c.if-next-s.false)
+    rw (← told c.before.before k.is, lt-leb k.next (length s) c.if-next-s.false)
 
 pub take_last_spec : {M : Type 1} → statement M
 take_last_spec =

@@ -21,27 +21,27 @@ stamped c e =
 
 headed : {b : Head} (c : tie.After-take_head) → c.take_head.result ≡ b
     → let a = c.args in
-    let k = c.channel-1.given.0 in
-    (with_head a.s.now (length a.room.now) k.0 k.1.0 b ≡ frame_of a.s.now a.at (length a.room.now))
+    let k = c.in-Is in
+    (with_head a.s.now (length a.room.now) k.channel k.time b ≡ frame_of a.s.now a.at (length a.room.now))
     × (room_by a.s.now a.room.now b ≡ room_of a.s.now a.at a.room.now)
 headed c e =
     let a = c.args in
-    let k = c.channel-1.given in
-    let r = stamped c.before.before k.1 in
+    let k = c.in-Is in
+    let r = stamped c.before.before k.is in
     let h = sym e ∙ c.take_head.ensures in
-    (ap (with_head a.s.now (length a.room.now) k.0.0 k.0.1.0) h ∙ r.0, ap (room_by a.s.now a.room.now) h ∙ r.1)
+    (ap (with_head a.s.now (length a.room.now) k.channel k.time) h ∙ r.0, ap (room_by a.s.now a.room.now) h ∙ r.1)
 
 filled : {b : Bytes} (c : tie.After-take_rest) → c.take_rest.result ≡ b
     → let a = c.args in
-    let k = c.channel-1.given.0 in
-    let i = c.id-1.given.0 in
-    (with_bytes k.0 k.1.0 i.0 i.1.0 b ≡ frame_of a.s.now a.at (length a.room.now))
-    × (c.take_rest.new.1.1.0 ≡ room_of a.s.now a.at a.room.now)
+    let k = c.in-Is in
+    let i = c.in-Is-take_head in
+    (with_bytes k.channel k.time i.id i.extended b ≡ frame_of a.s.now a.at (length a.room.now))
+    × (c.take_rest.new.room ≡ room_of a.s.now a.at a.room.now)
 filled c e =
-    let k = c.channel-1.given.0 in
-    let i = c.id-1.given in
-    let r = headed c.before.before.before i.1 in
-    (ap (with_bytes k.0 k.1.0 i.0.0 i.0.1.0) (sym e ∙ c.take_rest.ensures.0) ∙ r.0, c.take_rest.ensures.1 ∙ r.1)
+    let k = c.in-Is in
+    let i = c.in-Is-take_head in
+    let r = headed c.before.before.before i.is in
+    (ap (with_bytes k.channel k.time i.id i.extended) (sym e ∙ c.take_rest.ensures.0) ∙ r.0, c.take_rest.ensures.1 ∙ r.1)
 
 take_stamp-requires : tie.Need-take_stamp-requires
 take_stamp-requires c κs = search rules

@@ -27,15 +27,15 @@ returns-in_default c = stamped c.before c.in_default.is
 
 returns-then-next-s : tie.Need-returns-then-next-s
 returns-then-next-s c =
-    let k = c.channel-1.given in
+    let k = c.in-Is in
     let s = c.args.s.now in
-    rw (← stamped c.before.before k.1, le-leb k.0.1.1.0 (length s) c.if-next-s.true)
+    rw (← stamped c.before.before k.is, le-leb k.next (length s) c.if-next-s.true)
 
 returns : tie.Need-returns
 returns c =
-    let k = c.channel-1.given in
+    let k = c.in-Is in
     let s = c.args.s.now in
-    rw (← stamped c.before.before k.1, lt-leb k.0.1.1.0 (length s) c.if-next-s.false)
+    rw (← stamped c.before.before k.is, lt-leb k.next (length s) c.if-next-s.false)
 
 pub tick_line_spec : {M : Type 1} → statement M
 tick_line_spec =

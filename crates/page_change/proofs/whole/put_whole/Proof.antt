@@ -42,7 +42,7 @@ returns c =
     = mid_len a (a + k) bs s.requires ∙ omega arith in
     let gone : drop s.args.k (take (s.args.at + s.args.k - s.args.at) (drop s.args.at s.args.bytes.now)) ≡ []
     = drop_of_length-le part {i = s.args.k} (le_of_eq size) in
-    let stored : c.store.new.1.0 ≡ bytes_of s.args.big s.args.k s.args.v
+    let stored : c.store.new.buf ≡ bytes_of s.args.big s.args.k s.args.v
     = c.store.ensures ∙ stored_in_lem s.args.big k s.args.v part (omega (arith, size)) ∙ ap (λ (l : List ℕ). new ++ l) gone ∙ append-nil new in
     ap₂ (λ (l r : List ℕ). take a bs ++ (l ++ r)) stored (Post-is a (a + k) bs (le-add_right a k))
 

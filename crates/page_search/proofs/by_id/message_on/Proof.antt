@@ -29,8 +29,8 @@ returns-then-is_on c =
     let k = c in
     let f = k in
     let a = f.args in
-    let g = k.kind-1.given.0 in
-    message_own a.iface (first_at (has_id a.id a.extended) 0 rows) g.0 g.1.0 g.1.1.0 g.1.1.1.0 (sym f.with_id.ensures ∙ k.in-At.is)
+    let g = k.in-At in
+    message_own a.iface (first_at (has_id a.id a.extended) 0 rows) g.kind g.at g.len g.big (sym f.with_id.ensures ∙ k.in-At.is)
     (sym c.is_on.ensures ∙ c.if-is_on.true)
 
 returns : tie.Need-returns
@@ -38,8 +38,8 @@ returns c =
     let k = c in
     let f = k in
     let a = f.args in
-    let g = k.kind-1.given.0 in
-    message_other a.iface (first_at (has_id a.id a.extended) 0 rows) g.0 g.1.0 g.1.1.0 g.1.1.1.0 (sym f.with_id.ensures ∙ k.in-At.is)
+    let g = k.in-At in
+    message_other a.iface (first_at (has_id a.id a.extended) 0 rows) g.kind g.at g.len g.big (sym f.with_id.ensures ∙ k.in-At.is)
     (sym c.is_on.ensures ∙ c.if-is_on.false)
 
 pub message_on_spec : {M : Type 1} → statement M
