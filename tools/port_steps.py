@@ -13,7 +13,7 @@ import re
 import sys
 
 TOKEN = re.compile(r'--[^\n]*|"(?:\\.|[^"\\\n])*"|[^\s(){};,@"«»]+')
-plain = lambda n: n.replace('_', '-')
+plain = lambda n: n.replace('_', '-').lower()
 # what the older Rattle joined by dashes, and what stood before a goal's name
 WORDS = {'type-inv': 'type_inv', 'well-formed': 'well_formed', 'yielded-by': 'yielded_by', 'len-below': 'len_below'}
 KINDS = re.compile(r'^(overflow|nonzero|bounds|offset-bounds|slice-bounds)-')

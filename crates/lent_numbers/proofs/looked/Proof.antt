@@ -40,7 +40,7 @@ returns c =
     let a = post.args in
     let e = looked_by a.t1 a.post a.numbers.now
     (set_up a.t1 a.post (sym post.is_post.ensures ∙ not-false _ post.if-not-is_post.false-raw) (sym used.is_set.ensures ∙ not-false _ used.if-not-is_set.false-raw)) in
-    let ns = n.Numbers-of.ensures in
+    let ns = n.numbers_of-ns.ensures in
     let many = ap length ns ∙ numbers_many _ in (
       out.hand_out.ensures.0 ∙ ap (λ (k : ℕ). outcome_word (room_outcome k (length a.numbers.now))) many ∙ e.0,
       out.hand_out.ensures.1 ∙ ap₂ (λ (k : ℕ) (xs : List ℕ). room_left k xs a.numbers.now) many ns ∙ e.1,

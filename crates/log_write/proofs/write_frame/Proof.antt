@@ -84,10 +84,10 @@ returns c =
     let p = c.part_of-p in
     let n = c.head_size.result + length a.payload.now in
     let h = c.store_head-at in
-    let b = c.before.before.store_Bytes in
+    let b = c.store_bytes in
     logged (frame a.time a.channel a.extended a.id a.payload.now) a.out.now n (search rules, omega arith, has a.id a.extended q.result q.ensures c.if-not-has_identifier.false-raw, omega arith)
-    (omega (arith, frame_length a.time a.channel p.result a.extended a.id a.payload.now p.ensures)) b.new.0 c.if-out-size.false
-    (body_stored a.out.now h.new.out b.new.0 a.time a.channel p.result (length a.payload.now) h.result a.payload.now h.ensures b.ensures
+    (omega (arith, frame_length a.time a.channel p.result a.extended a.id a.payload.now p.ensures)) b.new.out c.if-out-size.false
+    (body_stored a.out.now h.new.out b.new.out a.time a.channel p.result (length a.payload.now) h.result a.payload.now h.ensures b.ensures
     ∙ ap (sets a.out.now 0) (frame_bytes a.time a.channel p.result a.extended a.id a.payload.now p.ensures))
 
 pub write_frame_spec : {M : Type 1} → statement M

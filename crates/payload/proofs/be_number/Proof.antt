@@ -1,7 +1,6 @@
 -- `payload::be_number` meets its contract. The invariant: n is the number of the bytes before i, with that of those from i to the eighth below it.
 -- The measure is what is left of them. Assumes nothing.
 use mathlib.Core.Path.{◌≡◌, sym, subst}
-use mathlib.Core.Logic.{⊎_elim}
 use Prim.Native.Nat.{ℕ, suc, ◌-◌, ◌*◌, ◌%◌, ◌^◌, ◌≤◌}
 use native.Mathlib.Omega.{arith}
 use native.Mathlib.Numerals.{add-one}
@@ -9,6 +8,7 @@ use lib.ListN.{length, get_or, take, length-take}
 use lib.Seq.{get_or-take}
 use lib.Bits.{bit_or}
 use Rattle.payload.proofs.BigBytes.{Taken, taken_none, taken_more, taken_all}
+use Rattle.payload.proofs.be_number.Lts.{then-bytes-lt8, else-bytes-lt8}
 use Rattle.payload.proofs.be_number.Statement.{statement}
 use Rattle.payload.proofs.be_number.Tie as tie
 
@@ -22,7 +22,7 @@ loop-i-init : tie.Need-loop-i-init invariant-loop decreases-loop
 loop-i-init c =
     let bs = c.args.bytes.now in (
       omega arith,
-      ⊎_elim (λ w. omega (arith, length-take 8 bs)) (λ w. omega (arith, length-take 8 bs)) c.if-bytes-lt8.branch,
+      elim c.if-bytes-lt8.branch [ then-bytes-lt8 w ↦ omega (arith, length-take 8 bs) | else-bytes-lt8 w ↦ omega (arith, length-take 8 bs) ],
       taken_none (take 8 bs),
     )
 

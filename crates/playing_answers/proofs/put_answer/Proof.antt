@@ -33,7 +33,7 @@ shape_of-line c = search rules
 returns : tie.Need-returns
 returns c =
     let a = c.args in
-    let x = c.before.before.Put-refused.ensures in
+    let x = c.put_refused.ensures in
     (x.0 ∙ ap₂ refused_text c.number_in-n.ensures c.start_in-start.ensures ∙ is_refused a.word c.if-word-lt65536.false, x.1, x.2)
 
 pub put_answer_spec : {M : Type 1} → statement M

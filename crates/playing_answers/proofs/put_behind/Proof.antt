@@ -34,7 +34,7 @@ returns c =
     let x = c.put_answer-a.ensures in
     let y = c.put_byte-b.ensures in
     let d = c.number_in-dash.ensures in
-    let z = c.before.before.before.before.before.before.Put-post.ensures in
+    let z = c.put_post-c.ensures in
     let w = c.put_byte.ensures in (
       w.0 ∙ ap (λ (l : List ℕ). space ∷ l) (z.0 ∙ ap₂ (λ (n : ℕ) (l : List ℕ). post_text a.post (eqb n 1) ++ l) d (y.0 ∙ ap (λ (l : List ℕ). space ∷ l) x.0)),
       omega (arith, x.1, y.1, z.1, w.1),
