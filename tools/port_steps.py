@@ -156,9 +156,11 @@ def turn(text, of):
         at = steps.place(it)
         return None if at is None else '.'.join(['tie', steps.places[at][5], *parts[2:]])
 
-    def block(lines):
+    def block(lines, at=None):
         """One declaration, with the places of its variables."""
         known, aliases, calls = {}, {}, {}
+        if at is not None:
+            known['c'] = at
         head = re.match(r'(?:abbrev |pub )*(\S+) : tie\.Need-([^\s(){};,]+)', lines)
         if head:
             new = steps.goal(head[2])
@@ -234,8 +236,33 @@ def turn(text, of):
 
         return TOKEN.sub(dotted, lines)
 
+    def closing(lines):
+        """What closes the proof: an answer that is written there speaks of the place of its goal."""
+        m = re.search(r'tie\.spec\s', lines)
+        out, i, k = lines[:m.end()], m.end(), 0
+        while i < len(lines):
+            if lines[i] == '(':
+                depth, j = 0, i
+                while True:
+                    depth += (lines[j] == '(') - (lines[j] == ')')
+                    j += 1
+                    if depth == 0:
+                        break
+                at = steps.asked.get(steps.order[k]) if k < len(steps.order) else None
+                out += block(lines[i:j], at)
+                k, i = k + 1, j
+            elif lines[i] == ')':
+                return out + lines[i:]
+            elif lines[i].isspace():
+                out, i = out + lines[i], i + 1
+            else:
+                word = re.match(r'[^\s()]+', lines[i:])[0]
+                k += not word.startswith(('invariant', 'decreases'))
+                out, i = out + word, i + len(word)
+        return out
+
     parts = re.split(r'(\n\n+)', text)
-    text = ''.join(p if k % 2 else block(p) for k, p in enumerate(parts))
+    text = ''.join(p if k % 2 else closing(p) if re.search(r'tie\.spec\s', p) else block(p) for k, p in enumerate(parts))
     # the answers carry the goals' names
     renamed = {}
     for name, goal in re.findall(r'(?m)^(\S+) : tie\.Need-([^\s(){};,]+)', text):
@@ -243,6 +270,8 @@ def turn(text, of):
     text = TOKEN.sub(lambda m: renamed.get(m[0], m[0]), text)
     # what closes the proof takes the goals in today's order
     m = re.search(r'tie\.spec\b((?:\s+[^\s()]+)*)\)', text)
+    if not m:
+        said.add('answers are written where it closes')
     if m:
         given = m[1].split()
         first = [g for g in given if g not in renamed.values()]

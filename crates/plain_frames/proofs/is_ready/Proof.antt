@@ -10,5 +10,5 @@ is_ready_spec =
     tie.close
     (tie.spec
     (λ c κs. search rules)
-    (λ c. rw (sym c.is_on.ensures ∙ not-true c.is_on.result c.if1.true))
-    (λ c. rw (sym c.is_on.ensures ∙ not-false c.is_on.result c.if1.false)))
+    (λ c. rw (sym c.is_on.ensures ∙ not-true c.is_on.result c.if-not-is_on.true-raw))
+    (λ c. rw (sym c.is_on.ensures ∙ not-false c.is_on.result c.if-not-is_on.false-raw)))

@@ -18,7 +18,7 @@ store_raws_spec =
     (λ c. omega arith)
     (λ c. omega arith)
     (λ c. omega arith)
-    (λ c. let l = c.before.before in
+    (λ c. let l = c in
     signed_more signal_count l.args.t2 l.args.raws.now l.loop.j (search rules) (omega arith) (omega arith) (record { sfits = c.raws.given }) l.loop.invariant)
     (λ c. c.loop-j.invariant.1)
     (λ c. stored_whole signal_count c.args.t2 c.args.raws.now c.loop-j.j (search rules) (omega arith) c.loop-j.invariant))

@@ -1,8 +1,8 @@
 -- `log_read::stage::identifier_part` meets its contract: an odd part is an extended identifier.
-use mathlib.Core.Logic.{⊎_elim}
 use borrow.Author.Tests.{le-leb, lt-leb, eq-eqb, ne_eqb}
 use Rattle.log_records.specs.Reading.{identifier_part}
 use borrow.Author.Rules.{rules}
+use Rattle.log_read.proofs.stage.identifier_part.Lts.{then-p-eq1+else-p-ge536870912, else-p-eq1+else-p-ge2048}
 use Rattle.log_read.proofs.stage.identifier_part.Statement.{statement}
 use Rattle.log_read.proofs.stage.identifier_part.Tie as tie
 
@@ -17,10 +17,10 @@ returns-then-p-ge2048 c = rw (ne_eqb _ 1 c.if-p-eq1.false, le-leb _ _ c.if-p-ge2
 returns : tie.Need-returns
 unfolding identifier_part
 returns c =
-    ⊎_elim
-    (λ w. rw (eq-eqb _ 1 w.0.taken, lt-leb _ _ w.1.left) c.length_at.ensures)
-    (λ w. rw (ne_eqb _ 1 w.0.left, lt-leb _ _ w.1.left) c.length_at.ensures)
-    c.if-p-eq1.branch
+    elim c.if-p-eq1.branch [
+      | then-p-eq1+else-p-ge536870912 w ↦ rw (eq-eqb _ 1 w.if-p-eq1.true, lt-leb _ _ w.if-p-ge536870912.false) c.length_at.ensures
+      | else-p-eq1+else-p-ge2048 w ↦ rw (ne_eqb _ 1 w.if-p-eq1.false, lt-leb _ _ w.if-p-ge2048.false) c.length_at.ensures
+    ]
 
 pub identifier_part_spec : {M : Type 1} → statement M
 identifier_part_spec = tie.close (tie.spec returns-then-p-ge536870912 returns-then-p-ge2048 (λ c κs. search rules) returns)

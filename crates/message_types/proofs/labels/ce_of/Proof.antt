@@ -7,13 +7,13 @@ pub ce_of_spec : {M : Type 1} → statement M
 ce_of_spec =
     tie.close
     (tie.spec
-    (λ c. rw c.match.keys1)
-    (λ c. rw c.match.keys2)
-    (λ c. rw c.match.keys3)
-    (λ c. rw c.match.keys4)
-    (λ c. rw c.match.keys5)
-    (λ c. rw c.match.keys6)
-    (λ c. rw c.match.keys7)
-    (λ c. rw c.match.keys8)
-    (λ c. rw c.match.keys9)
+    (λ c. rw c.in-0.is)
+    (λ c. rw c.in-1.is)
+    (λ c. rw c.in-2.is)
+    (λ c. rw c.in-3.is)
+    (λ c. rw c.in-4.is)
+    (λ c. rw c.in-5.is)
+    (λ c. rw c.in-6.is)
+    (λ c. rw c.in-7.is)
+    (λ c. rw c.in-8.is)
     (λ c. search past depth 11))

@@ -4,4 +4,4 @@ use Rattle.message_types.proofs.labels.contactors_of.Statement.{statement}
 use Rattle.message_types.proofs.labels.contactors_of.Tie as tie
 
 pub contactors_of_spec : {M : Type 1} → statement M
-contactors_of_spec = tie.close (tie.spec (λ c. rw c.match.keys1) (λ c. search past))
+contactors_of_spec = tie.close (tie.spec (λ c. rw c.in-0.is) (λ c. search past))

@@ -4,4 +4,4 @@ use Rattle.message_types.proofs.labels.lowering_of.Statement.{statement}
 use Rattle.message_types.proofs.labels.lowering_of.Tie as tie
 
 pub lowering_of_spec : {M : Type 1} → statement M
-lowering_of_spec = tie.close (tie.spec (λ c. rw c.match.keys1) (λ c. search past))
+lowering_of_spec = tie.close (tie.spec (λ c. rw c.in-0.is) (λ c. search past))

@@ -7,7 +7,7 @@ pub mating_of_spec : {M : Type 1} → statement M
 mating_of_spec =
     tie.close
     (tie.spec
-    (λ c. rw c.match.keys1)
-    (λ c. rw c.match.keys2)
-    (λ c. rw c.match.keys3)
+    (λ c. rw c.in-0.is)
+    (λ c. rw c.in-1.is)
+    (λ c. rw c.in-2.is)
     (λ c. search past depth 5))

@@ -4,4 +4,4 @@ use Rattle.message_types.proofs.labels.origin_of.Statement.{statement}
 use Rattle.message_types.proofs.labels.origin_of.Tie as tie
 
 pub origin_of_spec : {M : Type 1} → statement M
-origin_of_spec = tie.close (tie.spec (λ c. rw c.match.keys1) (λ c. search past))
+origin_of_spec = tie.close (tie.spec (λ c. rw c.in-1.is) (λ c. search past))

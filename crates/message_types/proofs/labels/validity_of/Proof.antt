@@ -7,5 +7,5 @@ pub validity_of_spec : {M : Type 1} → statement M
 validity_of_spec =
     tie.close
     (tie.spec
-    (λ c. rw c.match.keys1)
+    (λ c. rw c.in-0.is)
     (λ c. search past))

@@ -15,11 +15,11 @@ pub has_gaps_spec : {M : Type 1} → statement M
 has_gaps_spec =
     tie.close
     (tie.spec
-    (λ c. at_key has_gaps 9 c.match.keys1)
-    (λ c. at_key has_gaps 10 c.match.keys2)
-    (λ c. at_key has_gaps 11 c.match.keys3)
-    (λ c. at_key has_gaps 14 c.match.keys4)
-    (λ c. at_key has_gaps 27 c.match.keys5)
-    (λ c. at_key has_gaps 30 c.match.keys6)
-    (λ c. at_key has_gaps 39 c.match.keys7)
-    (λ c. let r = c.match.rest in none c.args.kind r.0.0.0.0.0.0.1 r.0.0.0.0.0.1 r.0.0.0.0.1 r.0.0.0.1 r.0.0.1 r.0.1 r.1))
+    (λ c. at_key has_gaps 9 c.in-9.is)
+    (λ c. at_key has_gaps 10 c.in-10.is)
+    (λ c. at_key has_gaps 11 c.in-11.is)
+    (λ c. at_key has_gaps 14 c.in-14.is)
+    (λ c. at_key has_gaps 27 c.in-27.is)
+    (λ c. at_key has_gaps 30 c.in-30.is)
+    (λ c. at_key has_gaps 39 c.in-39.is)
+    (λ c. let r = c.in_default.in_default-own.rest in none c.args.kind r.0.0.0.0.0.0.1 r.0.0.0.0.0.1 r.0.0.0.0.1 r.0.0.0.1 r.0.0.1 r.0.1 r.1))
