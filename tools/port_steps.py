@@ -24,6 +24,12 @@ class Steps:
     """The places of a function, each with its parent, its old and new field, and what stands below its arm."""
 
     def __init__(self, of):
+        # a parameter of an array or a struct, which the older Rattle counted
+        self.args = {}
+        for old, new in of.get('args') or []:
+            m, n = re.match(r'\.(?:args|ranges) \.(\S+)$', old), re.match(r'\.(?:args|ranges) \.(\S+)$', new)
+            if m and n:
+                self.args[m[1]] = n[1]
         self.goals = {plain(old): new for old, new in of['needs']}
         self.order = [new for _, new in of['needs']]
         self.at = {}
@@ -92,7 +98,9 @@ class Steps:
     def resolve(self, i, parts):
         """How many of the parts are taken for what: the new parts, or None. i is the place, or None where it is not known."""
         it = plain(parts[0])
-        forms = (it, re.sub(r'2$', '', it))
+        if it.isdigit():
+            return None
+        forms = [f for f in (it, re.sub(r'2$', '', it)) if f]
         places = list(self.up(i)) if i is not None else range(len(self.places))
         for form in forms:
             for at in places:
@@ -174,6 +182,8 @@ def turn(text, of):
             if word.startswith(('--', '"')) or '.' not in word:
                 return word
             parts = word.split('.')
+            parts[1:] = [steps.args.get(p, p) for p in parts[1:]]
+            word = '.'.join(parts)
             if parts[0] == 'tie':
                 return tie(parts) or word
             if parts[0] in aliases:
@@ -203,6 +213,10 @@ def turn(text, of):
                 helper = re.search(r'([^\s(){};,@]+) \(?$', lines[:m.start()])
                 if helper and helpers.get(helper[1]) is not None and seen:
                     at = helpers[helper[1]]
+                # a helper whose answer is a place
+                to = re.search(r'→ tie\.([^\s(){};,]+)[^\n→]*\n', lines)
+                if seen and to and re.search(r'^\S+( \S+)* =\s*$', lines[:m.start()].split('\n')[-1] or lines[:m.start()].split('\n')[-2]):
+                    at = steps.place(to[1]) if steps.place(to[1]) is not None else at
                 count = steps.befores(start, at) if at is not None else None
                 return '.'.join([parts[0]] + ['before'] * (ups if count is None else count) + rest)
             if not seen and ups == 0 and i == 1 and parts[0]:

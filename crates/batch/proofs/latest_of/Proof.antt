@@ -25,7 +25,7 @@ decreases-loop t latest₀ i₀ latest i = post_count - i
 loop-i-preserved : tie.Need-loop-i-preserved invariant-loop decreases-loop
 loop-i-preserved c =
     let l = c.loop-i in
-    let ps = c.args.t1.posts in
+    let ps = c.args.t.posts in
     let n : length ps ≡ post_count = search unmapped in
     subst (λ (x : List Slot). Filled post_count (map part ps) (set l.latest l.i x) (l.i + 1)) (get_or-map part ps l.i no_post)
     (filled_more post_count (map part ps) l.latest (part no_post) l.i (length-map ps part ∙ n) (omega arith) l.invariant)
@@ -33,7 +33,7 @@ loop-i-preserved c =
 returns : tie.Need-returns invariant-loop decreases-loop
 returns c =
     let l = c.loop-i in
-    let ps = c.args.t1.posts in
+    let ps = c.args.t.posts in
     let n : length ps ≡ post_count = search unmapped in
     filled_whole post_count (map part ps) l.latest l.i (length-map ps part ∙ n) (omega arith) l.invariant
 

@@ -24,8 +24,8 @@ loop-i-preserved : tie.Need-loop-i-preserved invariant-loop decreases-loop
 loop-i-preserved c =
     let l = c.loop-i in
     let a = c.args in
-    let hs = a.t1 in
-    let ls = a.t2 in
+    let hs = a.heads in
+    let ls = a.latest in
     let m : length hs ≡ post_count = search (rules, unmapped) in
     let n : length ls ≡ post_count = search (rules, unmapped) in
     subst (λ (x : Post). Filled post_count (joined hs ls) (set l.posts l.i x) (l.i + 1)) (joined_at hs ls l.i (omega arith) (omega arith))
@@ -35,8 +35,8 @@ returns : tie.Need-returns invariant-loop decreases-loop
 returns c =
     let l = c.loop-i in
     let a = c.args in
-    let hs = a.t1 in
-    let ls = a.t2 in
+    let hs = a.heads in
+    let ls = a.latest in
     let m : length hs ≡ post_count = search (rules, unmapped) in
     let n : length ls ≡ post_count = search (rules, unmapped) in
     ap (λ (ps : List Post). record { posts = ps; index = a.index; refused = a.refused }) (filled_whole post_count (joined hs ls) l.posts l.i (joined_length hs ls (m ∙ sym n) ∙ m) (omega arith) l.invariant)

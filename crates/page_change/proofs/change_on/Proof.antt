@@ -74,7 +74,7 @@ shape_of-bytes-in_default-signal_at c = search rules
 
 -- the arguments, from the search on, and the frame that was read
 start : (c : tie.After-signal_at) → tie.Start
-start c = c.before.before.before.before.before.before.before
+start c = c.before.before.before.before
 
 kind : (c : tie.After-signal_at) → ℕ
 kind c = c.in-Frame.kind

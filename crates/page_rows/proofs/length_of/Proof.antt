@@ -10,7 +10,7 @@ message_at-requires : tie.Need-message_at-requires
 message_at-requires c κs = search rules
 
 returns : tie.Need-returns
-returns c = ap (λ (m : Message). m.2) c.message_at.ensures ∙ (says c.args.kind).
+returns c = ap (λ (m : Message). m.2) c.message_at.ensures ∙ (says c.args.kind).2
 
 pub length_of_spec : {M : Type 1} → statement M
 length_of_spec = tie.close (tie.spec message_at-requires returns)

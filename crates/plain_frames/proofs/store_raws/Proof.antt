@@ -11,7 +11,7 @@ pub store_raws_spec : {M : Type 1} → statement M
 store_raws_spec =
     tie.close
     (tie.spec (λ places zs j₀. Stored signal_count zs places) (λ places zs j₀ l j. signal_count - j)
-    (λ c. stored_none signal_count c.args.t2 c.args.raws.now)
+    (λ c. stored_none signal_count c.args.zs c.args.raws.now)
     (λ c. omega arith)
     (λ c. omega arith)
     (λ c. omega arith)
@@ -19,6 +19,6 @@ store_raws_spec =
     (λ c. omega arith)
     (λ c. omega arith)
     (λ c. let l = c in
-    signed_more signal_count l.args.t2 l.args.raws.now l.loop.j (search rules) (omega arith) (omega arith) (record { sfits = c.raws.given }) l.loop.invariant)
+    signed_more signal_count l.args.zs l.args.raws.now l.loop.j (search rules) (omega arith) (omega arith) (record { sfits = c.raws.given }) l.loop.invariant)
     (λ c. c.loop-j.invariant.1)
-    (λ c. stored_whole signal_count c.args.t2 c.args.raws.now c.loop-j.j (search rules) (omega arith) c.loop-j.invariant))
+    (λ c. stored_whole signal_count c.args.zs c.args.raws.now c.loop-j.j (search rules) (omega arith) c.loop-j.invariant))

@@ -11,13 +11,13 @@ pub store_entry_spec : {M : Type 1} → statement M
 store_entry_spec =
     tie.close
     (tie.spec (λ places ns j₀. Stored entry_count ns places) (λ places ns j₀ l j. entry_count - j)
-    (λ c. stored_none entry_count c.args.t2 c.args.numbers.now)
+    (λ c. stored_none entry_count c.args.ns c.args.numbers.now)
     (λ c. omega arith)
     (λ c. omega arith)
     (λ c. omega arith)
     (λ c. omega arith)
     (λ c. omega arith)
     (λ c. omega arith)
-    (λ c. stored_more entry_count c.args.t2 c.args.numbers.now 0 c.loop-j.j (search rules) (omega arith) (omega arith) c.loop-j.invariant)
+    (λ c. stored_more entry_count c.args.ns c.args.numbers.now 0 c.loop-j.j (search rules) (omega arith) (omega arith) c.loop-j.invariant)
     (λ c. c.loop-j.invariant.1)
-    (λ c. stored_whole entry_count c.args.t2 c.args.numbers.now c.loop-j.j (search rules) (omega arith) c.loop-j.invariant))
+    (λ c. stored_whole entry_count c.args.ns c.args.numbers.now c.loop-j.j (search rules) (omega arith) c.loop-j.invariant))

@@ -22,7 +22,7 @@ bounds-q-0 c = search rules
 
 returns-then-findings-eq0 : tie.Need-returns-then-findings-eq0 invariant-loop decreases-loop
 returns-then-findings-eq0 c =
-    let cs = c.args.t1 in
+    let cs = c.args.counts in
     rw c.wrapping_add_u32.ensures (nothing_found cs (search rules) ∙ ap (λ (n : ℕ). counted n cs) (sym c.if-findings-eq0.true))
 
 overflow_mul-bits : tie.Need-overflow_mul-bits invariant-loop decreases-loop

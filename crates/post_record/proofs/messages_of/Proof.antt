@@ -54,12 +54,12 @@ loop-k-smaller c = search rules
 loop-k-preserved : tie.Need-loop-k-preserved invariant-loop decreases-loop
 loop-k-preserved c =
     let a = c in
-    (search rules, rw (a.loop-k.invariant.1, c.dated.ensures) (filled_next (shown_in a.args.now a.args.t2) nothing a.loop-k.k place_count))
+    (search rules, rw (a.loop-k.invariant.1, c.dated.ensures) (filled_next (shown_in a.args.now a.args.slots) nothing a.loop-k.k place_count))
 
 returns : tie.Need-returns invariant-loop decreases-loop
 returns c =
     let a = c in
-    rw a.loop-k.invariant.1 (filled_all (shown_in a.args.now a.args.t2) nothing a.loop-k.k place_count (search rules))
+    rw a.loop-k.invariant.1 (filled_all (shown_in a.args.now a.args.slots) nothing a.loop-k.k place_count (search rules))
 
 pub messages_of_spec : {M : Type 1} → statement M
 messages_of_spec =

@@ -45,10 +45,10 @@ loop-k-smaller : tie.Need-loop-k-smaller invariant-loop decreases-loop
 loop-k-smaller c = search rules
 
 loop-k-preserved : tie.Need-loop-k-preserved invariant-loop decreases-loop
-loop-k-preserved c = let a = c in (search rules, rw a.loop-k.invariant.1 (filled_next (tally_at a.args.t1) 0 a.loop-k.k finding_count))
+loop-k-preserved c = let a = c in (search rules, rw a.loop-k.invariant.1 (filled_next (tally_at a.args.counts) 0 a.loop-k.k finding_count))
 
 returns : tie.Need-returns invariant-loop decreases-loop
-returns c = let a = c in rw a.loop-k.invariant.1 (filled_all (tally_at a.args.t1) 0 a.loop-k.k finding_count (search rules))
+returns c = let a = c in rw a.loop-k.invariant.1 (filled_all (tally_at a.args.counts) 0 a.loop-k.k finding_count (search rules))
 
 pub tallies_of_spec : {M : Type 1} → statement M
 tallies_of_spec =

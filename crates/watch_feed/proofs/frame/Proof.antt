@@ -31,8 +31,8 @@ returns c =
     let arrived = heard in
     let found = arrived in
     let a = found.args in
-    fed_both a.t1 a.channel a.time _
-    (rw (c.fed.ensures, heard.hear.ensures.0, arrived.arrival_for-a.ensures, found.some_place-i.ensures.0) (feed_same a.t1 a.channel a.time (framing a.id a.extended _)))
+    fed_both a.t a.channel a.time _
+    (rw (c.fed.ensures, heard.hear.ensures.0, arrived.arrival_for-a.ensures, found.some_place-i.ensures.0) (feed_same a.t a.channel a.time (framing a.id a.extended _)))
 
 pub frame_spec : {M : Type 1} → statement M
 frame_spec =

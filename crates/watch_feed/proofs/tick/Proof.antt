@@ -27,8 +27,8 @@ returns c =
     let heard = c in
     let found = heard in
     let a = found.args in
-    fed_both a.t1 a.channel a.time ticking
-    (rw (c.fed.ensures, heard.hear.ensures.0, found.some_place-at.ensures.0) (feed_same a.t1 a.channel a.time ticking))
+    fed_both a.t a.channel a.time ticking
+    (rw (c.fed.ensures, heard.hear.ensures.0, found.some_place-at.ensures.0) (feed_same a.t a.channel a.time ticking))
 
 pub tick_spec : {M : Type 1} → statement M
 tick_spec =

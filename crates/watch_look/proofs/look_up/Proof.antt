@@ -18,7 +18,7 @@ unfolding look_up_of
 returns-then-not-is_post c =
     let post = c in
     let a = post.args in
-    shown_both a.t1 a.post (rw (sym post.is_post.ensures ∙ not-true _ post.if-not-is_post.true-raw, c.no_record.ensures))
+    shown_both a.t a.post (rw (sym post.is_post.ensures ∙ not-true _ post.if-not-is_post.true-raw, c.no_record.ensures))
 
 offset_bounds-t-i : tie.Need-offset_bounds-t-i
 offset_bounds-t-i c = search rules
@@ -41,7 +41,7 @@ returns-then-not-is_set c =
     let used = c in
     let post = used in
     let a = post.args in
-    shown_both a.t1 a.post
+    shown_both a.t a.post
     (rw (
       sym post.is_post.ensures ∙ not-false _ post.if-not-is_post.false-raw,
       sym used.is_set.ensures ∙ not-true _ used.if-not-is_set.true-raw,
@@ -57,7 +57,7 @@ returns c =
     let used = c in
     let post = used in
     let a = post.args in
-    shown_both a.t1 a.post
+    shown_both a.t a.post
     (rw (
       sym post.is_post.ensures ∙ not-false _ post.if-not-is_post.false-raw,
       sym used.is_set.ensures ∙ not-false _ used.if-not-is_set.false-raw,

@@ -38,23 +38,23 @@ loop-i-smaller c = search rules
 loop-i-preserved : tie.Need-loop-i-preserved invariant-loop decreases-loop
 loop-i-preserved c =
     let a = c.args in
-    let n : length a.t1.posts ≡ post_count = search unmapped in
+    let n : length a.t.posts ≡ post_count = search unmapped in
     let at = c.loop-i in
-    (omega arith, place_on_lem a.t1.posts at.i a.channel at.invariant.1 (omega arith) (sym c.holds_channel.ensures ∙ c.if-holds_channel.false))
+    (omega arith, place_on_lem a.t.posts at.i a.channel at.invariant.1 (omega arith) (sym c.holds_channel.ensures ∙ c.if-holds_channel.false))
 
 returns-then-i-ge-POSTS : tie.Need-returns-then-i-ge-POSTS invariant-loop decreases-loop
 returns-then-i-ge-POSTS c =
     let a = c.args in
-    let n : length a.t1.posts ≡ post_count = search unmapped in
+    let n : length a.t.posts ≡ post_count = search unmapped in
     let at = c.loop-i in
-    (sym (place_end a.t1.posts at.i a.channel at.invariant.1 (omega arith)), omega arith)
+    (sym (place_end a.t.posts at.i a.channel at.invariant.1 (omega arith)), omega arith)
 
 returns-then-holds_channel : tie.Need-returns-then-holds_channel invariant-loop decreases-loop
 returns-then-holds_channel c =
     let a = c.args in
-    let n : length a.t1.posts ≡ post_count = search unmapped in
+    let n : length a.t.posts ≡ post_count = search unmapped in
     let at = c.loop-i in
-    (sym (place_here a.t1.posts at.i a.channel at.invariant.1 (omega arith) (sym c.holds_channel.ensures ∙ c.if-holds_channel.true)), omega arith)
+    (sym (place_here a.t.posts at.i a.channel at.invariant.1 (omega arith) (sym c.holds_channel.ensures ∙ c.if-holds_channel.true)), omega arith)
 
 pub place_spec : {M : Type 1} → statement M
 place_spec =

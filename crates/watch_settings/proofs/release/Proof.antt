@@ -14,7 +14,7 @@ returns-then-not-is_post : tie.Need-returns-then-not-is_post
 unfolding release_of
 returns-then-not-is_post c =
     let a = c.args in
-    released_both a.t1 a.post (rw (sym c.is_post.ensures ∙ not-true _ c.if-not-is_post.true-raw))
+    released_both a.t a.post (rw (sym c.is_post.ensures ∙ not-true _ c.if-not-is_post.true-raw))
 
 offset_bounds-t-i : tie.Need-offset_bounds-t-i
 offset_bounds-t-i c = search rules
@@ -33,7 +33,7 @@ unfolding release_of
 returns-then-not-is_set c =
     let post = c in
     let a = post.args in
-    released_both a.t1 a.post
+    released_both a.t a.post
     (rw (sym post.is_post.ensures ∙ not-false _ post.if-not-is_post.false-raw, sym c.is_set.ensures ∙ not-true _ c.if-not-is_set.true-raw))
 
 free_post-requires : tie.Need-free_post-requires
@@ -51,7 +51,7 @@ returns c =
     let used = c in
     let post = used in
     let a = post.args in
-    released_both a.t1 a.post
+    released_both a.t a.post
     (rw (
       c.forgotten-v.ensures,
       c.put-u.ensures,

@@ -21,7 +21,7 @@ bounds-kb-j : tie.Need-bounds-kb-j
 bounds-kb-j c = search rules
 
 returns-then-ka-i : tie.Need-returns-then-ka-i
-returns-then-ka-i c = by_key _ _ (λ e. c.if-ka-i.true ((c.requires.0.2 c.args.i c.requires.2). ∙ e ∙ sym (c.requires.1.2 c.args.j c.requires.3).))
+returns-then-ka-i c = by_key _ _ (λ e. c.if-ka-i.true ((c.requires.0.2 c.args.i c.requires.2).2 ∙ e ∙ sym (c.requires.1.2 c.args.j c.requires.3).2))
 
 offset_bounds-sa-i : tie.Need-offset_bounds-sa-i
 offset_bounds-sa-i c = search rules

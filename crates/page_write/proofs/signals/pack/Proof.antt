@@ -43,7 +43,7 @@ invariant-rows at kind raws n₀ j₀ i₀ n j i = pack_from n (block kind (drop
 abbrev decreases-rows : tie.decreases-rows
 decreases-rows at kind raws n₀ j₀ i₀ n j i = row_count - i
 
-full : (c : tie.Start invariant-rows decreases-rows) → length c.args.t3 ≡ signal_count
+full : (c : tie.Start invariant-rows decreases-rows) → length c.args.raws ≡ signal_count
 full c = search rules
 
 rows-init : tie.Need-rows-init invariant-rows decreases-rows
@@ -70,23 +70,23 @@ step : (c : tie.After-z-1 invariant-rows decreases-rows) → (
     let a = k.before.before in
     let g = a.args in
     pack_from a.rows.n (k.row_at-r.result ∷ block g.kind (drop (a.rows.i + 1) rows))
-    (get_or g.t3 a.rows.j (pos 0) ∷ drop (a.rows.j + 1) g.t3) ≡ pack_of (block g.kind (drop g.at rows)) g.t3)
+    (get_or g.raws a.rows.j (pos 0) ∷ drop (a.rows.j + 1) g.raws) ≡ pack_of (block g.kind (drop g.at rows)) g.raws)
 step c =
     let q = c in
     let k = q in
     let a = k in
     let g = a.args in
-    let room : a.rows.j < length g.t3 = omega (arith, full a.before, c.if-j-ge16.false) in
+    let room : a.rows.j < length g.raws = omega (arith, full a.before, c.if-j-ge16.false) in
     sym
     (ap₂ (pack_from a.rows.n)
     (block_in g.kind a.rows.i k.row_at-r.result (omega arith) k.row_at-r.ensures q.if-r-kind.false)
-    (rw (add-one a.rows.j) (drop-cons g.t3 a.rows.j (pos 0) room)))
+    (rw (add-one a.rows.j) (drop-cons g.raws a.rows.j (pos 0) room)))
     ∙ a.rows.invariant
 
 told : (c : tie.After-row_takes invariant-rows decreases-rows) → (
     let k = c.before.before.before.before.before in
     let a = k in
-    row_takes k.row_at-r.result (get_or a.args.t3 a.rows.j (pos 0)) ≡ c.row_takes.result)
+    row_takes k.row_at-r.result (get_or a.args.raws a.rows.j (pos 0)) ≡ c.row_takes.result)
 told c =
     let k = c in
     sym (c.row_takes.ensures ∙ ap (row_takes k.row_at-r.result) (to_z-of_z {w = w64} (record { sfits = c.z-1.given })))
@@ -113,9 +113,9 @@ rows-preserved c =
     let a = k in
     let g = a.args in
     let r = k.row_at-r.result in
-    let z = get_or g.t3 a.rows.j (pos 0) in
+    let z = get_or g.raws a.rows.j (pos 0) in
     let rs = block g.kind (drop (a.rows.i + 1) rows) in
-    let zs = drop (a.rows.j + 1) g.t3 in
+    let zs = drop (a.rows.j + 1) g.raws in
     ap (λ (m : ℕ). pack_from m rs zs)
     (c.put_raw-n.ensures ∙ ap (put_raw r a.rows.n) (to_z-of_z {w = w64} (record { sfits = t.z-1.given })))
     ∙ sym (from_taken a.rows.n r rs z zs (told t ∙ not-false t.row_takes.result c.if-not-row_takes.false-raw))
@@ -126,8 +126,8 @@ returns-then-i-ge-ROW_COUNT c =
     let a = c in
     let g = a.args in
     sym
-    (ap (λ (l : List Row). pack_from a.rows.n l (drop a.rows.j g.t3)) (block_end g.kind a.rows.i c.if-i-ge-ROW_COUNT.true)
-    ∙ from_none a.rows.n (drop a.rows.j g.t3))
+    (ap (λ (l : List Row). pack_from a.rows.n l (drop a.rows.j g.raws)) (block_end g.kind a.rows.i c.if-i-ge-ROW_COUNT.true)
+    ∙ from_none a.rows.n (drop a.rows.j g.raws))
     ∙ a.rows.invariant
 
 returns-then-r-kind : tie.Need-returns-then-r-kind invariant-rows decreases-rows
@@ -137,7 +137,7 @@ returns-then-r-kind c =
     let g = a.args in
     let e = block_out g.kind a.rows.i k.row_at-r.result (omega arith) k.row_at-r.ensures c.if-r-kind.true in
     sym
-    (ap (λ (l : List Row). pack_from a.rows.n l (drop a.rows.j g.t3)) e ∙ from_none a.rows.n (drop a.rows.j g.t3))
+    (ap (λ (l : List Row). pack_from a.rows.n l (drop a.rows.j g.raws)) e ∙ from_none a.rows.n (drop a.rows.j g.raws))
     ∙ a.rows.invariant
 
 returns-then-j-ge16 : tie.Need-returns-then-j-ge16 invariant-rows decreases-rows
@@ -146,11 +146,11 @@ returns-then-j-ge16 c =
     let k = q in
     let a = k in
     let g = a.args in
-    let over : length g.t3 ≤ a.rows.j = omega (arith, full a.before, c.if-j-ge16.true) in
+    let over : length g.raws ≤ a.rows.j = omega (arith, full a.before, c.if-j-ge16.true) in
     sym
     (ap₂ (pack_from a.rows.n)
     (block_in g.kind a.rows.i k.row_at-r.result (omega arith) k.row_at-r.ensures q.if-r-kind.false)
-    (drop_of_length-le g.t3 over)
+    (drop_of_length-le g.raws over)
     ∙ from_short a.rows.n k.row_at-r.result (block g.kind (drop (a.rows.i + 1) rows)))
     ∙ a.rows.invariant
 
@@ -161,8 +161,8 @@ returns-then-not-row_takes c =
     let a = k in
     let g = a.args in
     sym
-    (from_refused a.rows.n k.row_at-r.result (block g.kind (drop (a.rows.i + 1) rows)) (get_or g.t3 a.rows.j (pos 0))
-    (drop (a.rows.j + 1) g.t3) (told t ∙ not-true t.row_takes.result c.if-not-row_takes.true-raw))
+    (from_refused a.rows.n k.row_at-r.result (block g.kind (drop (a.rows.i + 1) rows)) (get_or g.raws a.rows.j (pos 0))
+    (drop (a.rows.j + 1) g.raws) (told t ∙ not-true t.row_takes.result c.if-not-row_takes.true-raw))
     ∙ step t.before
 
 pub pack_spec : {M : Type 1} → statement M
