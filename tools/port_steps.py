@@ -39,7 +39,9 @@ class Steps:
             self.places.append((plain(old), plain(parent) if parent else None, plain(was), now, dict(subs), named, arm))
         self.params = {plain(old): of['params'].get(callee) for old, _, _, callee, _ in of['places'] if callee}
         self.asked = {new: self.at.get(plain(old)) for (_, new), (old, _) in zip(of['needs'], of['asked_at'])}
-        self.loops = {}
+        self.loops, self.vars = {}, {}
+        for it, changed in zip(of.get('loops') or [], of.get('changed') or []):
+            self.vars[it[0][1]] = len(it[1]) + sum(changed)
         for it in of.get('loops') or []:
             self.loops[plain(it[0][0])] = it[0][1]
 
@@ -71,6 +73,8 @@ class Steps:
         """The place that `.before` of a place leads to today: an arm is one step, and was several."""
         arm = self.places[i][6]
         up = self.parent(i)
+        if arm and self.places[i][5].lower() != arm[0].lower():
+            return up
         while arm and up is not None and self.places[up][6] and self.places[up][6][0] == arm[0]:
             up = self.parent(up)
         return up
@@ -166,7 +170,7 @@ def turn(text, of):
 
     def block(lines, at=None):
         """One declaration, with the places of its variables."""
-        known, aliases, calls = {}, {}, {}
+        known, real, aliases, calls = {}, {}, {}, {}
         if at is not None:
             known['c'] = at
         head = re.match(r'(?:abbrev |pub )*(\S+) : tie\.Need-([^\s(){};,]+)', lines)
@@ -209,6 +213,7 @@ def turn(text, of):
                     known[bound[1]] = at
                     # a place gives what stands further out too
                     if not re.search(r'(?<![\w\'.-])' + re.escape(bound[1]) + r'(?![\w\'.-])', lines[m.end():]):
+                        real[bound[1]] = real.get(parts[0], start)
                         return '.'.join([parts[0]] + rest)
                 helper = re.search(r'([^\s(){};,@]+) \(?$', lines[:m.start()])
                 if helper and helpers.get(helper[1]) is not None and seen:
@@ -217,7 +222,7 @@ def turn(text, of):
                 to = re.search(r'→ tie\.([^\s(){};,]+)[^\n→]*\n', lines)
                 if seen and to and re.search(r'^\S+( \S+)* =\s*$', lines[:m.start()].split('\n')[-1] or lines[:m.start()].split('\n')[-2]):
                     at = steps.place(to[1]) if steps.place(to[1]) is not None else at
-                count = steps.befores(start, at) if at is not None else None
+                count = steps.befores(real.get(parts[0], start), at) if at is not None else None
                 return '.'.join([parts[0]] + ['before'] * (ups if count is None else count) + rest)
             if not seen and ups == 0 and i == 1 and parts[0]:
                 # a value that is no place: only the spelling of a field can have changed
@@ -277,6 +282,15 @@ def turn(text, of):
 
     parts = re.split(r'(\n\n+)', text)
     text = ''.join(p if k % 2 else closing(p) if re.search(r'tie\.spec\s', p) else block(p) for k, p in enumerate(parts))
+    # an invariant is over the variables of today
+    def fewer(m):
+        names = m[3].split()
+        want = steps.vars.get(m[1])
+        if want is not None and len(names) > want:
+            names = [n for n in names if not re.fullmatch(r't\d+₀?', n)]
+        return f'{m[0][:m.start(3) - m.start()]}{" ".join(names)} ='
+
+    text = re.sub(r'tie\.(?:invariant|decreases)-([^\s(){};,]+)\n(\S+) ([^=\n]*) =', fewer, text)
     # the answers carry the goals' names
     renamed = {}
     for name, goal in re.findall(r'(?m)^(\S+) : tie\.Need-([^\s(){};,]+)', text):

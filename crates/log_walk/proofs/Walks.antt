@@ -150,7 +150,7 @@ module _ (s : List ℕ) (fits : length s < 2 ^ 64) (k : ℕ) (w : Walk) (h : Wal
   kept_by : (x : Found) → found_at read (place_in w) ≡ x → Walked s (passed_by w (length read) (seen_of x))
   kept_by (found.Record e) q = let y = shown (found.Record e) q (inl refl) in kept_record e y.0 y.1
   kept_by found.End q = open_by_lem stand.End (λ le. let y = shown found.End q (inr le) in says-end y.0 y.1)
-  kept_by (found.Cut b) q = open_by stand.Cut (λ le. let y = shown (found.Cut b) q (inr le) in says-cut (w.from + b) y.0 y.1)
+  kept_by (found.Cut b) q = open_by_lem stand.Cut (λ le. let y = shown (found.Cut b) q (inr le) in says-cut (w.from + b) y.0 y.1)
   kept_by (found.Refused why b) q = let y = shown (found.Refused why b) q (inl refl) in (h.0, h.1, h.2, h.3, h.4, says-bad why (w.from + b) y.0 y.1)
 
   -- what a piece leaves open at its first byte ends the log
