@@ -7,10 +7,10 @@ use Rattle.desk_batch.proofs.put_words.Statement.{statement}
 use Rattle.desk_batch.proofs.put_words.Tie as tie
 
 abbrev invariant-loop : tie.invariant-loop-i
-invariant-loop answers out₀ p₀ i₀ t7 out p i = (i ≤ length answers) × (length out ≡ length out₀)
+invariant-loop answers out₀ p₀ i₀ out p i = (i ≤ length answers) × (length out ≡ length out₀)
 
 abbrev decreases-loop : tie.decreases-loop-i
-decreases-loop answers out₀ p₀ i₀ t7 out p i = length answers - i
+decreases-loop answers out₀ p₀ i₀ out p i = length answers - i
 
 loop-i-init : tie.Need-loop-i-init invariant-loop decreases-loop
 loop-i-init c = search rules

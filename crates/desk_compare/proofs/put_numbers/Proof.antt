@@ -7,10 +7,10 @@ use Rattle.desk_compare.proofs.put_numbers.Statement.{statement}
 use Rattle.desk_compare.proofs.put_numbers.Tie as tie
 
 abbrev invariant-loop : tie.invariant-loop-i
-invariant-loop numbers out₀ p₀ i₀ t8 out p i = (i ≤ length numbers) × (length out ≡ length out₀)
+invariant-loop numbers out₀ p₀ i₀ out p i = (i ≤ length numbers) × (length out ≡ length out₀)
 
 abbrev decreases-loop : tie.decreases-loop-i
-decreases-loop numbers out₀ p₀ i₀ t8 out p i = length numbers - i
+decreases-loop numbers out₀ p₀ i₀ out p i = length numbers - i
 
 put-requires : tie.Need-put-requires invariant-loop decreases-loop
 put-requires c κs = search rules

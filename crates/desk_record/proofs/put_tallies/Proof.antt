@@ -8,10 +8,10 @@ use Rattle.desk_record.proofs.put_tallies.Statement.{statement}
 use Rattle.desk_record.proofs.put_tallies.Tie as tie
 
 abbrev invariant-loop : tie.invariant-loop-k
-invariant-loop out₀ tallies p₀ k₀ t8 out p k = length out ≡ length out₀
+invariant-loop out₀ tallies p₀ k₀ out p k = length out ≡ length out₀
 
 abbrev decreases-loop : tie.decreases-loop-k
-decreases-loop out₀ tallies p₀ k₀ t8 out p k = finding_count - k
+decreases-loop out₀ tallies p₀ k₀ out p k = finding_count - k
 
 bounds-tallies-0 : tie.Need-bounds-tallies-0 invariant-loop decreases-loop
 bounds-tallies-0 c = search rules

@@ -100,7 +100,7 @@ returns-in_default-signal_at c =
 place : (c : tie.In-At-2) → ℕ
 place c = c.in-At.i
 
-found : (c : tie.In-At-2) → (let f = c.before in first_at (is_signal (kind f) (start f).args.start) 0 rows ≡ At (place c))
+found : (c : tie.In-At-2) → (let f = c.before.before in first_at (is_signal (kind f) (start f).args.start) 0 rows ≡ At (place c))
 unfolding start kind number place
 found c = sym c.signal_at.ensures ∙ c.in-At.is
 
@@ -111,7 +111,7 @@ change_row-changed-requires : tie.Need-change_row-changed-requires
 unfolding start kind number place
 change_row-changed-requires c κs =
     let i = c.before.before in
-    let f = i.before in
+    let f = i.before.before in
     fine_at _ _ (found_in (is_signal (kind f) (start f).args.start) (place i) (found i)).0 c.row_to_change-r.ensures
 
 enum_known-changed : tie.Need-enum_known-changed
@@ -154,12 +154,12 @@ bits-requires c κs = search rules
 -- what the bytes rest on
 stored : (c : tie.After-bits) → (
     let g = c.before.before.before in
-    let d = g.before in
+    let d = g.before.before in
     Storing d.row_to_change-r.result (asked d).args.bytes.now g.in-Frame-changed.field-0 g.in-Frame-changed.m c.bits.result)
 unfolding start kind number place sought_at asked
 stored c =
     let g = c in
-    let d = g.before in
+    let d = g.before.before.before in
     let r = d in
     let i = r.before.before in
     let f = sought_at d in
@@ -179,9 +179,9 @@ returns : tie.Need-returns
 unfolding start kind number place sought_at asked
 returns c =
     let p = c in
-    let t = stored p.before in
+    let t = stored p.before.before.before in
     let g = p in
-    let d = g.before in
+    let d = g.before.before.before.before.before.before in
     let bs = (asked d).args.bytes.now in
     let e = sym g.in-Frame-changed.is ∙ changed d in
     (e, p.store_changed.ensures ∙ ap (λ (x : Bool). bytes_of x (length bs) g.in-Frame-changed.m) t.same ∙ ap (bytes_after bs) e)

@@ -32,7 +32,7 @@ labelled c =
     sym
     (c.label_holds.ensures
     ∙ ap (takes s.args.r.labels)
-    (b.bits-v.ensures ∙ bits_row s.args.r s.requires s.args.z s.ranges.z (fitting b.before)))
+    (b.bits-v.ensures ∙ bits_row s.args.r s.requires s.args.z s.ranges.z (fitting b.before.before)))
 
 returns-then-not-fits : tie.Need-returns-then-not-fits
 returns-then-not-fits c = rw (answered c.before, not-true c.fits.result c.if-not-fits.true-raw)
@@ -49,7 +49,7 @@ start_bit-requires c κs = search rules
 returns-then-not-label_holds : tie.Need-returns-then-not-label_holds
 returns-then-not-label_holds c =
     let b = c in
-    let t = b.before in
+    let t = b.before.before in
     let s = t.before.before.before.before in
     rw (fitting t.before.before, labelled t, not-true t.label_holds.result b.if-not-label_holds.true-raw)
     (ap (λ (s : ℕ). Refused (NoLabel s)) (start_row s.args.r s.requires c.start_bit.result c.start_bit.ensures))
@@ -69,7 +69,7 @@ returns c =
     let b = t in
     let s = b in
     let a = s.args in
-    rw (fitting b.before, labelled t, not-false t.label_holds.result q.if-not-label_holds.false-raw)
+    rw (fitting b.before.before, labelled t, not-false t.label_holds.result q.if-not-label_holds.false-raw)
     (ap (Frame a.kind) (c.put.ensures ∙ put_raw_row a.r s.requires a.z s.ranges.z a.n b.bits-v.result b.bits-v.ensures (held q)))
 
 pub change_row_spec : {M : Type 1} → statement M

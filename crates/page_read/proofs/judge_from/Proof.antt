@@ -85,19 +85,19 @@ returns-then-bytes-len : tie.Need-returns-then-bytes-len
 unfolding seen
 returns-then-bytes-len c =
     let o = c in
-    let k = seen o.before in
+    let k = seen o.before.before in
     let i = k.kind.given.0.1.0 in
     let bs = k.args.bytes.now in
-    sym (row_short bs (row_at i) (omega (arith, (found k).bytes, c.if-bytes-len.true))) ∙ answer o.before o.if-not-is_on.false-raw
+    sym (row_short bs (row_at i) (omega (arith, (found k).bytes, c.if-bytes-len.true))) ∙ answer o.before.before o.if-not-is_on.false-raw
 
 returns-then-len-bytes : tie.Need-returns-then-len-bytes
 unfolding seen
 returns-then-len-bytes c =
     let o = c in
-    let k = seen o.before in
+    let k = seen o.before.before.before in
     let i = k.kind.given.0.1.0 in
     let bs = k.args.bytes.now in
-    sym (row_long bs (row_at i) (omega (arith, (found k).bytes, c.if-len-bytes.true))) ∙ answer o.before o.if-not-is_on.false-raw
+    sym (row_long bs (row_at i) (omega (arith, (found k).bytes, c.if-len-bytes.true))) ∙ answer o.before.before.before o.if-not-is_on.false-raw
 
 number-n-requires : tie.Need-number-n-requires
 number-n-requires c κs = search rules
@@ -109,7 +109,7 @@ judged : (c : tie.After-number-n) → (
 unfolding seen
 judged c =
     let s = c in
-    let k = seen s.before.before.before in
+    let k = seen s.before.before.before.before in
     let f = k.before.before in
     let a = f.args in
     let o = found k in
@@ -131,10 +131,10 @@ unfolding seen
 returns-then-has_gaps c =
     let m = c.before.before.before in
     let o = m in
-    let k = (seen o.before).in-At.kind in
+    let k = (seen o.before.before.before.before).in-At.kind in
     let n = m.number-n.result in
     let t = judged m in
-    c.judge_number.ensures ∙ ap (λ (rs : List Row). judged_by k n (offence_of n rs) (cleared rs n)) t.1 ∙ t.0 ∙ answer o.before o.if-not-is_on.false-raw
+    c.judge_number.ensures ∙ ap (λ (rs : List Row). judged_by k n (offence_of n rs) (cleared rs n)) t.1 ∙ t.0 ∙ answer o.before.before.before.before o.if-not-is_on.false-raw
 
 judge_labels-requires : tie.Need-judge_labels-requires
 judge_labels-requires c κs = sym c.has_gaps.ensures ∙ c.if-has_gaps.false
@@ -144,10 +144,10 @@ unfolding seen
 returns c =
     let m = c.before.before.before in
     let o = m in
-    let k = (seen o.before).in-At.kind in
+    let k = (seen o.before.before.before.before).in-At.kind in
     let n = m.number-n.result in
     let t = judged m in
-    c.judge_labels.ensures ∙ ap (judged_by k n (offence_of n (rows_of k))) (sym (cleared_none k n t.3 (sym c.has_gaps.ensures ∙ c.if-has_gaps.false) t.2)) ∙ t.0 ∙ answer o.before o.if-not-is_on.false-raw
+    c.judge_labels.ensures ∙ ap (judged_by k n (offence_of n (rows_of k))) (sym (cleared_none k n t.3 (sym c.has_gaps.ensures ∙ c.if-has_gaps.false) t.2)) ∙ t.0 ∙ answer o.before.before.before.before o.if-not-is_on.false-raw
 
 pub judge_from_spec : {M : Type 1} → statement M
 judge_from_spec =

@@ -110,7 +110,7 @@ unfolding start
 returns-then-buf-bytes c =
     let l = c in
     let n = l in
-    let d = n.before in
+    let d = n.before.before.before in
     let a = (start d).args in
     let k = known d in
     let p = packs (rows_of a.kind) a.raws (all_take (rows_of a.kind) a.raws) d.pack.result _ refl k.0 n.in-Number.is in
@@ -138,7 +138,7 @@ returns c =
     let r = b in
     let l = r in
     let n = l in
-    let d = n.before in
+    let d = n.before.before.before.before.before.before.before.before.before in
     let a = (start d).args in
     let k = known d in
     let p = packs (rows_of a.kind) a.raws (all_take (rows_of a.kind) a.raws) d.pack.result _ refl k.0 n.in-Number.is in

@@ -25,7 +25,7 @@ answered : {f g : Found} (s : List ℕ) (at : ℕ) (ns : List ℕ) → f ≡ fou
 answered s at ns e h = (ap (λ (q : Found). found_word q (length ns)) (sym h ∙ e), ap (λ (q : Found). entry_left q ns) (sym h ∙ e))
 
 start : (c : tie.In-Record-2) → tie.Start
-start c = c.before.before.before.before
+start c = c.before.before.before.before.before
 
 -- a record, by the room for its numbers
 whole : (c : tie.In-Record-2) (b : Bool) → leb entry_count (length (start c).args.numbers.now) ≡ b

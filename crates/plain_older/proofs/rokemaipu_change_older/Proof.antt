@@ -47,7 +47,7 @@ returns-in-Refused : tie.Need-returns-in-Refused
 unfolding start
 returns-in-Refused c =
     let j = c in
-    let e = answered j.before.before.before j.in-Refused.is in
+    let e = answered j.before.before.before.before j.in-Refused.is in
     (c.refusal_word.ensures ∙ e.0, e.1)
 
 pub rokemaipu_change_older_spec : {M : Type 1} → statement M

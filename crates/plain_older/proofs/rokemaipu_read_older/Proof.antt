@@ -33,7 +33,7 @@ unfolding read_word_older raws_after_older
 judged m x bs raws j e = (ap (λ (q : Judged). outcome_word (read_outcome q (length raws))) e, ap (λ (q : Judged). raws_left q raws) e)
 
 start : (c : tie.In-Frame-2) → tie.Start
-start c = c.before.before.before
+start c = c.before.before.before.before
 
 -- a frame, by the room for its numbers
 frame : (c : tie.In-Frame-2) (b : Bool) → leb signal_count (length (start c).args.raws.now) ≡ b

@@ -99,7 +99,7 @@ returns-in-Refused : tie.Need-returns-in-Refused
 unfolding start
 returns-in-Refused c =
     let w = c in
-    let e = answered w.before.before.before w.in-Refused.is in
+    let e = answered w.before.before.before.before w.in-Refused.is in
     (c.refusal_word-in-Refused.ensures ∙ e.0, e.1)
 
 pub rokemaipu_write_older_spec : {M : Type 1} → statement M

@@ -46,7 +46,7 @@ returns-then-d-ne0 c = rw (numbers c.before.before, ne_eqb _ _ c.if-d-ne0.true)
 returns-then-d-ne0-2 : tie.Need-returns-then-d-ne0-2
 returns-then-d-ne0-2 c =
     let t = c in
-    let s = t.before.before in
+    let s = t.before.before.before.before.before in
     let d = s.args.d in
     rw (numbers s, eq-eqb _ _ t.if-d-ne0.false, ← zero_bits d.max (search rules), ne_eqb _ _ c.if-d-ne0-2.true)
 
@@ -54,7 +54,7 @@ returns : tie.Need-returns
 returns c =
     let m = c in
     let t = m in
-    let s = t.before.before in
+    let s = t.before.before.before.before.before.before.before in
     let d = s.args.d in
     rw (numbers s, eq-eqb _ _ t.if-d-ne0.false, ← zero_bits d.max (search rules), eq-eqb _ _ m.if-d-ne0-2.false, zero_bits d.min (search rules))
 

@@ -51,7 +51,7 @@ shape_of-bytes-then-is_whole c = search rules
 returns-then-is_whole : tie.Need-returns-then-is_whole
 returns-then-is_whole c =
     let p = c in
-    let t = p.before.before.before.before in
+    let t = p.before.before.before.before.before.before in
     let k = t in
     let s = k in
     let r = s.args.r in

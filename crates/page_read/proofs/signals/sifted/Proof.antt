@@ -63,7 +63,7 @@ rows-preserved : tie.Need-rows-preserved invariant-rows decreases-rows
 unfolding offence_of cleared
 rows-preserved c =
     let x = c in
-    let t = x.before in
+    let t = x.before.before in
     let q = t in
     let k = q in
     let a = k in
@@ -104,7 +104,7 @@ returns-then-not-label_holds : tie.Need-returns-then-not-label_holds invariant-r
 unfolding offence_of
 returns-then-not-label_holds c =
     let b = c in
-    let t = b.before in
+    let t = b.before.before in
     let q = t in
     let k = q in
     let a = k in

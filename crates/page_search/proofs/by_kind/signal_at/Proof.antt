@@ -85,7 +85,7 @@ unfolding asked
 rows-preserved c =
     let q = c in
     let k = q in
-    let a = k.before.before in
+    let a = k.before.before.before.before.before.before in
     let g = (asked a).args in
     let r = k.row_to_seek-r.result in
     let i = a.rows.i in
@@ -105,7 +105,7 @@ returns-then-r-kind : tie.Need-returns-then-r-kind invariant-rows decreases-rows
 unfolding asked
 returns-then-r-kind c =
     let k = c in
-    let a = k.before.before in
+    let a = k.before.before.before.before in
     let g = (asked a).args in
     let i = a.rows.i in
     first_none (is_signal g.kind g.start) i (block g.kind (drop i rows))
@@ -117,7 +117,7 @@ unfolding asked
 returns-then-r-start c =
     let q = c in
     let k = q in
-    let a = k.before.before in
+    let a = k.before.before.before.before.before.before in
     let g = (asked a).args in
     let r = k.row_to_seek-r.result in
     let i = a.rows.i in

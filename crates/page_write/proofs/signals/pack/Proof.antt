@@ -76,7 +76,7 @@ step c =
     let k = q in
     let a = k in
     let g = a.args in
-    let room : a.rows.j < length g.raws = omega (arith, full a.before, c.if-j-ge16.false) in
+    let room : a.rows.j < length g.raws = omega (arith, full a.before.before.before.before.before.before.before, c.if-j-ge16.false) in
     sym
     (ap₂ (pack_from a.rows.n)
     (block_in g.kind a.rows.i k.row_at-r.result (omega arith) k.row_at-r.ensures q.if-r-kind.false)
@@ -146,7 +146,7 @@ returns-then-j-ge16 c =
     let k = q in
     let a = k in
     let g = a.args in
-    let over : length g.raws ≤ a.rows.j = omega (arith, full a.before, c.if-j-ge16.true) in
+    let over : length g.raws ≤ a.rows.j = omega (arith, full a.before.before.before.before.before.before, c.if-j-ge16.true) in
     sym
     (ap₂ (pack_from a.rows.n)
     (block_in g.kind a.rows.i k.row_at-r.result (omega arith) k.row_at-r.ensures q.if-r-kind.false)
