@@ -49,8 +49,18 @@ class Steps:
         it = plain(name)
         for form in (it, re.sub(r'2$', '', it), it + '2'):
             if form in self.at:
-                return self.at[form]
+                return self.last(self.at[form])
         return None
+
+    def last(self, i):
+        """An arm is one step today: its last place, where the older Rattle had several."""
+        arm = self.places[i][6]
+        while arm and self.places[i][5].lower() != arm[0].lower():
+            after = [k for k in range(len(self.places)) if self.parent(k) == i and self.places[k][6] and self.places[k][6][0] == arm[0]]
+            if len(after) != 1:
+                break
+            i = after[0]
+        return i
 
     def goal(self, name):
         it = plain(name)

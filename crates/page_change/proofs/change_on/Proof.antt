@@ -97,10 +97,10 @@ returns-in_default-signal_at c =
     (sought a.iface a.id a.extended a.bytes.now a.start a.raw (kind f) (number f) Nothing (frame f)
     (sym f.signal_at.ensures ∙ c.in_default-signal_at.is))
 
-place : (c : tie.In-At-2) → ℕ
+place : (c : tie.In-At) → ℕ
 place c = c.in-At.i
 
-found : (c : tie.In-At-2) → (let f = c.before.before in first_at (is_signal (kind f) (start f).args.start) 0 rows ≡ At (place c))
+found : (c : tie.In-At) → (let f = c.before.before in first_at (is_signal (kind f) (start f).args.start) 0 rows ≡ At (place c))
 unfolding start kind number place
 found c = sym c.signal_at.ensures ∙ c.in-At.is
 

@@ -42,14 +42,14 @@ is_on-requires : tie.Need-is_on-requires
 is_on-requires c κs = search rules
 
 -- the row that the message's first is
-found : (c : tie.In-At-2) → (
+found : (c : tie.In-At) → (
     let a = c.args in
     let g = c.in-At in
     Of g.kind g.at g.len g.big (first_at (has_id a.id a.extended) 0 rows))
 found c = let g = c.in-At in of g.kind g.at g.len g.big _ (sym c.with_id.ensures ∙ c.in-At.is)
 
 -- the answer, by whether the interface has the kind
-told : (c : tie.In-At-2) (b : Bool) → (
+told : (c : tie.In-At) (b : Bool) → (
     let a = c.args in
     let g = c.in-At in
     is_on a.iface g.kind ≡ b
@@ -71,8 +71,8 @@ returns-then-not-is_on c =
     told o.before.before false (sym o.is_on.ensures ∙ not-true _ c.if-not-is_on.true-raw)
 
 -- the message that was found, from the interface's test on
-seen : (c : tie.After-is_on) → tie.In-At-2
-seen c = c.before.before
+seen : (c : tie.After-is_on) → tie.In-At
+seen c = c.before
 
 answer : (c : tie.After-is_on) → not c.is_on.result ≡ false → (
     let k = seen c in

@@ -24,11 +24,11 @@ Ends s at ns r after = (r ≡ found_word (found_at s at) (length ns)) × (after 
 answered : {f g : Found} (s : List ℕ) (at : ℕ) (ns : List ℕ) → f ≡ found_at s at → f ≡ g → Ends s at ns (found_word g (length ns)) (entry_left g ns)
 answered s at ns e h = (ap (λ (q : Found). found_word q (length ns)) (sym h ∙ e), ap (λ (q : Found). entry_left q ns) (sym h ∙ e))
 
-start : (c : tie.In-Record-2) → tie.Start
-start c = c.before.before.before.before.before
+start : (c : tie.In-Record) → tie.Start
+start c = c.before.before.before.before
 
 -- a record, by the room for its numbers
-whole : (c : tie.In-Record-2) (b : Bool) → leb entry_count (length (start c).args.numbers.now) ≡ b
+whole : (c : tie.In-Record) (b : Bool) → leb entry_count (length (start c).args.numbers.now) ≡ b
     → Ends (start c).args.s.now (start c).args.at (start c).args.numbers.now
     (outcome_word (cond b (answers 0) (refuses ShortBuffer)))
     (cond b (entry_numbers c.in-Record.e ++ drop entry_count (start c).args.numbers.now) (start c).args.numbers.now)
@@ -40,7 +40,7 @@ whole c b e =
 returns-then-numbers-lt8 : tie.Need-returns-then-numbers-lt8
 unfolding start
 returns-then-numbers-lt8 c =
-    let e = whole c.before.before.before false (lt-leb _ _ c.if-numbers-lt8.true) in
+    let e = whole c.before.before false (lt-leb _ _ c.if-numbers-lt8.true) in
     (c.refusal_word.ensures ∙ e.0, e.1)
 
 returns-else-numbers-lt8 : tie.Need-returns-else-numbers-lt8

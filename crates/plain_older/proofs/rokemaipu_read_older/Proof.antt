@@ -32,11 +32,11 @@ judged : (m : ℕ) (x : Bool) (bs : List ℕ) (raws : List ℤ) (j : Judged) →
 unfolding read_word_older raws_after_older
 judged m x bs raws j e = (ap (λ (q : Judged). outcome_word (read_outcome q (length raws))) e, ap (λ (q : Judged). raws_left q raws) e)
 
-start : (c : tie.In-Frame-2) → tie.Start
-start c = c.before.before.before.before
+start : (c : tie.In-Frame) → tie.Start
+start c = c.before.before.before
 
 -- a frame, by the room for its numbers
-frame : (c : tie.In-Frame-2) (b : Bool) → leb signal_count (length (start c).args.raws.now) ≡ b
+frame : (c : tie.In-Frame) (b : Bool) → leb signal_count (length (start c).args.raws.now) ≡ b
     → Ends (start c).args.id (start c).args.extended (start c).args.payload.now (start c).args.raws.now
     (outcome_word (cond b (answers c.in-Frame.kind) (refuses ShortBuffer)))
     (cond b (raws_of c.in-Frame.kind c.in-Frame.n ++ drop signal_count (start c).args.raws.now) (start c).args.raws.now)
@@ -48,7 +48,7 @@ frame c b f =
 returns-then-raws-lt-SIGNALS : tie.Need-returns-then-raws-lt-SIGNALS
 unfolding start
 returns-then-raws-lt-SIGNALS c =
-    let e = frame c.before.before.before false (lt-leb _ _ c.if-raws-lt-SIGNALS.true) in
+    let e = frame c.before.before false (lt-leb _ _ c.if-raws-lt-SIGNALS.true) in
     (c.refusal_word.ensures ∙ e.0, e.1)
 
 -- a kind is below 30, and fits
