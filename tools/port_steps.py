@@ -164,6 +164,10 @@ def turn(text, of):
     # the place that a helper of the file speaks of
     helpers = {name: steps.place(place) for name, place in re.findall(r'(?m)^(?:abbrev |pub )*(\S+) : (?:\{[^{}\n]*\} )*\(\w+ : tie\.([^\s(){};,]+)', text)}
 
+    results = {}
+    for name, place in re.findall(r'(?m)^(?:abbrev |pub )*(\S+) : [^\n]*→ tie\.([^\s(){};,]+)[^→\n]*$', text):
+        results[name] = steps.place(place)
+
     def tie(parts):
         it = parts[1]
         if it.startswith('Need-'):
@@ -190,6 +194,10 @@ def turn(text, of):
         for names, place in re.findall(r'\(([\w\' ]+) : tie\.([^\s(){};,]+)', lines):
             for name in names.split():
                 known[name] = steps.place(place)
+
+        for name, helper in re.findall(r'let (\S+) = ([^\s(){};,@]+) ', lines):
+            if results.get(helper) is not None:
+                known[name] = real[name] = results[helper]
 
         def dotted(m):
             word = m[0]
@@ -233,6 +241,8 @@ def turn(text, of):
                 if seen and to and re.search(r'^\S+( \S+)* =\s*$', lines[:m.start()].split('\n')[-1] or lines[:m.start()].split('\n')[-2]):
                     at = steps.place(to[1]) if steps.place(to[1]) is not None else at
                 count = steps.befores(real.get(parts[0], start), at) if at is not None else None
+                if count is None and at is not None:
+                    count = steps.befores(real.get(parts[0], start), steps.last(at))
                 return '.'.join([parts[0]] + ['before'] * (ups if count is None else count) + rest)
             if not seen and ups == 0 and i == 1 and parts[0]:
                 # a value that is no place: only the spelling of a field can have changed

@@ -100,7 +100,7 @@ returns-in_default-signal_at c =
 place : (c : tie.In-At) → ℕ
 place c = c.in-At.i
 
-found : (c : tie.In-At) → (let f = c.before.before in first_at (is_signal (kind f) (start f).args.start) 0 rows ≡ At (place c))
+found : (c : tie.In-At) → (let f = c in first_at (is_signal (kind f) (start f).args.start) 0 rows ≡ At (place c))
 unfolding start kind number place
 found c = sym c.signal_at.ensures ∙ c.in-At.is
 
@@ -110,7 +110,7 @@ row_to_change-r-requires c κs = search rules
 change_row-changed-requires : tie.Need-change_row-changed-requires
 unfolding start kind number place
 change_row-changed-requires c κs =
-    let i = c.before.before in
+    let i = c.before in
     let f = i.before.before in
     fine_at _ _ (found_in (is_signal (kind f) (start f).args.start) (place i) (found i)).0 c.row_to_change-r.ensures
 
@@ -153,7 +153,7 @@ bits-requires c κs = search rules
 
 -- what the bytes rest on
 stored : (c : tie.After-bits) → (
-    let g = c.before.before.before in
+    let g = c.before.before in
     let d = g.before.before in
     Storing d.row_to_change-r.result (asked d).args.bytes.now g.in-Frame-changed.field-0 g.in-Frame-changed.m c.bits.result)
 unfolding start kind number place sought_at asked

@@ -77,7 +77,7 @@ seen c = c.before
 answer : (c : tie.After-is_on) → not c.is_on.result ≡ false → (
     let k = seen c in
     let a = k.args in
-    judged_row (row_at k.kind.given.0.1.0) a.bytes.now ≡ judge_from a.iface a.other a.id a.extended a.bytes.now)
+    judged_row (row_at k.in-At.at) a.bytes.now ≡ judge_from a.iface a.other a.id a.extended a.bytes.now)
 unfolding seen
 answer c own = told (seen c) true (sym c.is_on.ensures ∙ not_false _ own)
 
@@ -86,7 +86,7 @@ unfolding seen
 returns-then-bytes-len c =
     let o = c in
     let k = seen o.before.before in
-    let i = k.kind.given.0.1.0 in
+    let i = k.in-At.at in
     let bs = k.args.bytes.now in
     sym (row_short bs (row_at i) (omega (arith, (found k).bytes, c.if-bytes-len.true))) ∙ answer o.before.before o.if-not-is_on.false-raw
 
@@ -95,7 +95,7 @@ unfolding seen
 returns-then-len-bytes c =
     let o = c in
     let k = seen o.before.before.before in
-    let i = k.kind.given.0.1.0 in
+    let i = k.in-At.at in
     let bs = k.args.bytes.now in
     sym (row_long bs (row_at i) (omega (arith, (found k).bytes, c.if-len-bytes.true))) ∙ answer o.before.before.before o.if-not-is_on.false-raw
 
@@ -105,16 +105,16 @@ number-n-requires c κs = search rules
 -- the answer by the message's rows is the frame's; and what was shown of rows and number
 judged : (c : tie.After-number-n) → (
     let k = seen c.before.before.before.before in
-    Judging k.kind.given.0.1.0 k.args.bytes.now c.number-n.result k.kind.given.0.0)
+    Judging k.in-At.at k.args.bytes.now c.number-n.result k.in-At.kind)
 unfolding seen
 judged c =
     let s = c in
     let k = seen s.before.before.before.before in
-    let f = k.before.before in
+    let f = k in
     let a = f.args in
     let o = found k in
     let bs = a.bytes.now in
-    let i = k.kind.given.0.1.0 in
+    let i = k.in-At.at in
     let n = c.number-n.result in
     subst (Judging i bs n) (sym o.kind)
     (of_length a.id a.extended i bs n (λ j. omega (arith, f.shared_slice_known-1.given j)) o.place

@@ -62,7 +62,7 @@ returns-else-raws-lt-SIGNALS c =
     let s = c in
     let r = s in
     let l = r in
-    let j = l.before.before in
+    let j = l.before.before.before.before.before in
     let e = frame j true (le-leb _ _ l.if-raws-lt-SIGNALS.false) in
     (e.0, s.store_raws.ensures ∙ ap (λ (zs : List ℤ). zs ++ drop signal_count (start j).args.raws.now) r.raws_of.ensures ∙ e.1)
 

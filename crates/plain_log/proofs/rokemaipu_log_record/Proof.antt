@@ -49,7 +49,7 @@ returns-else-numbers-lt8 c =
     let s = c in
     let n = s in
     let room = n in
-    let f = room.before.before in
+    let f = room.before.before.before.before.before.before in
     let e = whole f true (le-leb _ _ room.if-numbers-lt8.false) in
     (e.0, s.store_entry.ensures ∙ ap (λ (ns : List ℕ). ns ++ drop entry_count (start f).args.numbers.now) n.entry_numbers.ensures ∙ e.1)
 
