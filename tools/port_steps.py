@@ -49,11 +49,13 @@ class Steps:
         it = plain(name)
         for form in (it, re.sub(r'2$', '', it), it + '2'):
             if form in self.at:
-                return self.last(self.at[form])
+                return self.at[form]
         return None
 
     def last(self, i):
         """An arm is one step today: its last place, where the older Rattle had several."""
+        if i is None:
+            return None
         arm = self.places[i][6]
         while arm and self.places[i][5].lower() != arm[0].lower():
             after = [k for k in range(len(self.places)) if self.parent(k) == i and self.places[k][6] and self.places[k][6][0] == arm[0]]
@@ -162,7 +164,7 @@ def param_at(params, path):
 def turn(text, of):
     steps, said = Steps(of), set()
     # the place that a helper of the file speaks of
-    helpers = {name: steps.place(place) for name, place in re.findall(r'(?m)^(?:abbrev |pub )*(\S+) : (?:\{[^{}\n]*\} )*\(\w+ : tie\.([^\s(){};,]+)', text)}
+    helpers = {name: steps.last(steps.place(place)) for name, place in re.findall(r'(?m)^(?:abbrev |pub )*(\S+) : (?:\{[^{}\n]*\} )*\(\w+ : tie\.([^\s(){};,]+)', text)}
 
     results = {}
     for name, place in re.findall(r'(?m)^(?:abbrev |pub )*(\S+) : [^\n]*→ tie\.([^\s(){};,]+)[^→\n]*$', text):
@@ -180,7 +182,7 @@ def turn(text, of):
             if it.startswith(head) and plain(it[len(head):]) in steps.loops:
                 return '.'.join(['tie', head + steps.loops[plain(it[len(head):])], *parts[2:]])
         at = steps.place(it)
-        return None if at is None else '.'.join(['tie', steps.places[at][5], *parts[2:]])
+        return None if at is None else '.'.join(['tie', steps.places[steps.last(at)][5], *parts[2:]])
 
     def block(lines, at=None):
         """One declaration, with the places of its variables."""
@@ -194,10 +196,11 @@ def turn(text, of):
         for names, place in re.findall(r'\(([\w\' ]+) : tie\.([^\s(){};,]+)', lines):
             for name in names.split():
                 known[name] = steps.place(place)
+                real[name] = steps.last(known[name])
 
         for name, helper in re.findall(r'let (\S+) = ([^\s(){};,@]+) ', lines):
             if results.get(helper) is not None:
-                known[name] = real[name] = results[helper]
+                known[name], real[name] = results[helper], steps.last(results[helper])
 
         def dotted(m):
             word = m[0]
@@ -239,7 +242,7 @@ def turn(text, of):
                 # a helper whose answer is a place
                 to = re.search(r'→ tie\.([^\s(){};,]+)[^\n→]*\n', lines)
                 if seen and to and re.search(r'^\S+( \S+)* =\s*$', lines[:m.start()].split('\n')[-1] or lines[:m.start()].split('\n')[-2]):
-                    at = steps.place(to[1]) if steps.place(to[1]) is not None else at
+                    at = steps.last(steps.place(to[1])) if steps.place(to[1]) is not None else at
                 count = steps.befores(real.get(parts[0], start), at) if at is not None else None
                 if count is None and at is not None:
                     count = steps.befores(real.get(parts[0], start), steps.last(at))
@@ -247,6 +250,8 @@ def turn(text, of):
             if not seen and ups == 0 and i == 1 and parts[0]:
                 # a value that is no place: only the spelling of a field can have changed
                 return '.'.join([parts[0], *[WORDS.get(p, p) for p in parts[1:]]])
+            if rest[0] == 'fits' and seen and len(rest) > 1:
+                rest[0] = 'ranges'
             if rest[0] not in ('args', 'ranges', 'requires', 'well_formed', 'well-formed', 'type-inv', 'type_inv', 'given', 'world'):
                 bound = re.search(r'let (\S+) = $', lines[:m.start()])
                 found = None

@@ -100,7 +100,7 @@ returns-in_default-signal_at c =
 place : (c : tie.In-At) → ℕ
 place c = c.in-At.i
 
-found : (c : tie.In-At) → (let f = c in first_at (is_signal (kind f) (start f).args.start) 0 rows ≡ At (place c))
+found : (c : tie.In-At) → (let f = c.before in first_at (is_signal (kind f) (start f).args.start) 0 rows ≡ At (place c))
 unfolding start kind number place
 found c = sym c.signal_at.ensures ∙ c.in-At.is
 
@@ -139,7 +139,7 @@ changed c =
     let s = asked c in
     let a = s.args in
     c.change_row-changed.ensures
-    ∙ ap₂ (λ (q : Row) (z : ℤ). changed_row q (kind f) (number f) z) r.row_to_change-r.ensures (to_z-of_z s.fits.raw)
+    ∙ ap₂ (λ (q : Row) (z : ℤ). changed_row q (kind f) (number f) z) r.row_to_change-r.ensures (to_z-of_z s.ranges.raw)
     ∙ sym (sought a.iface a.id a.extended a.bytes.now a.start a.raw (kind f) (number f) (At (place i)) (frame f) (found i))
 
 returns-in_default-changed : tie.Need-returns-in_default-changed
@@ -166,7 +166,7 @@ stored c =
     let s = asked d in
     let a = s.args in
     storing a.iface a.id a.extended a.bytes.now a.start a.raw (kind f) (number f) (place i) _ _ c.bits.result r.row_to_change-r.result
-    (frame f) (found i) r.row_to_change-r.ensures (sym (changed d) ∙ g.in-Frame-changed.is) s.fits.raw c.bits.ensures
+    (frame f) (found i) r.row_to_change-r.ensures (sym (changed d) ∙ g.in-Frame-changed.is) s.ranges.raw c.bits.ensures
 
 store_changed-requires : tie.Need-store_changed-requires
 unfolding start kind number place sought_at asked
