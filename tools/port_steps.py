@@ -244,8 +244,12 @@ def turn(text, of):
                 if seen and to and re.search(r'^\S+( \S+)* =\s*$', lines[:m.start()].split('\n')[-1] or lines[:m.start()].split('\n')[-2]):
                     at = steps.last(steps.place(to[1])) if steps.place(to[1]) is not None else at
                 count = steps.befores(real.get(parts[0], start), at) if at is not None else None
+                if bound and seen:
+                    real[bound[1]] = at
                 if count is None and at is not None:
                     count = steps.befores(real.get(parts[0], start), steps.last(at))
+                    if bound and seen:
+                        real[bound[1]] = steps.last(at)
                 return '.'.join([parts[0]] + ['before'] * (ups if count is None else count) + rest)
             if not seen and ups == 0 and i == 1 and parts[0]:
                 # a value that is no place: only the spelling of a field can have changed

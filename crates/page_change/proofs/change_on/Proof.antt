@@ -111,7 +111,7 @@ change_row-changed-requires : tie.Need-change_row-changed-requires
 unfolding start kind number place
 change_row-changed-requires c κs =
     let i = c.before in
-    let f = i.before.before in
+    let f = i.before in
     fine_at _ _ (found_in (is_signal (kind f) (start f).args.start) (place i) (found i)).0 c.row_to_change-r.ensures
 
 enum_known-changed : tie.Need-enum_known-changed
@@ -154,7 +154,7 @@ bits-requires c κs = search rules
 -- what the bytes rest on
 stored : (c : tie.After-bits) → (
     let g = c.before.before in
-    let d = g.before.before in
+    let d = g.before in
     Storing d.row_to_change-r.result (asked d).args.bytes.now g.in-Frame-changed.field-0 g.in-Frame-changed.m c.bits.result)
 unfolding start kind number place sought_at asked
 stored c =
