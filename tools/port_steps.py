@@ -231,6 +231,11 @@ def turn(text, of):
             if not rest or not rest[0]:
                 bound = re.search(r'let (\S+) = $', lines[:m.start()])
                 if bound and seen:
+                    # what a helper is asked of it says where it stands
+                    for it in re.finditer(r'(?<![\w\'.-])([^\s(){};,@]+) ' + re.escape(bound[1]) + r'(?![\w\'.-])', lines[m.end():]):
+                        if helpers.get(it[1]) is not None:
+                            at = helpers[it[1]]
+                            break
                     known[bound[1]] = at
                     # a place gives what stands further out too
                     if not re.search(r'(?<![\w\'.-])' + re.escape(bound[1]) + r'(?![\w\'.-])', lines[m.end():]):
@@ -287,7 +292,7 @@ def turn(text, of):
     def closing(lines):
         """What closes the proof: an answer that is written there speaks of the place of its goal."""
         m = re.search(r'tie\.spec\s', lines)
-        out, i, k = lines[:m.end()], m.end(), 0
+        out, i, k = lines[:m.end()], m.end(), -2 * len(steps.vars)
         while i < len(lines):
             if lines[i] == '(':
                 depth, j = 0, i
@@ -296,7 +301,7 @@ def turn(text, of):
                     j += 1
                     if depth == 0:
                         break
-                at = steps.asked.get(steps.order[k]) if k < len(steps.order) else None
+                at = steps.asked.get(steps.order[k]) if 0 <= k < len(steps.order) else None
                 out += block(lines[i:j], at)
                 k, i = k + 1, j
             elif lines[i] == ')':
@@ -305,7 +310,7 @@ def turn(text, of):
                 out, i = out + lines[i], i + 1
             else:
                 word = re.match(r'[^\s()]+', lines[i:])[0]
-                k += not word.startswith(('invariant', 'decreases'))
+                k += 1
                 out, i = out + word, i + len(word)
         return out
 

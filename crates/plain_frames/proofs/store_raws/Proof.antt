@@ -19,6 +19,6 @@ store_raws_spec =
     (λ c. omega arith)
     (λ c. omega arith)
     (λ c. let l = c in
-    signed_more signal_count l.args.zs l.args.raws.now l.loop.j (search rules) (omega arith) (omega arith) (record { sfits = c.raws.given }) l.loop.invariant)
+    signed_more signal_count l.args.zs l.args.raws.now l.loop-j.j (search rules) (omega arith) (omega arith) (record { sfits = c.raws-1.given }) l.loop-j.invariant)
     (λ c. c.loop-j.invariant.1)
     (λ c. stored_whole signal_count c.args.zs c.args.raws.now c.loop-j.j (search rules) (omega arith) c.loop-j.invariant))

@@ -24,7 +24,7 @@ load_raws_spec =
     (λ c. omega arith)
     (λ c. omega arith)
     (λ c. omega arith)
-    (λ c. let l = c.before.before in
-    signed_more signal_count l.args.raws.now zeros l.loop.j (omega arith) (omega arith) (omega arith) (record { sfits = c.zs.given }) l.loop.invariant)
+    (λ c. let l = c in
+    signed_more signal_count l.args.raws.now zeros l.loop-j.j (omega arith) (omega arith) (omega arith) (record { sfits = c.zs-1.given }) l.loop-j.invariant)
     (λ c. let raws = c.args.raws.now in
     stored_all signal_count raws zeros c.loop-j.j (omega arith) c.loop-j.invariant ∙ append-nil (take signal_count raws)))
