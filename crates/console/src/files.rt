@@ -1,0 +1,51 @@
+// Files by name. std takes names that are UTF-8 alone: any other is answered as the system answers a name that its file system cannot hold.
+ghost use Rattle.std.specs.Io.{ReadsAtMost};
+
+use std::fs::{File, OpenOptions};
+use std::io;
+use std::io::{Seek, SeekFrom};
+use std::os::unix::fs::FileExt;
+
+// The system's number of what is told of a name that is no UTF-8.
+const NO_TEXT: i32 = 84;
+
+fn opened(rt: HostRuntime, how: &OpenOptions, name: &[u8]) -> io::Result<File> {
+    match std::str::from_utf8(name) {
+        Ok(path) => how.open(&rt, path),
+        Err(_) => Err(io::Error::from_raw_os_error(NO_TEXT)),
+    }
+}
+
+// For reading: a file or a folder.
+pub fn open_read(rt: HostRuntime, name: &[u8]) -> io::Result<File> {
+    let mut how = OpenOptions::new();
+    how.read(true);
+    opened(rt, &how, name)
+}
+
+// For writing at its end, wherever that is at each write; an error where there is none.
+pub fn open_append(rt: HostRuntime, name: &[u8]) -> io::Result<File> {
+    let mut how = OpenOptions::new();
+    how.append(true);
+    opened(rt, &how, name)
+}
+
+// A new file; an error where the name is taken.
+pub fn create(rt: HostRuntime, name: &[u8]) -> io::Result<File> {
+    let mut how = OpenOptions::new();
+    how.write(true).create_new(true);
+    opened(rt, &how, name)
+}
+
+// How many bytes the file has now.
+pub fn length(file: &File) -> io::Result<u64> {
+    let mut f = file;
+    f.seek(SeekFrom::End(0))
+}
+
+// One read of the file from its byte `at` on: how many bytes it put at the start of buf, none at the file's end.
+pub fn read_at(file: &File, buf: &mut [u8], at: u64) -> io::Result<usize>
+    ensures { ReadsAtMost result buf.new }
+{
+    file.read_at(buf, at)
+}
