@@ -1,9 +1,9 @@
 // Files by name. std takes names that are UTF-8 alone: any other is answered as the system answers a name that its file system cannot hold.
-ghost use Rattle.std.specs.Io.{ReadsAtMost};
+ghost use Rattle.std.specs.Io.{ReadsAtMost, WritesAtMost};
 
 use std::fs::{File, OpenOptions};
 use std::io;
-use std::io::{Seek, SeekFrom};
+use std::io::{Seek, SeekFrom, Write};
 use std::os::unix::fs::FileExt;
 
 // The system's number of what is told of a name that is no UTF-8.
@@ -48,4 +48,12 @@ pub fn read_at(file: &File, buf: &mut [u8], at: u64) -> io::Result<usize>
     ensures { ReadsAtMost result buf.new }
 {
     file.read_at(buf, at)
+}
+
+// One write: how many of the bytes it took.
+pub fn write(file: &File, bytes: &[u8]) -> io::Result<usize>
+    ensures { WritesAtMost result bytes.now }
+{
+    let mut f = file;
+    f.write(bytes)
 }
