@@ -1,9 +1,10 @@
 // Files by name. std takes names that are UTF-8 alone: any other is answered as the system answers a name that its file system cannot hold.
+ghost use Rattle.std.specs.Prelude.{◌≤◌, length};
 ghost use Rattle.std.specs.Io.{ReadsAtMost, WritesAtMost};
 
 use std::fs::{File, OpenOptions};
 use std::io;
-use std::io::{Seek, SeekFrom, Write};
+use std::io::{Read, Seek, SeekFrom, Write};
 use std::os::unix::fs::FileExt;
 
 // The system's number of what is told of a name that is no UTF-8.
@@ -56,4 +57,34 @@ pub fn write(file: &File, bytes: &[u8]) -> io::Result<usize>
 {
     let mut f = file;
     f.write(bytes)
+}
+
+// One read of the file from where the last one ended: how many bytes it put at the start of buf, none at the file's end.
+pub fn read(file: &File, buf: &mut [u8]) -> io::Result<usize>
+    ensures { ReadsAtMost result buf.new }
+{
+    let mut f = file;
+    f.read(buf)
+}
+
+fn count(got: io::Result<usize>) -> usize {
+    match got {
+        Ok(n) => n,
+        Err(_) => 0,
+    }
+}
+
+// Reads until buf is full, the file ends or a read fails: how many bytes it put at the start of buf.
+pub fn read_full(file: &File, buf: &mut [u8]) -> usize
+    ensures { result ≤ length buf.new }
+{
+    let mut done = 0;
+    while done < buf.len() {
+        let n = count(read(file, &mut buf[done..]));
+        if n == 0 {
+            return done;
+        }
+        done += n;
+    }
+    done
 }

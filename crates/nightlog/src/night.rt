@@ -154,13 +154,7 @@ fn taken_back(
     if done == 0 {
         return n;
     }
-    if file::is_as_left(
-        rt,
-        log,
-        name,
-        wrapping_add_u64(n.end, done as u64),
-        out,
-    ) {
+    if file::is_as_left(rt, log, name, wrapping_add_u64(n.end, done as u64), out) {
         file::cut(rt, log, name, n.end, out);
     }
     n

@@ -35,7 +35,14 @@ fn unread(rt: HostRuntime, c: Course, name: &[u8], why: io::Error) -> Course {
     failed(c)
 }
 
-fn shown_if(rt: HostRuntime, shown: bool, piece: &[u8], found: Found, out: &mut [u8], pen: Pen) -> Pen {
+fn shown_if(
+    rt: HostRuntime,
+    shown: bool,
+    piece: &[u8],
+    found: Found,
+    out: &mut [u8],
+    pen: Pen,
+) -> Pen {
     if shown {
         return show::found(rt, piece, found, out, pen);
     }
@@ -64,13 +71,7 @@ fn goes_on(c: Course, more: bool) -> bool {
     more
 }
 
-fn records_in(
-    rt: HostRuntime,
-    start: Course,
-    piece: &[u8],
-    shown: bool,
-    out: &mut [u8],
-) -> Course {
+fn records_in(rt: HostRuntime, start: Course, piece: &[u8], shown: bool, out: &mut [u8]) -> Course {
     let mut c = start;
     let mut turns = u64::MAX;
     while turns > 0 {
@@ -156,13 +157,7 @@ fn told(
     }
 }
 
-fn unopened(
-    rt: HostRuntime,
-    name: &[u8],
-    doing: &[u8],
-    why: io::Error,
-    out: &mut [u8],
-) -> Course {
+fn unopened(rt: HostRuntime, name: &[u8], doing: &[u8], why: io::Error, out: &mut [u8]) -> Course {
     say::fail(rt, name, doing, why, out);
     failed(begun(0))
 }

@@ -140,7 +140,14 @@ fn put_lasting(lasts: bool, pen: Pen, out: &mut [u8]) -> Pen {
 }
 
 // Of some of it, or of the file's name, nobody knows.
-pub fn appended_in_part(rt: HostRuntime, name: &[u8], records: u64, safe: u64, lasts: bool, out: &mut [u8]) {
+pub fn appended_in_part(
+    rt: HostRuntime,
+    name: &[u8],
+    records: u64,
+    safe: u64,
+    lasts: bool,
+    out: &mut [u8],
+) {
     let p = put_appended(name, records, out);
     let q = text_pen::put(out, p, b", ");
     let r = text_written::put_decimal(out, q, safe);

@@ -79,14 +79,7 @@ fn zeros_from(log: &File, size: u64, buf: &mut [u8]) -> u64 {
     l.from
 }
 
-pub fn tell(
-    rt: HostRuntime,
-    log: &File,
-    name: &[u8],
-    size: u64,
-    buf: &mut [u8],
-    out: &mut [u8],
-) {
+pub fn tell(rt: HostRuntime, log: &File, name: &[u8], size: u64, buf: &mut [u8], out: &mut [u8]) {
     let from = zeros_from(log, size, buf);
     if size < from {
         return;
