@@ -1,6 +1,8 @@
 // Two recordings compared (02, Req 10): `compare FIRST SECOND [FROM TO]` prints the records that one night log has and the other has not, by their numbers,
 // and each channel that differs, by its first place; its last line is `same` or `differ`. What could not be done, or was refused, goes to standard error,
 // and then there is no such line.
+#![tactic(auto)]
+
 mod say; // say.rt: what is said on standard error
 mod window; // window.rt: the times between which records are compared
 mod kept; // kept.rt: the records of a log that are compared

@@ -67,8 +67,10 @@ pub fn read(file: &File, buf: &mut [u8]) -> io::Result<usize>
     f.read(buf)
 }
 
-fn count(got: io::Result<usize>) -> usize {
-    match got {
+fn read_or_none(file: &File, buf: &mut [u8]) -> usize
+    ensures { result ≤ length buf.new }
+{
+    match read(file, buf) {
         Ok(n) => n,
         Err(_) => 0,
     }
@@ -80,7 +82,7 @@ pub fn read_full(file: &File, buf: &mut [u8]) -> usize
 {
     let mut done = 0;
     while done < buf.len() {
-        let n = count(read(file, &mut buf[done..]));
+        let n = read_or_none(file, &mut buf[done..]);
         if n == 0 {
             return done;
         }

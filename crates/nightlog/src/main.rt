@@ -1,4 +1,6 @@
 // The night log in a file (02, Req 01): `append` writes what standard input tells to its end, `show` prints it as desk lines, `check` counts it.
+#![tactic(auto)]
+
 mod say; // say.rt: what is said on standard error
 mod pieces; // pieces.rt: the records of a file, piece by piece
 mod zeros; // zeros.rt: zeros at a file's end

@@ -1,5 +1,7 @@
 // The file of a night while it is appended to. Before each wait for more lines all that was written is flushed, and within a long piece of them at
 // each second of the clock.
+ghost use Rattle.std.specs.Prelude.{◌≤◌, length};
+
 use crate::{file, say};
 use console::files;
 use std::fs::File;
@@ -109,7 +111,9 @@ struct Wrote {
     why: Option<io::Error>,
 }
 
-fn written(log: &File, record: &[u8]) -> Wrote {
+fn written(log: &File, record: &[u8]) -> Wrote
+    ensures { result.done ≤ length record.now }
+{
     match files::write(log, record) {
         Ok(done) => Wrote { done, why: None },
         Err(why) => Wrote {

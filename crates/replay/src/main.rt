@@ -1,5 +1,7 @@
 // Replay of a night (02, Req 05): `replay POSTS LOG` sets posts up as the lines of POSTS tell, feeds them the records of the night log LOG, and
 // writes each record's line to standard output. How the log ends, and a summary, go to standard error.
+#![tactic(auto)]
+
 mod say; // say.rt: what is said on standard error
 mod posts; // posts.rt: the set-ups of a file
 mod tally; // tally.rt: refusals counted by their numbers
