@@ -98,6 +98,7 @@ fn put_both(
 
 // A channel that does not differ has the place 0.
 fn put_one(
+    rt: HostRuntime,
     x: Put,
     channel: u32,
     place: u32,
@@ -110,12 +111,13 @@ fn put_one(
     if place == 0 {
         return x;
     }
-    let p = paper::with_room(out, x.pen);
+    let p = paper::with_room(rt, out, x.pen);
     let q = put_both(channel, place, bytes, numbers, bytes2, numbers2, out, p);
     Put { pen: q, any: true }
 }
 
 pub fn put_all(
+    rt: HostRuntime,
     places: [u32; CHANNELS],
     bytes: &[u8],
     numbers: &[u64],
@@ -128,6 +130,7 @@ pub fn put_all(
     let mut channel: usize = 0;
     while channel < CHANNELS {
         x = put_one(
+            rt,
             x,
             channel as u32,
             places[channel],

@@ -3,7 +3,10 @@
 use crate::piece::Course;
 use crate::window::Window;
 use crate::{kept, piece, say};
+use console::files;
 use log_walk::{Stand, file};
+use std::fs::File;
+use std::io;
 
 fn failed(c: Course) -> Course {
     let mut d = c;
@@ -11,27 +14,28 @@ fn failed(c: Course) -> Course {
     d
 }
 
-fn unread(c: Course, name: &[u8], doing: &[u8]) -> Course {
-    say::fail(name, doing);
+fn unread(rt: HostRuntime, c: Course, name: &[u8], doing: &[u8], why: io::Error) -> Course {
+    say::fail(rt, name, doing, why);
     failed(c)
 }
 
-fn changed(c: Course, name: &[u8]) -> Course {
-    say::changed(name);
+fn changed(rt: HostRuntime, c: Course, name: &[u8]) -> Course {
+    say::changed(rt, name);
     failed(c)
 }
 
-fn broken(c: Course, name: &[u8]) -> Course {
+fn broken(rt: HostRuntime, c: Course, name: &[u8]) -> Course {
     let w = c.walk;
     let stand = w.stand;
-    say::broken(name, stand, w.at);
+    say::broken(rt, name, stand, w.at);
     failed(c)
 }
 
 // Even an empty file is read, so that a folder is an error, whatever its length.
 fn next_piece(
+    rt: HostRuntime,
     c: Course,
-    fd: i32,
+    log: &File,
     w: Window,
     name: &[u8],
     buf: &mut [u8],
@@ -39,12 +43,13 @@ fn next_piece(
     numbers: &mut [u64],
 ) -> Course {
     let from = c.walk.from;
-    let got = libc::pread(fd, buf, file::offset(from));
-    if got < 0 {
-        return unread(c, name, b": reading");
+    match files::read_at(log, buf, from) {
+        Ok(got) => {
+            let n = file::within(got, from, c.walk.size);
+            piece::records_in(c, w, file::front(buf, n), bytes, numbers)
+        }
+        Err(why) => unread(rt, c, name, b": reading", why),
     }
-    let n = file::within(io::count(got, buf), from, c.walk.size);
-    piece::records_in(c, w, file::front(buf, n), bytes, numbers)
 }
 
 fn goes_on(c: Course) -> bool {
@@ -55,8 +60,9 @@ fn goes_on(c: Course) -> bool {
 }
 
 fn walked(
+    rt: HostRuntime,
     start: Course,
-    fd: i32,
+    log: &File,
     w: Window,
     name: &[u8],
     buf: &mut [u8],
@@ -66,7 +72,7 @@ fn walked(
     let mut c = start;
     let mut turns = u64::MAX;
     while turns > 0 {
-        c = next_piece(c, fd, w, name, buf, bytes, numbers);
+        c = next_piece(rt, c, log, w, name, buf, bytes, numbers);
         if !goes_on(c) {
             return c;
         }
@@ -77,7 +83,7 @@ fn walked(
 
 // Only a log that ends with a whole record is compared. A piece that is short of a record, before the end that the file had, tells that the file is shorter
 // now.
-fn judged(c: Course, name: &[u8]) -> Course {
+fn judged(rt: HostRuntime, c: Course, name: &[u8]) -> Course {
     if c.failed {
         return c;
     }
@@ -87,9 +93,9 @@ fn judged(c: Course, name: &[u8]) -> Course {
         Stand::Within => failed(c),
         Stand::Seam => failed(c),
         Stand::End => c,
-        Stand::Cut => broken(c, name),
-        Stand::Bad(_) => broken(c, name),
-        Stand::Short => changed(c, name),
+        Stand::Cut => broken(rt, c, name),
+        Stand::Bad(_) => broken(rt, c, name),
+        Stand::Short => changed(rt, c, name),
     }
 }
 
@@ -105,29 +111,42 @@ fn begun(size: u64) -> Course {
 
 // To the length that the file had: whoever records may append to it meanwhile.
 fn of_length(
-    fd: i32,
-    size: i64,
+    rt: HostRuntime,
+    log: &File,
+    size: u64,
     w: Window,
     name: &[u8],
     bytes: &mut [u8],
     numbers: &mut [u64],
 ) -> Course {
-    let start = begun(file::length(size));
-    if size < 0 {
-        return unread(start, name, b": finding its length");
-    }
-    let mut buf = io::large_buffer();
-    let c = walked(start, fd, w, name, &mut buf, bytes, numbers);
-    judged(c, name)
+    let mut buf = console::large_buffer();
+    let c = walked(rt, begun(size), log, w, name, &mut buf, bytes, numbers);
+    judged(rt, c, name)
 }
 
-pub fn read(name: &[u8], w: Window, bytes: &mut [u8], numbers: &mut [u64]) -> Course {
-    let fd = os::open_read(name);
-    if fd < 0 {
-        return unread(begun(0), name, b"");
+fn read_log(
+    rt: HostRuntime,
+    log: &File,
+    w: Window,
+    name: &[u8],
+    bytes: &mut [u8],
+    numbers: &mut [u64],
+) -> Course {
+    match files::length(log) {
+        Ok(size) => of_length(rt, log, size, w, name, bytes, numbers),
+        Err(why) => unread(rt, begun(0), name, b": finding its length", why),
     }
-    let size = libc::lseek(fd, 0, libc::SEEK_END);
-    let c = of_length(fd, size, w, name, bytes, numbers);
-    libc::close(fd);
-    c
+}
+
+pub fn read(
+    rt: HostRuntime,
+    name: &[u8],
+    w: Window,
+    bytes: &mut [u8],
+    numbers: &mut [u64],
+) -> Course {
+    match files::open_read(rt, name) {
+        Ok(log) => read_log(rt, &log, w, name, bytes, numbers),
+        Err(why) => unread(rt, begun(0), name, b"", why),
+    }
 }

@@ -1,6 +1,8 @@
 // Two recordings compared (02, Req 10): `compare FIRST SECOND [FROM TO]` prints the records that one night log has and the other has not, by their numbers,
 // and each channel that differs, by its first place; its last line is `same` or `differ`. What could not be done, or was refused, goes to standard error,
 // and then there is no such line.
+#![tactic(auto)]
+
 mod say; // say.rt: what is said on standard error
 mod window; // window.rt: the times between which records are compared
 mod kept; // kept.rt: the records of a log that are compared
@@ -16,55 +18,63 @@ use compare_rules::MOST;
 use kept::Kept;
 use window::{Asked, Window};
 
-fn usage() {
-    io::write_all(
-        libc::STDERR_FILENO,
+fn usage(rt: HostRuntime) {
+    console::say(
+        rt,
         b"usage: compare FIRST SECOND [FROM TO]; FROM and TO cut both logs to the records from FROM to TO ms, both included\n",
     );
 }
 
-fn with_second(x: Kept, first: &[u8], bytes: &[u8], numbers: &[u64], second: &[u8], w: Window) {
-    let mut bytes2 = io::large_buffer();
+fn with_second(
+    rt: HostRuntime,
+    x: Kept,
+    first: &[u8],
+    bytes: &[u8],
+    numbers: &[u64],
+    second: &[u8],
+    w: Window,
+) {
+    let mut bytes2 = console::large_buffer();
     let mut numbers2 = [0u64; MOST];
-    let c = file::read(second, w, &mut bytes2, &mut numbers2);
+    let c = file::read(rt, second, w, &mut bytes2, &mut numbers2);
     if c.failed {
         return;
     }
     let y = c.kept;
-    verdict::say(x, first, bytes, numbers, y, second, &bytes2, &numbers2);
+    verdict::say(rt, x, first, bytes, numbers, y, second, &bytes2, &numbers2);
 }
 
 // 02: "At each step the first log comes first": a broken one is told before the second is looked at.
-fn run(first: &[u8], second: &[u8], w: Window) {
-    let mut bytes = io::large_buffer();
+fn run(rt: HostRuntime, first: &[u8], second: &[u8], w: Window) {
+    let mut bytes = console::large_buffer();
     let mut numbers = [0u64; MOST];
-    let c = file::read(first, w, &mut bytes, &mut numbers);
+    let c = file::read(rt, first, w, &mut bytes, &mut numbers);
     if c.failed {
         return;
     }
     let x = c.kept;
-    with_second(x, first, &bytes, &numbers, second, w);
+    with_second(rt, x, first, &bytes, &numbers, second, w);
 }
 
-fn between(w: Window) {
-    let mut first = io::buffer();
-    let n = os::arg(1, &mut first);
-    if os::errno() != 0 {
-        os::fail(b"compare: FIRST");
-        return;
+fn with_first(rt: HostRuntime, first: &[u8], w: Window) {
+    let mut second = console::buffer();
+    match console::word(rt, 2, &mut second) {
+        Ok(n) => run(rt, first, &second[..n], w),
+        Err(why) => console::fail(rt, b"compare: SECOND", why),
     }
-    let mut second = io::buffer();
-    let k = os::arg(2, &mut second);
-    if os::errno() != 0 {
-        os::fail(b"compare: SECOND");
-        return;
-    }
-    run(&first[..n], &second[..k], w);
 }
 
-fn main() {
-    match window::told() {
-        Asked::Bad => usage(),
-        Asked::Is(w) => between(w),
+fn between(rt: HostRuntime, w: Window) {
+    let mut first = console::buffer();
+    match console::word(rt, 1, &mut first) {
+        Ok(n) => with_first(rt, &first[..n], w),
+        Err(why) => console::fail(rt, b"compare: FIRST", why),
+    }
+}
+
+fn main(rt: HostRuntime) {
+    match window::told(rt) {
+        Asked::Bad => usage(rt),
+        Asked::Is(w) => between(rt, w),
     }
 }

@@ -1,5 +1,6 @@
 // What is said on standard error. A message is made in a buffer of its own and written at once.
 use log_walk::Stand;
+use std::io;
 use text_pen::Pen;
 
 // `compare: FILE`
@@ -8,31 +9,31 @@ fn named(name: &[u8], out: &mut [u8]) -> Pen {
     text_pen::put(out, p, name)
 }
 
-fn written(at: usize, out: &[u8]) {
+fn written(rt: HostRuntime, at: usize, out: &[u8]) {
     if at <= out.len() {
-        io::write_all(libc::STDERR_FILENO, &out[0..at]);
+        console::say(rt, &out[0..at]);
     }
 }
 
-fn failed(at: usize, out: &[u8]) {
+fn failed(rt: HostRuntime, at: usize, why: io::Error, out: &[u8]) {
     if at <= out.len() {
-        os::fail(&out[0..at]);
+        console::fail(rt, &out[0..at], why);
     }
 }
 
-// A call on a file failed: what was being done, and the system's reason. Nothing here calls the system before errno is read.
-pub fn fail(name: &[u8], doing: &[u8]) {
-    let mut out = io::large_buffer();
+// A call on a file failed: what was being done, and the system's reason.
+pub fn fail(rt: HostRuntime, name: &[u8], doing: &[u8], why: io::Error) {
+    let mut out = console::large_buffer();
     let p = named(name, &mut out);
     let q = text_pen::put(&mut out, p, doing);
-    failed(q.at, &out);
+    failed(rt, q.at, why, &out);
 }
 
-pub fn changed(name: &[u8]) {
-    let mut out = io::large_buffer();
+pub fn changed(rt: HostRuntime, name: &[u8]) {
+    let mut out = console::large_buffer();
     let p = named(name, &mut out);
     let q = text_pen::put(&mut out, p, b": the file changed while it was read\n");
-    written(q.at, &out);
+    written(rt, q.at, &out);
 }
 
 // `CUT@BYTE` or `BAD R<n>@BYTE`
@@ -48,18 +49,18 @@ fn put_ending(out: &mut [u8], pen: Pen, stand: Stand, at: u64) -> Pen {
 }
 
 // 26: `compare: FILE: R26, ENDING`, with the byte of the file where the piece or the malformed record begins
-pub fn broken(name: &[u8], stand: Stand, at: u64) {
-    let mut out = io::large_buffer();
+pub fn broken(rt: HostRuntime, name: &[u8], stand: Stand, at: u64) {
+    let mut out = console::large_buffer();
     let p = named(name, &mut out);
     let q = text_pen::put(&mut out, p, b": R26, ");
     let r = put_ending(&mut out, q, stand, at);
     let t = notation_answers::answer::line_end(&mut out, r);
-    written(t.at, &out);
+    written(rt, t.at, &out);
 }
 
 // 27, or any other that the library gives: `compare: FILE: R27, N records ..`
-pub fn refused(name: &[u8], number: u32, chosen: u64) {
-    let mut out = io::large_buffer();
+pub fn refused(rt: HostRuntime, name: &[u8], number: u32, chosen: u64) {
+    let mut out = console::large_buffer();
     let p = named(name, &mut out);
     let q = notation_answers::answer::named(&mut out, p, b": R", number);
     let r = text_pen::put(&mut out, q, b", ");
@@ -69,5 +70,5 @@ pub fn refused(name: &[u8], number: u32, chosen: u64) {
         t,
         b" records where 512 are compared; FROM TO cuts both logs to a window\n",
     );
-    written(u.at, &out);
+    written(rt, u.at, &out);
 }

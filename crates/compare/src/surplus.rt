@@ -5,6 +5,7 @@ use text_pen::Pen;
 
 // The library numbers the records that it was handed from 1.
 fn put_one(
+    rt: HostRuntime,
     side: &[u8],
     number: u32,
     bytes: &[u8],
@@ -15,7 +16,7 @@ fn put_one(
     if number == 0 {
         return pen;
     }
-    let p = paper::with_room(out, pen);
+    let p = paper::with_room(rt, out, pen);
     let q = text_pen::put(out, p, side);
     let i = (number - 1) as usize;
     let r = line::put_numbered(bytes, numbers, i, out, q);
@@ -23,6 +24,7 @@ fn put_one(
 }
 
 pub fn put_all(
+    rt: HostRuntime,
     side: &[u8],
     list: &[u32],
     bytes: &[u8],
@@ -35,7 +37,7 @@ pub fn put_all(
     while i < list.len() {
         let number = list[i];
         i += 1;
-        p = put_one(side, number, bytes, numbers, out, p);
+        p = put_one(rt, side, number, bytes, numbers, out, p);
     }
     p
 }

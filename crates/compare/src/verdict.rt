@@ -41,6 +41,7 @@ fn is_other(first: &[u32], second: &[u32], any: bool) -> bool {
 }
 
 fn put_lists(
+    rt: HostRuntime,
     first: &[u32],
     second: &[u32],
     bytes: &[u8],
@@ -50,6 +51,7 @@ fn put_lists(
     out: &mut [u8],
 ) -> Pen {
     let p = surplus::put_all(
+        rt,
         b"first",
         first,
         bytes,
@@ -57,18 +59,19 @@ fn put_lists(
         out,
         Pen { at: 0, full: false },
     );
-    surplus::put_all(b"second", second, bytes2, numbers2, out, p)
+    surplus::put_all(rt, b"second", second, bytes2, numbers2, out, p)
 }
 
 // The last lines, behind all others.
-fn finish(n: u64, m: u64, differ: bool, out: &mut [u8], pen: Pen) {
-    let p = paper::with_room(out, pen);
+fn finish(rt: HostRuntime, n: u64, m: u64, differ: bool, out: &mut [u8], pen: Pen) {
+    let p = paper::with_room(rt, out, pen);
     let q = put_counts(n, m, out, p);
     let r = put_word(differ, out, q);
-    paper::flushed(out, r);
+    paper::flushed(rt, out, r);
 }
 
 fn listed(
+    rt: HostRuntime,
     first: &[u32],
     second: &[u32],
     places: [u32; CHANNELS],
@@ -79,11 +82,14 @@ fn listed(
     bytes2: &[u8],
     numbers2: &[u64],
 ) {
-    let mut out = io::large_buffer();
-    let p = put_lists(first, second, bytes, numbers, bytes2, numbers2, &mut out);
-    let c = channels::put_all(places, bytes, numbers, bytes2, numbers2, &mut out, p);
+    let mut out = console::large_buffer();
+    let p = put_lists(
+        rt, first, second, bytes, numbers, bytes2, numbers2, &mut out,
+    );
+    let c = channels::put_all(rt, places, bytes, numbers, bytes2, numbers2, &mut out, p);
     let q = c.pen;
     finish(
+        rt,
         x.chosen,
         y.chosen,
         is_other(first, second, c.any),
@@ -93,16 +99,17 @@ fn listed(
 }
 
 // Every list has its places and every log is whole, so that this is 27.
-fn refused(number: u32, side: u32, x: Kept, first: &[u8], y: Kept, second: &[u8]) {
+fn refused(rt: HostRuntime, number: u32, side: u32, x: Kept, first: &[u8], y: Kept, second: &[u8]) {
     if side == 1 {
-        say::refused(first, number, x.chosen);
+        say::refused(rt, first, number, x.chosen);
         return;
     }
-    say::refused(second, number, y.chosen);
+    say::refused(rt, second, number, y.chosen);
 }
 
 // The library's answer to what was kept of both logs.
 pub fn say(
+    rt: HostRuntime,
     x: Kept,
     name: &[u8],
     bytes: &[u8],
@@ -122,6 +129,7 @@ pub fn say(
             first: n,
             second: m,
         } => listed(
+            rt,
             first_of(&first, n),
             first_of(&second, m),
             places,
@@ -133,7 +141,7 @@ pub fn say(
             numbers2,
         ),
         Compared::Refused { why, side, at: _ } => {
-            refused(refusals::refusal_number(why), side, x, name, y, name2)
+            refused(rt, refusals::refusal_number(why), side, x, name, y, name2)
         }
     }
 }

@@ -15,13 +15,12 @@ pub enum Asked {
 }
 
 // A time as the desk tells it, and nothing behind it.
-fn time_at(i: usize) -> Last {
+fn time_at(rt: HostRuntime, i: usize) -> Last {
     let mut word = [0u8; 16];
-    let n = os::arg(i, &mut word);
-    if os::errno() != 0 {
-        return Last::Bad;
+    match console::word(rt, i, &mut word) {
+        Ok(n) => fields::take_last(&word[..n], 0),
+        Err(_) => Last::Bad,
     }
-    fields::take_last(&word[..n], 0)
 }
 
 // A window that ends before it begins holds nothing, so that all logs would be the same in it: it is a wrong call.
@@ -32,27 +31,26 @@ fn ordered(from: u32, to: u32) -> Asked {
     Asked::Is(Window { from, to })
 }
 
-fn named() -> Asked {
-    let Last::Is(from) = time_at(3) else {
+fn named(rt: HostRuntime) -> Asked {
+    let Last::Is(from) = time_at(rt, 3) else {
         return Asked::Bad;
     };
-    let Last::Is(to) = time_at(4) else {
+    let Last::Is(to) = time_at(rt, 4) else {
         return Asked::Bad;
     };
     ordered(from, to)
 }
 
 // `FROM TO` behind the names of the logs, or nothing.
-pub fn told() -> Asked {
-    let count = os::arg_count();
-    if count == 3 {
+pub fn told(rt: HostRuntime) -> Asked {
+    if console::has_words(rt, 2) {
         return Asked::Is(Window {
             from: 0,
             to: u32::MAX,
         });
     }
-    if count == 5 {
-        return named();
+    if console::has_words(rt, 4) {
+        return named(rt);
     }
     Asked::Bad
 }

@@ -1,6 +1,11 @@
 // The file that is appended to: found or made, of the length that this program left, and cut back to its last whole record.
 use crate::{say, show};
+use console::files;
+use log_walk::file::front;
 use log_walk::{Stand, Walk};
+use std::fs::File;
+use std::io;
+use std::io::ErrorKind;
 
 // How many bytes of a name are its folder's, the slash among them.
 fn folder_end(name: &[u8]) -> usize {
@@ -14,101 +19,116 @@ fn folder_end(name: &[u8]) -> usize {
     0
 }
 
-fn open_folder(name: &[u8]) -> i32 {
+fn open_folder(rt: HostRuntime, name: &[u8]) -> io::Result<File> {
     let n = folder_end(name);
     if n == 0 {
-        return os::open_read(b".");
+        return files::open_read(rt, b".");
     }
-    if n > name.len() {
-        return -1;
-    }
-    os::open_read(&name[0..n])
+    files::open_read(rt, front(name, n))
 }
 
 // What was written has reached the disk; false where that failed, and was said.
-pub fn flush(fd: i32, name: &[u8], doing: &[u8], out: &mut [u8]) -> bool {
-    if libc::fsync(fd) == 0 {
-        return true;
+pub fn flush(rt: HostRuntime, log: &File, name: &[u8], doing: &[u8], out: &mut [u8]) -> bool {
+    match log.sync_all() {
+        Ok(()) => true,
+        Err(why) => {
+            say::fail(rt, name, doing, why, out);
+            false
+        }
     }
-    say::fail(name, doing, out);
-    false
 }
 
 // A new name lasts once its folder is flushed.
-fn flush_folder(name: &[u8], out: &mut [u8]) -> bool {
-    let fd = open_folder(name);
-    if fd < 0 {
-        say::fail(name, b": opening its folder", out);
-        return false;
+fn flush_folder(rt: HostRuntime, name: &[u8], out: &mut [u8]) -> bool {
+    match open_folder(rt, name) {
+        Ok(folder) => flush(rt, &folder, name, b": flushing its folder", out),
+        Err(why) => {
+            say::fail(rt, name, b": opening its folder", why, out);
+            false
+        }
     }
-    let lasts = flush(fd, name, b": flushing its folder", out);
-    libc::close(fd);
-    lasts
 }
 
-// A descriptor whose every write lands at the file's end, or a number below 0, and then that was said; whether the file's name is known to last.
-#[derive(Clone, Copy)]
+// A file whose every write lands at its end, and whether its name is known to last.
+#[derive(Drop)]
 pub struct Ours {
-    pub fd: i32,
+    pub log: File,
     pub lasts: bool,
 }
 
-fn opened_anew(name: &[u8], lasts: bool, out: &mut [u8]) -> Ours {
-    let fd = os::open_append(name);
-    if fd < 0 {
-        say::fail(name, b"", out);
+fn opened_anew(rt: HostRuntime, name: &[u8], lasts: bool, out: &mut [u8]) -> Option<Ours> {
+    match files::open_append(rt, name) {
+        Ok(log) => Some(Ours { log, lasts }),
+        Err(why) => {
+            say::fail(rt, name, b"", why, out);
+            None
+        }
     }
-    Ours { fd, lasts }
 }
 
-fn made(name: &[u8], out: &mut [u8]) -> Ours {
-    let new = os::create(name);
-    if new < 0 {
-        say::fail(name, b"", out);
-        return Ours {
-            fd: new,
-            lasts: false,
-        };
+// Whether the new file was made. It is closed again.
+fn is_made(rt: HostRuntime, name: &[u8], out: &mut [u8]) -> bool {
+    match files::create(rt, name) {
+        Ok(_) => true,
+        Err(why) => {
+            say::fail(rt, name, b"", why, out);
+            false
+        }
     }
-    libc::close(new);
-    let lasts = flush_folder(name, out);
-    opened_anew(name, lasts, out)
 }
 
-pub fn opened(name: &[u8], out: &mut [u8]) -> Ours {
-    let fd = os::open_append(name);
-    if fd >= 0 {
-        return Ours { fd, lasts: true };
+fn made(rt: HostRuntime, name: &[u8], out: &mut [u8]) -> Option<Ours> {
+    if !is_made(rt, name, out) {
+        return None;
     }
-    if os::errno() == libc::ENOENT {
-        return made(name, out);
-    }
-    say::fail(name, b"", out);
-    Ours { fd, lasts: false }
+    let lasts = flush_folder(rt, name, out);
+    opened_anew(rt, name, lasts, out)
 }
 
-// Whether the file has as many bytes as this program left in it. Where it has not, another one writes to it, which is said.
-pub fn is_as_left(fd: i32, name: &[u8], left: u64, out: &mut [u8]) -> bool {
-    let size = libc::lseek(fd, 0, libc::SEEK_END);
-    if size < 0 {
-        say::fail(name, b": finding its length", out);
-        return false;
+fn missing(rt: HostRuntime, name: &[u8], why: io::Error, out: &mut [u8]) -> Option<Ours> {
+    if why.kind() == ErrorKind::NotFound {
+        return made(rt, name, out);
     }
-    let found = log_walk::file::length(size);
+    say::fail(rt, name, b"", why, out);
+    None
+}
+
+// None where the file could not be opened or made, and that was said.
+pub fn opened(rt: HostRuntime, name: &[u8], out: &mut [u8]) -> Option<Ours> {
+    match files::open_append(rt, name) {
+        Ok(log) => Some(Ours { log, lasts: true }),
+        Err(why) => missing(rt, name, why, out),
+    }
+}
+
+fn is_of_length(rt: HostRuntime, name: &[u8], found: u64, left: u64, out: &mut [u8]) -> bool {
     if found == left {
         return true;
     }
-    say::other_length(name, found, left, out);
+    say::other_length(rt, name, found, left, out);
     false
 }
 
-// The file without what stands behind its byte `at`; false where that failed, and was said.
-pub fn cut(fd: i32, name: &[u8], at: u64, out: &mut [u8]) -> bool {
-    if libc::ftruncate(fd, log_walk::file::offset(at)) == 0 {
-        return true;
+// Whether the file has as many bytes as this program left in it. Where it has not, another one writes to it, which is said.
+pub fn is_as_left(rt: HostRuntime, log: &File, name: &[u8], left: u64, out: &mut [u8]) -> bool {
+    match files::length(log) {
+        Ok(found) => is_of_length(rt, name, found, left, out),
+        Err(why) => {
+            say::fail(rt, name, b": finding its length", why, out);
+            false
+        }
     }
-    say::fail(name, b": cutting back", out);
-    false
+}
+
+// The file without what stands behind its byte `at`; false where that failed, and was said.
+pub fn cut(rt: HostRuntime, log: &File, name: &[u8], at: u64, out: &mut [u8]) -> bool {
+    match log.set_len(at) {
+        Ok(()) => true,
+        Err(why) => {
+            say::fail(rt, name, b": cutting back", why, out);
+            false
+        }
+    }
 }
 
 fn left_over(w: Walk) -> u64 {
@@ -119,30 +139,30 @@ fn left_over(w: Walk) -> u64 {
 }
 
 // A piece of a record is cut away, and that is flushed; false where it is still there, or may come back, and that was said.
-fn is_cut_back(fd: i32, name: &[u8], w: Walk, out: &mut [u8]) -> bool {
-    if !is_as_left(fd, name, w.size, out) {
+fn is_cut_back(rt: HostRuntime, log: &File, name: &[u8], w: Walk, out: &mut [u8]) -> bool {
+    if !is_as_left(rt, log, name, w.size, out) {
         return false;
     }
-    if !cut(fd, name, w.at, out) {
+    if !cut(rt, log, name, w.at, out) {
         return false;
     }
-    if !flush(fd, name, b": flushing", out) {
+    if !flush(rt, log, name, b": flushing", out) {
         return false;
     }
-    say::cut_back(name, w.at, left_over(w), out);
+    say::cut_back(rt, name, w.at, left_over(w), out);
     true
 }
 
 // Whether records may follow what the file holds.
-pub fn is_ready(fd: i32, name: &[u8], w: Walk, out: &mut [u8]) -> bool {
+pub fn is_ready(rt: HostRuntime, log: &File, name: &[u8], w: Walk, out: &mut [u8]) -> bool {
     let stand = w.stand;
     match stand {
         Stand::Within => false,
         Stand::Seam => false,
         Stand::End => true,
-        Stand::Cut => is_cut_back(fd, name, w, out),
+        Stand::Cut => is_cut_back(rt, log, name, w, out),
         Stand::Bad(_) => {
-            show::say_ending(name, stand, w.at, b": nothing is appended", out);
+            show::say_ending(rt, name, stand, w.at, b": nothing is appended", out);
             false
         }
         Stand::Short => false,

@@ -1,8 +1,11 @@
 // The records of a file of any length, read in pieces: log_walk says where they end, and this reads the bytes. A record has at most 20 bytes, so every piece
 // but the file's last holds some.
 use crate::{say, show, zeros};
+use console::files;
 use log_records::Found;
 use log_walk::{Walk, file};
+use std::fs::File;
+use std::io;
 use text_pen::Pen;
 
 // A walk over a file, and the pen of its lines; failed where the file could not be read to its end, which was said, or its lines could not be written.
@@ -20,33 +23,40 @@ fn failed(c: Course) -> Course {
 }
 
 // What is said in a walk has a buffer of its own: lines may wait in the walk's.
-fn changed(c: Course, name: &[u8]) -> Course {
-    let mut said = io::large_buffer();
-    say::words(name, b"the file changed while it was read", &mut said);
+fn changed(rt: HostRuntime, c: Course, name: &[u8]) -> Course {
+    let mut said = console::large_buffer();
+    say::words(rt, name, b"the file changed while it was read", &mut said);
     failed(c)
 }
 
-fn unread(c: Course, name: &[u8]) -> Course {
-    let mut said = io::large_buffer();
-    say::fail(name, b": reading", &mut said);
+fn unread(rt: HostRuntime, c: Course, name: &[u8], why: io::Error) -> Course {
+    let mut said = console::large_buffer();
+    say::fail(rt, name, b": reading", why, &mut said);
     failed(c)
 }
 
-fn shown_if(shown: bool, piece: &[u8], found: Found, out: &mut [u8], pen: Pen) -> Pen {
+fn shown_if(
+    rt: HostRuntime,
+    shown: bool,
+    piece: &[u8],
+    found: Found,
+    out: &mut [u8],
+    pen: Pen,
+) -> Pen {
     if shown {
-        return show::found(piece, found, out, pen);
+        return show::found(rt, piece, found, out, pen);
     }
     pen
 }
 
 // One record further.
-fn stepped(c: Course, piece: &[u8], shown: bool, out: &mut [u8]) -> Course {
+fn stepped(rt: HostRuntime, c: Course, piece: &[u8], shown: bool, out: &mut [u8]) -> Course {
     let w = c.walk;
     let p = c.pen;
     let s = log_walk::stepped(w, piece);
     let walk = s.walk;
     let found = s.found;
-    let pen = shown_if(shown, piece, found, out, p);
+    let pen = shown_if(rt, shown, piece, found, out, p);
     Course {
         walk,
         pen,
@@ -61,11 +71,11 @@ fn goes_on(c: Course, more: bool) -> bool {
     more
 }
 
-fn records_in(start: Course, piece: &[u8], shown: bool, out: &mut [u8]) -> Course {
+fn records_in(rt: HostRuntime, start: Course, piece: &[u8], shown: bool, out: &mut [u8]) -> Course {
     let mut c = start;
     let mut turns = u64::MAX;
     while turns > 0 {
-        c = stepped(c, piece, shown, out);
+        c = stepped(rt, c, piece, shown, out);
         if !goes_on(c, log_walk::is_within(c.walk)) {
             return c;
         }
@@ -75,35 +85,38 @@ fn records_in(start: Course, piece: &[u8], shown: bool, out: &mut [u8]) -> Cours
 }
 
 // A piece that is short of a record, before the end that the file had, tells that the file is shorter now.
-fn judged(c: Course, name: &[u8]) -> Course {
+fn judged(rt: HostRuntime, c: Course, name: &[u8]) -> Course {
     if log_walk::is_short(c.walk) {
-        return changed(c, name);
+        return changed(rt, c, name);
     }
     c
 }
 
 // Even an empty file is read, so that a folder is an error, whatever its length.
 fn next_piece(
+    rt: HostRuntime,
     c: Course,
-    fd: i32,
+    log: &File,
     shown: bool,
     name: &[u8],
     buf: &mut [u8],
     out: &mut [u8],
 ) -> Course {
     let from = c.walk.from;
-    let got = libc::pread(fd, buf, file::offset(from));
-    if got < 0 {
-        return unread(c, name);
+    match files::read_at(log, buf, from) {
+        Ok(got) => {
+            let n = file::within(got, from, c.walk.size);
+            let d = records_in(rt, c, file::front(buf, n), shown, out);
+            judged(rt, d, name)
+        }
+        Err(why) => unread(rt, c, name, why),
     }
-    let n = file::within(io::count(got, buf), from, c.walk.size);
-    let d = records_in(c, file::front(buf, n), shown, out);
-    judged(d, name)
 }
 
 fn walked(
+    rt: HostRuntime,
     start: Course,
-    fd: i32,
+    log: &File,
     shown: bool,
     name: &[u8],
     buf: &mut [u8],
@@ -112,7 +125,7 @@ fn walked(
     let mut c = start;
     let mut turns = u64::MAX;
     while turns > 0 {
-        c = next_piece(c, fd, shown, name, buf, out);
+        c = next_piece(rt, c, log, shown, name, buf, out);
         if !goes_on(c, log_walk::is_at_seam(c.walk)) {
             return c;
         }
@@ -130,27 +143,63 @@ fn begun(size: u64) -> Course {
     }
 }
 
-fn told(fd: i32, shown: bool, name: &[u8], size: u64, buf: &mut [u8], out: &mut [u8]) {
+fn told(
+    rt: HostRuntime,
+    log: &File,
+    shown: bool,
+    name: &[u8],
+    size: u64,
+    buf: &mut [u8],
+    out: &mut [u8],
+) {
     if !shown {
-        zeros::tell(fd, name, size, buf, out);
+        zeros::tell(rt, log, name, size, buf, out);
+    }
+}
+
+fn unopened(rt: HostRuntime, name: &[u8], doing: &[u8], why: io::Error, out: &mut [u8]) -> Course {
+    say::fail(rt, name, doing, why, out);
+    failed(begun(0))
+}
+
+fn of_length(
+    rt: HostRuntime,
+    log: &File,
+    size: u64,
+    shown: bool,
+    name: &[u8],
+    buf: &mut [u8],
+    out: &mut [u8],
+) -> Course {
+    let c = walked(rt, begun(size), log, shown, name, buf, out);
+    told(rt, log, shown, name, c.walk.size, buf, out);
+    c
+}
+
+fn read_log(
+    rt: HostRuntime,
+    log: &File,
+    shown: bool,
+    name: &[u8],
+    buf: &mut [u8],
+    out: &mut [u8],
+) -> Course {
+    match files::length(log) {
+        Ok(size) => of_length(rt, log, size, shown, name, buf, out),
+        Err(why) => unopened(rt, name, b": finding its length", why, out),
     }
 }
 
 // The whole file. Each record goes to the pen as a line where it is to be shown; zeros at the file's end are told where not.
-pub fn read_file(name: &[u8], shown: bool, buf: &mut [u8], out: &mut [u8]) -> Course {
-    let fd = os::open_read(name);
-    if fd < 0 {
-        say::fail(name, b"", out);
-        return failed(begun(0));
+pub fn read_file(
+    rt: HostRuntime,
+    name: &[u8],
+    shown: bool,
+    buf: &mut [u8],
+    out: &mut [u8],
+) -> Course {
+    match files::open_read(rt, name) {
+        Ok(log) => read_log(rt, &log, shown, name, buf, out),
+        Err(why) => unopened(rt, name, b"", why, out),
     }
-    let size = libc::lseek(fd, 0, libc::SEEK_END);
-    if size < 0 {
-        say::fail(name, b": finding its length", out);
-        libc::close(fd);
-        return failed(begun(0));
-    }
-    let c = walked(begun(file::length(size)), fd, shown, name, buf, out);
-    told(fd, shown, name, c.walk.size, buf, out);
-    libc::close(fd);
-    c
 }

@@ -5,21 +5,23 @@ use log_walk::Stand;
 use text_pen::Pen;
 
 // The lines so far are written. A pen that is full stops the walk.
-fn flushed(out: &[u8], pen: Pen) -> Pen {
+fn flushed(rt: HostRuntime, out: &[u8], pen: Pen) -> Pen {
     let at = pen.at;
     if at > out.len() {
         return pen;
     }
-    if io::write_all(libc::STDOUT_FILENO, &out[0..at]) {
-        return Pen { at: 0, full: false };
+    match console::write(rt, &out[0..at]) {
+        Ok(()) => Pen { at: 0, full: false },
+        Err(why) => {
+            console::fail(rt, b"nightlog: writing standard output", why);
+            Pen { at: 0, full: true }
+        }
     }
-    os::fail(b"nightlog: writing standard output");
-    Pen { at: 0, full: true }
 }
 
-fn with_room(out: &[u8], pen: Pen) -> Pen {
+fn with_room(rt: HostRuntime, out: &[u8], pen: Pen) -> Pen {
     if pen.at > 32768 {
-        return flushed(out, pen);
+        return flushed(rt, out, pen);
     }
     pen
 }
@@ -46,8 +48,8 @@ fn put_frame(out: &mut [u8], pen: Pen, id: u32, extended: bool, bytes: &[u8]) ->
 }
 
 // A record of this log as its line.
-fn record(s: &[u8], e: Entry, out: &mut [u8], pen: Pen) -> Pen {
-    let p = with_room(out, pen);
+fn record(rt: HostRuntime, s: &[u8], e: Entry, out: &mut [u8], pen: Pen) -> Pen {
+    let p = with_room(rt, out, pen);
     if e.tick {
         let q = put_stamp(out, p, b"tick ", e.channel, e.time);
         return notation_answers::answer::line_end(out, q);
@@ -63,9 +65,9 @@ fn record(s: &[u8], e: Entry, out: &mut [u8], pen: Pen) -> Pen {
 }
 
 // What was found in this log, where that is a record.
-pub fn found(s: &[u8], f: Found, out: &mut [u8], pen: Pen) -> Pen {
+pub fn found(rt: HostRuntime, s: &[u8], f: Found, out: &mut [u8], pen: Pen) -> Pen {
     match f {
-        Found::Record(e) => record(s, e, out, pen),
+        Found::Record(e) => record(rt, s, e, out, pen),
         Found::End => pen,
         Found::Cut(_) => pen,
         Found::Refused(_, _) => pen,
@@ -97,19 +99,26 @@ fn is_silent(stand: Stand) -> bool {
 }
 
 // `nightlog: FILE: ENDING` and further words
-pub fn say_ending(name: &[u8], stand: Stand, at: u64, words: &[u8], out: &mut [u8]) {
+pub fn say_ending(
+    rt: HostRuntime,
+    name: &[u8],
+    stand: Stand,
+    at: u64,
+    words: &[u8],
+    out: &mut [u8],
+) {
     let p = say::about(name, out);
     let q = put_ending(out, p, stand, at);
     let r = text_pen::put(out, q, words);
-    say::ended(r, out);
+    say::ended(rt, r, out);
 }
 
-pub fn lines(name: &[u8]) {
-    let mut buf = io::large_buffer();
-    let mut out = io::large_buffer();
-    let c = pieces::read_file(name, true, &mut buf, &mut out);
+pub fn lines(rt: HostRuntime, name: &[u8]) {
+    let mut buf = console::large_buffer();
+    let mut out = console::large_buffer();
+    let c = pieces::read_file(rt, name, true, &mut buf, &mut out);
     let pen = c.pen;
-    flushed(&out, pen);
+    flushed(rt, &out, pen);
     if c.failed {
         return;
     }
@@ -118,7 +127,7 @@ pub fn lines(name: &[u8]) {
     if is_silent(stand) {
         return;
     }
-    say_ending(name, stand, w.at, b"", &mut out);
+    say_ending(rt, name, stand, w.at, b"", &mut out);
 }
 
 // `N records, ENDING`
@@ -129,15 +138,15 @@ fn put_count(out: &mut [u8], records: u64, stand: Stand, at: u64) -> Pen {
     notation_answers::answer::line_end(out, r)
 }
 
-pub fn count(name: &[u8]) {
-    let mut buf = io::large_buffer();
-    let mut out = io::large_buffer();
-    let c = pieces::read_file(name, false, &mut buf, &mut out);
+pub fn count(rt: HostRuntime, name: &[u8]) {
+    let mut buf = console::large_buffer();
+    let mut out = console::large_buffer();
+    let c = pieces::read_file(rt, name, false, &mut buf, &mut out);
     if c.failed {
         return;
     }
     let w = c.walk;
     let stand = w.stand;
     let pen = put_count(&mut out, w.records, stand, w.at);
-    flushed(&out, pen);
+    flushed(rt, &out, pen);
 }

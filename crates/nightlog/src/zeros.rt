@@ -1,6 +1,8 @@
 // Zeros at a file's end. A pulled plug may leave them there, and by 02's format `00 00 00 00` is a record; but a payload may end in them too. They are told.
 use crate::say;
+use console::files;
 use log_walk::file;
+use std::fs::File;
 use std::num::wrapping_add_u64;
 
 // As many as the shortest record has.
@@ -36,12 +38,18 @@ fn at(from: u64) -> Look {
     Look { from, more: false }
 }
 
+fn read_from(log: &File, start: u64, buf: &mut [u8]) -> usize {
+    match files::read_at(log, buf, start) {
+        Ok(got) => got,
+        Err(_) => 0,
+    }
+}
+
 // What cannot be read, or not to its end, was told by the walk over the file.
-fn further(l: Look, fd: i32, buf: &mut [u8]) -> Look {
+fn further(l: Look, log: &File, buf: &mut [u8]) -> Look {
     let end = l.from;
     let start = start_of(end, buf.len());
-    let got = libc::pread(fd, buf, file::offset(start));
-    let n = file::within(io::count(got, buf), start, end);
+    let n = file::within(read_from(log, start, buf), start, end);
     if n == 0 {
         return at(end);
     }
@@ -55,14 +63,14 @@ fn further(l: Look, fd: i32, buf: &mut [u8]) -> Look {
     }
 }
 
-fn zeros_from(fd: i32, size: u64, buf: &mut [u8]) -> u64 {
+fn zeros_from(log: &File, size: u64, buf: &mut [u8]) -> u64 {
     let mut l = Look {
         from: size,
         more: true,
     };
     let mut turns = u64::MAX;
     while turns > 0 {
-        l = further(l, fd, buf);
+        l = further(l, log, buf);
         if !l.more {
             return l.from;
         }
@@ -71,8 +79,8 @@ fn zeros_from(fd: i32, size: u64, buf: &mut [u8]) -> u64 {
     l.from
 }
 
-pub fn tell(fd: i32, name: &[u8], size: u64, buf: &mut [u8], out: &mut [u8]) {
-    let from = zeros_from(fd, size, buf);
+pub fn tell(rt: HostRuntime, log: &File, name: &[u8], size: u64, buf: &mut [u8], out: &mut [u8]) {
+    let from = zeros_from(log, size, buf);
     if size < from {
         return;
     }
@@ -80,5 +88,5 @@ pub fn tell(fd: i32, name: &[u8], size: u64, buf: &mut [u8], out: &mut [u8]) {
     if zeros < FEW {
         return;
     }
-    say::zeros(name, zeros, from, out);
+    say::zeros(rt, name, zeros, from, out);
 }

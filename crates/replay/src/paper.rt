@@ -1,22 +1,24 @@
 // The output buffer: lines wait in it until they are many. A pen that is full stops the replay.
 use text_pen::Pen;
 
-pub fn flushed(out: &[u8], pen: Pen) -> Pen {
+pub fn flushed(rt: HostRuntime, out: &[u8], pen: Pen) -> Pen {
     let at = pen.at;
     if at > out.len() {
         return pen;
     }
-    if io::write_all(libc::STDOUT_FILENO, &out[0..at]) {
-        return Pen { at: 0, full: false };
+    match console::write(rt, &out[0..at]) {
+        Ok(()) => Pen { at: 0, full: false },
+        Err(why) => {
+            console::fail(rt, b"replay: writing standard output", why);
+            Pen { at: 0, full: true }
+        }
     }
-    os::fail(b"replay: writing standard output");
-    Pen { at: 0, full: true }
 }
 
 // The lines of a batch have 40,960 bytes of the buffer's 65,536: playing_batches wants ten for each byte of the log.
-pub fn with_room(out: &[u8], pen: Pen) -> Pen {
+pub fn with_room(rt: HostRuntime, out: &[u8], pen: Pen) -> Pen {
     if pen.at > 24576 {
-        return flushed(out, pen);
+        return flushed(rt, out, pen);
     }
     pen
 }

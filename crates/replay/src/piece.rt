@@ -95,10 +95,10 @@ fn fed(n: Read, bytes: &[u8], words: &mut [u32], out: &mut [u8]) -> Batched {
     playing_batches::write_batch(n.replay, bytes, words, paper::rest(out, p))
 }
 
-fn with_room(c: Course, out: &[u8]) -> Course {
+fn with_room(rt: HostRuntime, c: Course, out: &[u8]) -> Course {
     let p = c.pen;
     let walk = c.walk;
-    let pen = paper::with_room(out, p);
+    let pen = paper::with_room(rt, out, p);
     Course {
         pen,
         walk,
@@ -107,8 +107,15 @@ fn with_room(c: Course, out: &[u8]) -> Course {
 }
 
 // One batch further.
-fn stepped(n: Read, piece: &[u8], words: &mut [u32], counts: &mut [u64], out: &mut [u8]) -> Read {
-    let c = with_room(n.course, out);
+fn stepped(
+    rt: HostRuntime,
+    n: Read,
+    piece: &[u8],
+    words: &mut [u32],
+    counts: &mut [u64],
+    out: &mut [u8],
+) -> Read {
+    let c = with_room(rt, n.course, out);
     let replay = n.replay;
     let m = Read { replay, course: c };
     if c.failed {
@@ -139,6 +146,7 @@ fn is_within(c: Course) -> bool {
 }
 
 pub fn played(
+    rt: HostRuntime,
     start: Read,
     piece: &[u8],
     words: &mut [u32],
@@ -148,7 +156,7 @@ pub fn played(
     let mut n = start;
     let mut turns = u64::MAX;
     while turns > 0 {
-        n = stepped(n, piece, words, counts, out);
+        n = stepped(rt, n, piece, words, counts, out);
         if !is_within(n.course) {
             return n;
         }

@@ -1,11 +1,14 @@
 // The set-ups of a file: the desk's `setup` lines, blank lines and comments.
 use crate::say;
+use console::files;
 use notation_read::script;
 use notation_setup::setup;
 use notation_setup::setup::Asked;
 use playing_nights::{Preparing, Replay};
 use refusals::Refusal;
 use rule_limits::PlainLimits;
+use std::fs::File;
+use std::io;
 use std::num::wrapping_add_u64;
 
 // A replay with its set-ups; not ready where the file holds something else, or a set-up was refused, and that was said.
@@ -41,18 +44,25 @@ fn asked_in(s: &[u8]) -> Asked {
     Asked::Bad
 }
 
-fn no_setup(p: Posts, name: &[u8]) -> Posts {
-    say::no_setup(name, p.line);
+fn no_setup(rt: HostRuntime, p: Posts, name: &[u8]) -> Posts {
+    say::no_setup(rt, name, p.line);
     stopped(p)
 }
 
-fn refused(p: Posts, name: &[u8], why: Refusal) -> Posts {
-    say::refused(name, p.line, why);
+fn refused(rt: HostRuntime, p: Posts, name: &[u8], why: Refusal) -> Posts {
+    say::refused(rt, name, p.line, why);
     stopped(p)
 }
 
 // No set-up here is late: the records come after the file.
-fn prepared(p: Posts, name: &[u8], post: u32, channel: u32, limits: PlainLimits) -> Posts {
+fn prepared(
+    rt: HostRuntime,
+    p: Posts,
+    name: &[u8],
+    post: u32,
+    channel: u32,
+    limits: PlainLimits,
+) -> Posts {
     let line = p.line;
     let r = playing_setups::set_up(p.replay, post, channel, limits);
     let replay = r.replay;
@@ -64,14 +74,14 @@ fn prepared(p: Posts, name: &[u8], post: u32, channel: u32, limits: PlainLimits)
     };
     match answer {
         Preparing::Done => q,
-        Preparing::Refused(why) => refused(q, name, why),
+        Preparing::Refused(why) => refused(rt, q, name, why),
         Preparing::Late => stopped(q),
     }
 }
 
-fn asked(p: Posts, name: &[u8], a: Asked) -> Posts {
+fn asked(rt: HostRuntime, p: Posts, name: &[u8], a: Asked) -> Posts {
     match a {
-        Asked::Bad => no_setup(p, name),
+        Asked::Bad => no_setup(rt, p, name),
         Asked::Setup {
             post,
             channel,
@@ -90,27 +100,27 @@ fn asked(p: Posts, name: &[u8], a: Asked) -> Posts {
                 sensor,
                 interface,
             };
-            prepared(p, name, post, channel, limits)
+            prepared(rt, p, name, post, channel, limits)
         }
     }
 }
 
-fn taken(p: Posts, name: &[u8], s: &[u8]) -> Posts {
+fn taken(rt: HostRuntime, p: Posts, name: &[u8], s: &[u8]) -> Posts {
     let mut q = p;
     q.line = wrapping_add_u64(q.line, 1);
     if script::is_skipped(s) {
         return q;
     }
-    asked(q, name, asked_in(s))
+    asked(rt, q, name, asked_in(s))
 }
 
 // The lines of a file, up to the first that stops the replay. The last may lack its line feed.
-fn lines_in(name: &[u8], file: &[u8]) -> Posts {
+fn lines_in(rt: HostRuntime, name: &[u8], file: &[u8]) -> Posts {
     let mut p = fresh();
     let mut at = 0;
     while at < file.len() {
         let e = text_lines::part_end(file, at, b'\n');
-        p = taken(p, name, &file[at..e]);
+        p = taken(rt, p, name, &file[at..e]);
         if !p.ready {
             return p;
         }
@@ -119,41 +129,41 @@ fn lines_in(name: &[u8], file: &[u8]) -> Posts {
     p
 }
 
-fn unread(name: &[u8]) -> Posts {
-    say::fail(name, b": reading");
+fn unread(rt: HostRuntime, name: &[u8], doing: &[u8], why: io::Error) -> Posts {
+    say::fail(rt, name, doing, why);
     stopped(fresh())
 }
 
-fn too_long(name: &[u8]) -> Posts {
-    say::too_long(name);
+fn too_long(rt: HostRuntime, name: &[u8]) -> Posts {
+    say::too_long(rt, name);
     stopped(fresh())
 }
 
 // A read behind the last byte tells whether it was the last, and why the reading ended where it was not.
-fn file_in(fd: i32, name: &[u8]) -> Posts {
-    let mut buf = io::large_buffer();
-    let n = io::read_full(fd, &mut buf);
-    let mut more = io::buffer();
-    let got = libc::read(fd, &mut more);
-    if got < 0 {
-        return unread(name);
+fn file_in(rt: HostRuntime, file: &File, name: &[u8]) -> Posts {
+    let mut buf = console::large_buffer();
+    let n = files::read_full(file, &mut buf);
+    let mut more = console::buffer();
+    match files::read(file, &mut more) {
+        Ok(got) => whole(rt, name, &buf[..n], got),
+        Err(why) => unread(rt, name, b": reading", why),
     }
-    if got > 0 {
-        return too_long(name);
-    }
-    if n > 65535 {
-        return too_long(name);
-    }
-    lines_in(name, &buf[..n])
 }
 
-pub fn read(name: &[u8]) -> Posts {
-    let fd = os::open_read(name);
-    if fd < 0 {
-        say::fail(name, b"");
-        return stopped(fresh());
+// What was read, and how many more bytes there are.
+fn whole(rt: HostRuntime, name: &[u8], file: &[u8], more: usize) -> Posts {
+    if more > 0 {
+        return too_long(rt, name);
     }
-    let p = file_in(fd, name);
-    libc::close(fd);
-    p
+    if file.len() > 65535 {
+        return too_long(rt, name);
+    }
+    lines_in(rt, name, file)
+}
+
+pub fn read(rt: HostRuntime, name: &[u8]) -> Posts {
+    match files::open_read(rt, name) {
+        Ok(file) => file_in(rt, &file, name),
+        Err(why) => unread(rt, name, b"", why),
+    }
 }

@@ -64,7 +64,7 @@ fn put_tally(
     put_numbers(out, q, b"F", own)
 }
 
-pub fn say(n: Read, refusals: &[u64]) {
+pub fn say(rt: HostRuntime, n: Read, refusals: &[u64]) {
     let c = n.course;
     let w = c.walk;
     let stand = w.stand;
@@ -72,9 +72,9 @@ pub fn say(n: Read, refusals: &[u64]) {
     let t = r.table;
     let mut sums = [0; COUNTS];
     own::add_posts(&mut sums, t);
-    let mut out = io::large_buffer();
+    let mut out = console::large_buffer();
     let p = put_ending(&mut out, Pen { at: 0, full: false }, stand, w.at);
     let q = notation_answers::answer::line_end(&mut out, p);
     let told = put_tally(&mut out, q, r.count, t.refused, refusals, &sums);
-    say::written(told.at, &out);
+    say::written(rt, told.at, &out);
 }
