@@ -16,7 +16,7 @@ returns-then-not-is_post : tie.Need-returns-then-not-is_post
 returns-then-not-is_post c =
     let post = c in
     let a = post.args in
-    let e = counted_by a.t1 a.post a.counts.now (no_post_lem a.t1 a.post (sym post.is_post.ensures ∙ not-true _ post.if-not-is_post.true-raw)) in
+    let e = counted_by a.t a.post a.counts.now (no_post_lem a.t a.post (sym post.is_post.ensures ∙ not-true _ post.if-not-is_post.true-raw)) in
     (c.refusal_word.ensures ∙ e.0, e.1)
 
 bounds-t-i : tie.Need-bounds-t-i
@@ -27,8 +27,8 @@ returns-then-not-is_set c =
     let used = c in
     let post = used in
     let a = post.args in
-    let e = counted_by a.t1 a.post a.counts.now
-    (not_set_up a.t1 a.post (sym post.is_post.ensures ∙ not-false _ post.if-not-is_post.false-raw) (sym used.is_set.ensures ∙ not-true _ used.if-not-is_set.true-raw)) in
+    let e = counted_by a.t a.post a.counts.now
+    (not_set_up a.t a.post (sym post.is_post.ensures ∙ not-false _ post.if-not-is_post.false-raw) (sym used.is_set.ensures ∙ not-true _ used.if-not-is_set.true-raw)) in
     (c.refusal_word-then-not-is_set.ensures ∙ e.0, e.1)
 
 returns : tie.Need-returns
@@ -37,9 +37,9 @@ returns c =
     let used = out in
     let post = used in
     let a = post.args in
-    let e = counted_by a.t1 a.post a.counts.now
-    (set_up a.t1 a.post (sym post.is_post.ensures ∙ not-false _ post.if-not-is_post.false-raw) (sym used.is_set.ensures ∙ not-false _ used.if-not-is_set.false-raw)) in
-    let own = counts_are (post_in a.t1 a.post) out.store.ensures.2 in
+    let e = counted_by a.t a.post a.counts.now
+    (set_up a.t a.post (sym post.is_post.ensures ∙ not-false _ post.if-not-is_post.false-raw) (sym used.is_set.ensures ∙ not-false _ used.if-not-is_set.false-raw)) in
+    let own = counts_are (post_in a.t a.post) out.store.ensures.2 in
     (out.store.ensures.0 ∙ e.0, out.store.ensures.1 ∙ ap (λ (xs : List ℕ). room_left count_count xs a.counts.now) (sym own) ∙ e.1)
 
 pub counts_of_spec : {M : Type 1} → statement M

@@ -14,7 +14,7 @@ returns-then-not-is_post : tie.Need-returns-then-not-is_post
 returns-then-not-is_post c =
     let post = c in
     let a = post.args in
-    let e = handed_by_lem a.t1 a.post a.kind a.times.now a.buf.now (no_post_lem a.t1 a.post (sym post.is_post.ensures ∙ not-true _ post.if-not-is_post.true-raw)) in
+    let e = handed_by_lem a.t a.post a.kind a.times.now a.buf.now (no_post_lem a.t a.post (sym post.is_post.ensures ∙ not-true _ post.if-not-is_post.true-raw)) in
     (c.refusal_word.ensures ∙ e.0, e.1, e.2)
 
 bounds-t-i : tie.Need-bounds-t-i
@@ -25,8 +25,8 @@ returns-then-not-is_set c =
     let used = c in
     let post = used in
     let a = post.args in
-    let e = handed_by_lem a.t1 a.post a.kind a.times.now a.buf.now
-    (not_set_up a.t1 a.post (sym post.is_post.ensures ∙ not-false _ post.if-not-is_post.false-raw) (sym used.is_set.ensures ∙ not-true _ used.if-not-is_set.true-raw)) in
+    let e = handed_by_lem a.t a.post a.kind a.times.now a.buf.now
+    (not_set_up a.t a.post (sym post.is_post.ensures ∙ not-false _ post.if-not-is_post.false-raw) (sym used.is_set.ensures ∙ not-true _ used.if-not-is_set.true-raw)) in
     (c.refusal_word-then-not-is_set.ensures ∙ e.0, e.1, e.2)
 
 returns-then-k-gt-OCPP : tie.Need-returns-then-k-gt-OCPP
@@ -34,8 +34,8 @@ returns-then-k-gt-OCPP c =
     let used = c in
     let post = used in
     let a = post.args in
-    let e = handed_by_lem a.t1 a.post a.kind a.times.now a.buf.now
-    (set_up a.t1 a.post (sym post.is_post.ensures ∙ not-false _ post.if-not-is_post.false-raw) (sym used.is_set.ensures ∙ not-false _ used.if-not-is_set.false-raw)) in
+    let e = handed_by_lem a.t a.post a.kind a.times.now a.buf.now
+    (set_up a.t a.post (sym post.is_post.ensures ∙ not-false _ post.if-not-is_post.false-raw) (sym used.is_set.ensures ∙ not-false _ used.if-not-is_set.false-raw)) in
     let f = rw (le-ltb a.kind message_count (omega arith)) at e in
     (c.refusal_word-then-k-gt-OCPP.ensures ∙ f.0, f.1, f.2)
 
@@ -58,7 +58,7 @@ returns c =
     let used = place in
     let post = used in
     let a = post.args in
-    handed_kept a.t1 a.post a.kind a.times.now a.buf.now (sym post.is_post.ensures ∙ not-false _ post.if-not-is_post.false-raw) (sym used.is_set.ensures ∙ not-false _ used.if-not-is_set.false-raw) (omega arith)
+    handed_kept a.t a.post a.kind a.times.now a.buf.now (sym post.is_post.ensures ∙ not-false _ post.if-not-is_post.false-raw) (sym used.is_set.ensures ∙ not-false _ used.if-not-is_set.false-raw) (omega arith)
     (rw (own.of_kind-own.ensures, place.place_by-j.ensures) at h.hand_out.ensures)
 
 pub latest_of_spec : {M : Type 1} → statement M

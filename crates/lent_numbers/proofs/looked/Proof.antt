@@ -16,7 +16,7 @@ returns-then-not-is_post : tie.Need-returns-then-not-is_post
 returns-then-not-is_post c =
     let post = c in
     let a = post.args in
-    let e = looked_by a.t1 a.post a.numbers.now (no_post_lem a.t1 a.post (sym post.is_post.ensures ∙ not-true _ post.if-not-is_post.true-raw)) in
+    let e = looked_by a.t a.post a.numbers.now (no_post_lem a.t a.post (sym post.is_post.ensures ∙ not-true _ post.if-not-is_post.true-raw)) in
     (c.refusal_word.ensures ∙ e.0, e.1)
 
 bounds-t-i : tie.Need-bounds-t-i
@@ -27,8 +27,8 @@ returns-then-not-is_set c =
     let used = c in
     let post = used in
     let a = post.args in
-    let e = looked_by a.t1 a.post a.numbers.now
-    (not_set_up a.t1 a.post (sym post.is_post.ensures ∙ not-false _ post.if-not-is_post.false-raw) (sym used.is_set.ensures ∙ not-true _ used.if-not-is_set.true-raw)) in
+    let e = looked_by a.t a.post a.numbers.now
+    (not_set_up a.t a.post (sym post.is_post.ensures ∙ not-false _ post.if-not-is_post.false-raw) (sym used.is_set.ensures ∙ not-true _ used.if-not-is_set.true-raw)) in
     (c.refusal_word-then-not-is_set.ensures ∙ e.0, e.1)
 
 returns : tie.Need-returns
@@ -38,9 +38,9 @@ returns c =
     let used = n in
     let post = used in
     let a = post.args in
-    let e = looked_by a.t1 a.post a.numbers.now
-    (set_up a.t1 a.post (sym post.is_post.ensures ∙ not-false _ post.if-not-is_post.false-raw) (sym used.is_set.ensures ∙ not-false _ used.if-not-is_set.false-raw)) in
-    let ns = n.Numbers-of.ensures in
+    let e = looked_by a.t a.post a.numbers.now
+    (set_up a.t a.post (sym post.is_post.ensures ∙ not-false _ post.if-not-is_post.false-raw) (sym used.is_set.ensures ∙ not-false _ used.if-not-is_set.false-raw)) in
+    let ns = n.numbers_of-ns.ensures in
     let many = ap length ns ∙ numbers_many _ in (
       out.hand_out.ensures.0 ∙ ap (λ (k : ℕ). outcome_word (room_outcome k (length a.numbers.now))) many ∙ e.0,
       out.hand_out.ensures.1 ∙ ap₂ (λ (k : ℕ) (xs : List ℕ). room_left k xs a.numbers.now) many ns ∙ e.1,
