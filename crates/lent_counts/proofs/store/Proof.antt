@@ -22,9 +22,9 @@ returns : tie.Need-returns
 returns c =
     let out = c in
     let a = out.args in
-    let many : length a.t ≡ count_count = search rules in (
+    let many : length a.cs ≡ count_count = search rules in (
       out.hand_out.ensures.0 ∙ ap (λ (k : ℕ). outcome_word (room_outcome k (length a.counts.now))) many,
-      out.hand_out.ensures.1 ∙ ap (λ (k : ℕ). room_left k a.t a.counts.now) many,
+      out.hand_out.ensures.1 ∙ ap (λ (k : ℕ). room_left k a.cs a.counts.now) many,
       many,
     )
 
