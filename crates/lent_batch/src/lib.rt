@@ -1,6 +1,7 @@
 // A batch in place (02, Req 07): the lent table is copied out and back once for the whole batch, and answer, table and answers are exactly what
 // `batch::feed_batch` gives. It stands alone, since the compiler builds the step of a record into it only where that has one caller. For C, and through
 // `gateway` for Rattle.
+#![tactic(auto)]
 ghost use Rattle.std.specs.Prelude.{◌≡◌, length};
 ghost use Rattle.batch_rules.specs.Batch.{batch_of, answers_after};
 

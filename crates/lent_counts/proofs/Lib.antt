@@ -1,4 +1,3 @@
 pub mod ByCase
 pub mod CountLaws
-pub mod Entries
 pub mod Night

@@ -1,5 +1,6 @@
 // A post's counts over the C interface, of the record that `watch::look_up` hands out, and how much the table refused. The lent table is only read.
 // For C callers; a caller in Rattle asks `watch::look_up` and `watch::refused`.
+#![tactic(auto)]
 ghost use Rattle.std.specs.Prelude.{◌≡◌, length};
 ghost use Rattle.rules.specs.After.{count_count};
 ghost use Rattle.plain_words.specs.Words.{outcome_word};

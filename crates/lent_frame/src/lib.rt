@@ -3,6 +3,7 @@
 // The frame is read before the head is copied out, so that no head is kept on the stack meanwhile.
 // Its answer and the table are exactly what `watch::frame` gives.
 // It stands alone, since the compiler builds a step into its entry only where the step has one caller. For C, and through `gateway` for Rattle.
+#![tactic(auto)]
 ghost use Rattle.std.specs.Prelude.{◌≡◌};
 ghost use Rattle.lent_step.specs.Fed.{frame_word};
 

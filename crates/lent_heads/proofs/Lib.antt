@@ -1,4 +1,1 @@
 pub mod Posts
-pub mod HeadCode
-pub mod InHead
-pub mod OnePost

@@ -1,4 +1,2 @@
-pub mod Entries
 pub mod HolderLaws
 pub mod Night
-pub mod InHolder

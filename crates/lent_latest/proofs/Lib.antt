@@ -1,4 +1,3 @@
 pub mod ByCase
-pub mod Entries
 pub mod LatestLaws
 pub mod LatestLooks

@@ -1,6 +1,7 @@
 // The latest frame of a kind over the C interface: its time as received, its age and its kind, and its bytes as they came. The lent table is only read.
 // OCPP_Control is the last of the kinds of either interface's messages.
 // For C callers; a caller in Rattle asks `watch::look_up`.
+#![tactic(auto)]
 ghost use Rattle.std.specs.Prelude.{◌≡◌, ◌&&◌, length};
 ghost use Rattle.plain_words.specs.Words.{outcome_word};
 ghost use Rattle.lent_latest.specs.Latest.{of_kind_in, is_shown, has_room, kept_outcome, time_left, bytes_left, latest_word, time_after, frame_after};

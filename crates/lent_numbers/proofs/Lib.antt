@@ -1,3 +1,2 @@
 pub mod ByCase
-pub mod Entries
 pub mod LookLaws

@@ -1,5 +1,4 @@
 pub mod ByCase
-pub mod Entries
 pub mod SessionLaws
 pub mod Night
 pub mod OlderNight

@@ -1,6 +1,7 @@
 // The latest Power_Modules_Status, DC_Power_Control and Emergency_Stop of an open session over the C interface, or what stands for them on a post of the older
 // interface, as `lent_latest` hands out the latest frame of a kind: its time as received, its age and its kind, and its bytes as they came.
 // The lent table is only read. For C callers; a caller in Rattle asks `watch::look_up`.
+#![tactic(auto)]
 ghost use Rattle.std.specs.Prelude.{◌≡◌, ◌<◌};
 ghost use Rattle.rules.specs.After.{kept_count, open_kept};
 ghost use Rattle.lent_session.specs.InSession.{part_word, part_time, part_frame};

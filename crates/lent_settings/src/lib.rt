@@ -1,5 +1,6 @@
 // Starting a lent table, set-ups and releases in place: each leaves exactly what the by-value operation of `watch` gives.
 // For C, and through `gateway` for Rattle.
+#![tactic(auto)]
 ghost use Rattle.std.specs.Prelude.{◌≡◌};
 ghost use Rattle.lent_words.specs.Lent.{start_of, set_up_word, release_word};
 

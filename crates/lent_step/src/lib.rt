@@ -1,6 +1,7 @@
 // What comes over one post's head, by value and with the answer as a word: `watch_hear::hear`, by which the table's own step goes too.
 // For `lent_frame` and `lent_tick`, which copy a head out of a lent table.
 // Where what comes is taken they store the head and one slot back, and else the count of what was refused alone.
+#![tactic(auto)]
 ghost use Rattle.std.specs.Prelude.{◌≡◌};
 ghost use Rattle.watch_rules.specs.declared.Arrival.TheVariants.{Tick};
 ghost use Rattle.lent_step.specs.One.{is_taken, worded_by, heard_on};

@@ -1,5 +1,6 @@
 // A tick in place, as a frame is in `lent_frame`: its answer and the table are exactly what `watch::tick` gives. For C, and through `gateway` for Rattle.
 // The limits are asked for nothing (`tick_for`), and not read once the compiler has built that in: they stand there so that a frame and a tick have one walk.
+#![tactic(auto)]
 ghost use Rattle.std.specs.Prelude.{◌≡◌};
 ghost use Rattle.lent_step.specs.Fed.{tick_word};
 

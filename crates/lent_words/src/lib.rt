@@ -1,6 +1,7 @@
 // The operations of `watch` that set posts up and release them, by value and with their answers as words:
 // what `lent_settings` hands the whole of a lent table to.
 // Whoever calls from Rattle and wants words may use them too.
+#![tactic(auto)]
 ghost use Rattle.std.specs.Prelude.{◌≡◌};
 ghost use Rattle.lent_words.specs.Words.{answer_word, setting_word};
 ghost use Rattle.lent_words.specs.Lent.{start_of, set_up_word, release_word};

@@ -43,7 +43,7 @@ returns-then-k-gt-OCPP c =
 offset_bounds-p-j : tie.Need-offset_bounds-p-j
 offset_bounds-p-j c =
     let a = c.args in
-    omega (arith, c.place-by.ensures, place_small a.kind (omega arith))
+    omega (arith, c.place_by-j.ensures, place_small a.kind (omega arith))
 
 bounds-p-j : tie.Need-bounds-p-j
 bounds-p-j c =
