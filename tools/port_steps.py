@@ -116,7 +116,7 @@ class Steps:
         it = plain(parts[0])
         if it.isdigit():
             return None
-        forms = [f for f in (it, re.sub(r'2$', '', it)) if f]
+        forms = [f for f in (it, re.sub(r'2$', '', it), re.sub(r'-lem$', '', it)) if f]
         places = list(self.up(i)) if i is not None else range(len(self.places))
         for form in forms:
             for at in places:

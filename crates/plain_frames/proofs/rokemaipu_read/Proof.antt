@@ -52,7 +52,7 @@ returns-then-raws-lt-SIGNALS c =
 overflow_cast-result : tie.Need-overflow_cast-result
 unfolding start
 overflow_cast-result c =
-    let j = c.before.before.before.before.before.before in
+    let j = c.before.before.before.before.before in
     let a = (start j).args in
     record { fits = omega (arith, subst SmallJudged (sym j.judge-j.ensures ∙ j.j.given.1) (judge_small a.id a.extended a.payload.now)) }
 

@@ -31,7 +31,7 @@ returns c =
       x4.natural-2.ensures,
       x5.button_of.ensures,
       x7.natural-3.ensures,
-      x8.step_of_lem.ensures,
+      x8.step_of.ensures,
       x10.natural-4.ensures,
       x11.validity_of.ensures,
       x13.natural-5.ensures,
