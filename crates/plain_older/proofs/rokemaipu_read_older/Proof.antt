@@ -55,7 +55,7 @@ returns-then-raws-lt-SIGNALS c =
 overflow_cast-result : tie.Need-overflow_cast-result
 unfolding start
 overflow_cast-result c =
-    let j = c.before.before.before.before.before.before in
+    let j = c.before.before.before.before.before in
     let a = (start j).args in
     record { fits = omega (arith, subst (SmallBelow rest_kind) (sym j.judge_on-j.ensures ∙ j.j.given.1) (judge_small_on Older a.id a.extended a.payload.now)) }
 

@@ -84,10 +84,10 @@ returns-then-not-is_ready_older c =
 overflow_cast-result : tie.Need-overflow_cast-result
 unfolding start
 overflow_cast-result c =
-    let w = c.before.before.before.before.before in
+    let w = c.before.before.before in
     let a = (start w).args in
     let zs = w.load_raws-zs.result in
-    record { fits = omega (arith, subst SmallWritten (sym w.write-raws.ensures.0 ∙ c.in-Wrote.is) (write_small a.kind zs a.buf.now)) }
+    record { fits = omega (arith, subst SmallWritten (sym w.write_raws-w.ensures.0 ∙ c.in-Wrote.is) (write_small a.kind zs a.buf.now)) }
 
 returns-in-Wrote : tie.Need-returns-in-Wrote
 unfolding start
