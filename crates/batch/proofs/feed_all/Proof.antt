@@ -165,12 +165,6 @@ offset_bounds-latest-i c = search rules
 offset_bounds-latest-k : tie.Need-offset_bounds-latest-k invariant-loop decreases-loop
 offset_bounds-latest-k c = search rules
 
-bounds-1-slot : tie.Need-bounds-1-slot invariant-loop decreases-loop
-bounds-1-slot c = search rules
-
-bounds-2-slot : tie.Need-bounds-2-slot invariant-loop decreases-loop
-bounds-2-slot c = search rules
-
 loop-e-smaller-then-k-lt-PLACES : tie.Need-loop-e-smaller-then-k-lt-PLACES invariant-loop decreases-loop
 loop-e-smaller-then-k-lt-PLACES c =
     let z = c in
