@@ -3,7 +3,7 @@ use mathlib.Core.Path.{◌≡◌}
 use Prim.Native.Nat.{◌-◌}
 use lib.ListN.{length}
 use borrow.Author.Rules.{rules}
-use Rattle.watch_rules.specs.Table.{channel_count}
+use Rattle.watch.specs.watch_rules.specs.Table.{channel_count}
 use Rattle.desk_record.proofs.put_index.Statement.{statement}
 use Rattle.desk_record.proofs.put_index.Tie as tie
 

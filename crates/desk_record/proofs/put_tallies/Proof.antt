@@ -3,7 +3,7 @@ use mathlib.Core.Path.{◌≡◌}
 use Prim.Native.Nat.{◌-◌}
 use lib.ListN.{length}
 use borrow.Author.Rules.{rules}
-use Rattle.rules.specs.After.{finding_count}
+use Rattle.watch.specs.rules.specs.After.{finding_count}
 use Rattle.desk_record.proofs.put_tallies.Statement.{statement}
 use Rattle.desk_record.proofs.put_tallies.Tie as tie
 
