@@ -46,7 +46,7 @@ def run(program, arguments, errors, output=None, told=None):
             child = subprocess.Popen([*command(program), *arguments], stdin=subprocess.PIPE if told else STDIN, stdout=subprocess.PIPE if output else None,
                                      stderr=said, bufsize=0, close_fds=False, preexec_fn=signals.begin)
         except OSError as error:
-            say(f'{program}: {PROGRAMS / program} cannot be run: {error.strerror}; `rt check {program}` builds it')
+            say(f'{program}: {PROGRAMS / program} cannot be run: {error.strerror}; `tools/build {program}` builds it')
             return False
         finally:
             os.close(said)
