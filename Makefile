@@ -1,8 +1,9 @@
 # make run    the March night replayed from its night log: a line for each record, the ending, and every number that occurred in words;
 #             NIGHT=NAME for another of nights/, NIGHT=FILE.log POSTS=FILE for a recording of your own
-# make test   what .ci/run runs: the tables against the maker's documents, the layout of the files, the gate, the C tests, nightlog, replay, compare and
-#             the desk against the second program, recordings of candump, exit statuses, the pages of the nights; its last line is 'N passed, 0 failed'
-# make check  the proofs and the programs, without the must-fail edits
+# make test   what .ci/run runs: the tables against the maker's documents, the gate (rt ci, which holds the files to their layout too), the C tests, nightlog,
+#             replay, compare and the desk against the second program, recordings of candump, exit statuses, the pages of the nights; its last line is
+#             'N passed, 0 failed'
+# make check  the proofs, of the crates and of the programs, without the must-fail edits
 # make lib    librokemaipu.a and rokemaipu.pc in target/lib/x86_64 and target/lib/aarch64, and rokemaipu.h and rokemaipu_pages.h in target/lib, for C and Rust
 # make programs  desk, nightlog, replay and compare for both processors: target/bin and target/bin/aarch64
 # make install    programs with their wrappers, the library, manual pages: PREFIX (/usr/local), DESTDIR, PROCESSOR and PROGRAM_PREFIX as packaging/install says
@@ -24,16 +25,14 @@ run: replay
 	@tools/replay $(POSTS) $(LOG)
 
 replay:
-	@[ -x target/bin/replay ] || echo "proving and building the replay: about 8 minutes, once" >&2
-	@TMPDIR=$$(tools/processors/scratch) rt check replay > replay.log 2>&1 || { cat replay.log; rm -f replay.log; exit 1; }
-	@rm -f replay.log
-	@[ "$$(uname -m)" != aarch64 ] || ! command -v $(CC) >/dev/null || tools/build replay >/dev/null
+	@[ -x target/bin/replay ] || echo "proving and building the replay: once" >&2
+	@tools/build --own replay >/dev/null
 
 test:
 	@tests/run
 
 check:
-	@TMPDIR=$$(tools/processors/scratch) rt check
+	@tools/check
 
 lib:
 	@tools/lib
@@ -75,8 +74,8 @@ archive = target/lib/$(shell uname -m)/librokemaipu.a
 # the archives, where a source is newer than they are
 panel:
 	@[ -f $(archive) ] && [ -z "$$(find crates include \( -name '*.rt' -o -name '*.antt' -o -name '*.h' \) -newer $(archive) -print -quit)" ] || \
-		{ echo "proving and building the library: about 20 minutes, once" >&2; tools/lib; }
-	@TMPDIR=$$(tools/processors/scratch) rt check nightlog > target/nightlog.out 2>&1 || { cat target/nightlog.out; exit 1; }
+		{ echo "proving and building the library: once" >&2; tools/lib; }
+	@tools/build --own nightlog >/dev/null
 	@panel/night $(POSTS) $(LOG) --port $(PORT)
 
 report: replay

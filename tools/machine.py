@@ -1,5 +1,5 @@
 """How the programs are run. Those of target/bin are for x86-64, and `make programs` puts those for aarch64 into a folder below;
-on another machine than x86-64, where its own are not built, the kit has an emulator beside its compiler. What is installed has its programs in bin, and they
+on another machine than x86-64, where its own are not built, Debian's emulator runs them. What is installed has its programs in bin, and they
 are the machine's own."""
 import os
 import shutil
@@ -16,13 +16,11 @@ def command(program):
     own = PROGRAMS / machine / program
     if INSTALLED or machine == 'x86_64':
         return [str(PROGRAMS / program)]
-    return [str(own)] if own.exists() else [*emulator(machine), str(PROGRAMS / program)]
+    return [str(own)] if own.exists() else [*emulator(), str(PROGRAMS / program)]
 
 
-def emulator(machine):
-    rt = shutil.which('rt')
-    if rt is None:
-        print('rt, the Rattle kit\'s command, is not on the PATH', file=sys.stderr)
+def emulator():
+    if shutil.which('qemu-x86_64') is None:
+        print('qemu-x86_64, which runs the programs of x86-64 here, is not on the PATH', file=sys.stderr)
         sys.exit(2)
-    kit = Path(rt).resolve().parents[1] / 'on' / machine / 'toolchain'
-    return [str(kit / 'bin/qemu-x86_64'), str(kit / 'lib/ld-linux-x86-64.so.2'), '--library-path', str(kit / 'lib')]
+    return ['qemu-x86_64', '-L', '/usr/x86_64-linux-gnu']

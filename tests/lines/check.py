@@ -28,7 +28,7 @@ def too_long(path, text):
 
 def sources():
     """Every file of the repository; what is built stands in folders of these names, and is none."""
-    built = {'.git', 'target', '__pycache__'}
+    built = {'.git', 'target', 'out', '__pycache__'}
     paths = (path.relative_to(ROOT) for path in sorted(ROOT.rglob('*')) if path.is_file())
     return [path for path in paths if not built & set(path.parts)]
 

@@ -9,7 +9,7 @@ from pathlib import Path
 
 ROOT = Path(__file__).resolve().parents[2]
 # what builds the product is no user's
-OWN = {'build', 'lib'}
+OWN = {'build', 'check', 'gate', 'lib'}
 
 
 def called(*words):

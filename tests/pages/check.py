@@ -258,7 +258,7 @@ for document, signals in zip(DOCUMENTS, papers):
         if not pairs:
             continue
         name = LABELS[message, signal]
-        have = [(v, int(n)) for v, n in re.findall(rf'^{name}Number {name}\.(\w+) = (\d+)$', labels, re.M)]
+        have = [(v, int(n)) for v, n in re.findall(rf'^{name}_number {name}\.(\w+) = (\d+)$', labels, re.M)]
         wanted = [(NAMES.get(n, n.replace('_', '')), v) for n, v in pairs]
         if [(a.lower(), b) for a, b in have] != [(a.lower(), b) for a, b in wanted]:
             fault(f'{message}.{signal}: the labels are {have}, the document says {wanted}')
@@ -283,7 +283,7 @@ for document, signals in zip(DOCUMENTS, papers):
         wanted = [named[signal] for m, signal, *_ in signals if m == message]
         read = {int(k): field for field, k in re.findall(r'(\w+) = [^;={}]*\(f (\d+)\)', defined(document.read, rf'\(ℕ → ℤ\) → {sort}'))}
         held(f'{document.text} {sort}, as it is read', [read.get(k) for k in range(len(wanted))], wanted)
-        held(f'{document.text} {sort}, as it is written', re.findall(r'm \.(\w+)', defined(document.write, rf'{sort} → List ℤ')), wanted)
+        held(f'{document.text} {sort}, as it is written', re.findall(r'\bm\.(\w+)', defined(document.write, rf'{sort} → List ℤ')), wanted)
         fields += len(wanted)
 if fields != rows:
     fault(f'{fields} fields were compared, not {rows}')

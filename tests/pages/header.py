@@ -109,7 +109,7 @@ def faults(header, pages, refusals):
     kinds = len(enum(header, 'kind'))
     if kinds != len(MESSAGES) + len(OLDER) + len(REST) or f'#define ROKEMAIPU_KINDS {kinds} ' not in header:
         said.append(f'{kinds} kinds in all')
-    wanted = sorted((int(n), w) for w, n in re.findall(r'^numberOf \(?(\w+)(?: \w+\))? = (\d+)$', refusals, re.M))
+    wanted = sorted((int(n), w) for w, n in re.findall(r'^number_of \(?(\w+)(?: \w+\))? = (\d+)$', refusals, re.M))
     have = enum(header, 'refused')
     if len(have) != len(wanted) or any(v != n or not alike(name, f'R{n}{w}') for (name, v, _), (n, w) in zip(have, wanted)):
         said.append(f'the refusals are {[h[:2] for h in have]}, the list has {wanted}')

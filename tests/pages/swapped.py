@@ -10,14 +10,14 @@ HERE = Path(__file__).resolve().parent
 ROOT = HERE.parents[1]
 # a file, and the two words in it that change places
 SWAPS = (
-    ('crates/message_parts/specs/Watched.antt', 'modules = celsiusOf', 'enclosure = celsiusOf'),
-    ('crates/message_probes/specs/Build.antt', 'stopped3 = flagOf', 'failed3 = flagOf'),
-    ('crates/message_charger/specs/Take.antt', 'm .max', 'm .min'),
-    ('crates/message_extra/specs/Build.antt', 'pt1ksc = celsiusOf', 'pt1ksd = celsiusOf'),
-    ('crates/message_inputs/specs/Take.antt', 'm .colibri', 'm .switch5'),
-    ('crates/message_vehicle/specs/Build.antt', 'present = byteOf', 'minimum = byteOf'),
-    ('crates/message_vehicle/specs/Take.antt', 'pos (m .capacity)', 'pos (m .target)'),
-    ('crates/older_power/specs/Build.antt', 'modules = celsiusOf', 'enclosure = celsiusOf'),
+    ('crates/message_parts/specs/Watched.antt', 'modules = celsius_of', 'enclosure = celsius_of'),
+    ('crates/message_probes/specs/Build.antt', 'stopped3 = flag_of', 'failed3 = flag_of'),
+    ('crates/message_charger/specs/Take.antt', 'm.max', 'm.min'),
+    ('crates/message_extra/specs/Build.antt', 'pt1ksc = celsius_of', 'pt1ksd = celsius_of'),
+    ('crates/message_inputs/specs/Take.antt', 'm.colibri', 'm.switch5'),
+    ('crates/message_vehicle/specs/Build.antt', 'present = byte_of', 'minimum = byte_of'),
+    ('crates/message_vehicle/specs/Take.antt', 'pos m.capacity', 'pos m.target'),
+    ('crates/older_power/specs/Build.antt', 'modules = celsius_of', 'enclosure = celsius_of'),
 )
 
 

@@ -18,7 +18,7 @@ def called(tool, *words):
 
 class Helped(unittest.TestCase):
     def test_help(self):
-        self.assertEqual([tool.name for tool in TOOLS], ['build', 'candump2log', 'compare', 'desk', 'lib', 'log2candump', 'night', 'nightlog', 'panel', 'replay', 'report'])
+        self.assertEqual([tool.name for tool in TOOLS], ['build', 'candump2log', 'check', 'compare', 'desk', 'gate', 'lib', 'log2candump', 'night', 'nightlog', 'panel', 'replay', 'report'])
         for tool in TOOLS:
             status, usage, said = called(tool, '--help')
             self.assertEqual((status, said), (0, ''), tool)

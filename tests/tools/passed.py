@@ -194,7 +194,7 @@ while True:
             status, out, said = self.tools.call(name, 'a', 'b')
             self.assertEqual((status, out), (2, b''))
             path = f'{self.tools.root}/target/bin/{name}'
-            self.assertEqual(said.decode(), f'{name}: {path} cannot be run: No such file or directory; `rt check {name}` builds it\n')
+            self.assertEqual(said.decode(), f'{name}: {path} cannot be run: No such file or directory; `tools/build {name}` builds it\n')
 
     def test_a_program_that_fails_or_says_nothing(self):
         for name, words in (('nightlog', ['show', 'x']), ('desk', []), ('replay', ['a', 'b']), ('compare', ['a', 'b'])):

@@ -19,7 +19,8 @@ TICK = record('tick 2 300')
 CUT, BAD = TICK + b'\x80', TICK + b'\x01\x20' + TICK
 SET_UP = 'setup 0 2 5000 2000 500 500\n'
 # of any bytes: no text, line feeds, and words that the programs say themselves
-NAMES = [b'\xff\xfe.log', b'line 1', b'line 1: no frame or tick\n', b"CUT@1\n'$(x)'"]
+NO_TEXT = b'\xff\xfe'
+NAMES = [NO_TEXT + b'.log', b'line 1', b'line 1: no frame or tick\n', b"CUT@1\n'$(x)'"]
 WELL, PARTLY, FAILED = 0, 1, 2
 
 
@@ -34,14 +35,16 @@ class Statuses(unittest.TestCase):
         os.mkdir('folder')
 
     def status(self, tool, *words, told=b'', fresh=None, **more):
-        """What the program says by itself is said here too; files are as they were before each of the two."""
+        """What the program says by itself is said here too; files are as they were before each of the two. Of a file whose name is no UTF-8, which a program of
+        Rattle does not open, it says by itself what it says of one with another name."""
         got = []
-        for called in ([*command(tool), *words], [ROOT / 'tools' / tool, *(['--lines'] if tool == 'replay' else []), *words]):
+        plain = lambda name: os.fsencode(name).replace(NO_TEXT, b'plain')
+        for called, named in (([*command(tool), *map(plain, words)], plain), ([ROOT / 'tools' / tool, *(['--lines'] if tool == 'replay' else []), *words], os.fsencode)):
             if fresh:
-                Path(os.fsdecode(fresh[0])).write_bytes(fresh[1])
+                Path(os.fsdecode(named(fresh[0]))).write_bytes(fresh[1])
             given = {'stdout': subprocess.PIPE, **({} if 'stdin' in more else {'input': told}), **more}
             got.append(subprocess.run(called, stderr=subprocess.PIPE, timeout=60, **given))
-        self.assertEqual((got[1].stdout, got[1].stderr), (got[0].stdout, got[0].stderr), words)
+        self.assertEqual((got[1].stdout, plain(got[1].stderr)), (got[0].stdout, got[0].stderr), words)
         return got[1].returncode
 
     def test_append(self):
@@ -91,6 +94,21 @@ class Statuses(unittest.TestCase):
             self.assertEqual(self.status('replay', name, name, fresh=(name, SET_UP.encode())), PARTLY, name)
             self.assertEqual(self.status('replay', name, name + b'none'), FAILED, name)
             self.assertEqual(self.status('replay', name, name, fresh=(name, b'setup 0\n')), PARTLY, name)
+
+    def test_no_text(self):
+        """A program of Rattle opens no file whose name is no UTF-8: it says so, and its wrapper opens it, and makes it."""
+        name = NO_TEXT + b'.log'
+        for words in ('nightlog', 'append', name), ('nightlog', 'show', name), ('replay', name, name), ('compare', name, name):
+            done = subprocess.run([*command(words[0]), *words[1:]], stdin=subprocess.DEVNULL, capture_output=True, timeout=60)
+            self.assertIn(NO_TEXT, done.stderr, words)
+            self.assertEqual((done.stdout, os.listdir(b'.')), (b'', [b'folder']), words)
+        self.assertEqual(self.status('nightlog', 'append', name, told=b'tick 2 300\n'), WELL)
+        self.assertEqual(Path(os.fsdecode(name)).read_bytes(), TICK)
+        self.assertEqual(self.status('nightlog', 'append', name, told=b'tick 2 300\n'), WELL)
+        self.assertEqual(Path(os.fsdecode(name)).read_bytes(), 2 * TICK)
+        done = subprocess.run([ROOT / 'tools/nightlog', 'append', NO_TEXT + b'/a.log'], stdin=subprocess.DEVNULL, stderr=subprocess.PIPE, timeout=60)
+        self.assertEqual((done.returncode, NO_TEXT in done.stderr), (FAILED, True))
+        self.assertFalse([path for path in os.listdir(tempfile.gettempdir()) if path.startswith('rokemaipu-')])
 
     def test_show_and_check(self):
         for word in ('show', 'check'):

@@ -51,7 +51,8 @@ def main(words):
     if asked('nightlog', words, __doc__.split('\n\n', 1)[1]):
         return WELL
     judge = Judge(words)
-    done = run('nightlog', words, Messages([judge.about], judge.said).hear, Messages([], judge.counted).hear if words[:1] == ['check'] else None)
+    done = run('nightlog', words, Messages([judge.about], judge.said).hear, Messages([], judge.counted).hear if words[:1] == ['check'] else None,
+               made=words[:1] == ['append'] and len(words) == 2)
     # append and check end with a count, whatever came before; a log that is shown need not hold a record
     silent = judge.worst == WELL and not judge.ended and words[:1] != ['show']
     return judge.worst if done and not silent else FAILED

@@ -1,11 +1,14 @@
 """A program of target/bin in the place of the one that calls `run`: arguments, streams and signals pass unchanged and at once, and what the program
-says is heard on the way. A Rattle program has no exit status, so the caller makes one of what it heard."""
+says is heard on the way. A Rattle program has no exit status, so the caller makes one of what it heard. A Rattle program opens files whose names are UTF-8
+alone: one whose name is none is handed to it by another name, for the time of the run."""
 import ctypes
 import errno
 import os
+import shutil
 import signal
 import subprocess
 import sys
+import tempfile
 import termios
 import threading
 import tty
@@ -35,10 +38,15 @@ def say(words):
         pass
 
 
-def run(program, arguments, errors, output=None, told=None):
+def run(program, arguments, errors, output=None, told=None, made=False):
     """Runs it to its end; `errors` hears its standard error, and, where they are given, `output` its standard output and `told` its standard input.
-    Each is a function of the bytes, b'' at the end; what `errors` or `output` answers, if anything, passes in their place. False where something could
-    not be done, which was said."""
+    Each is a function of the bytes, b'' at the end; what `errors` or `output` answers, if anything, passes in their place. `made` is whether it makes a file
+    that is not there. False where something could not be done, which was said."""
+    with Named(arguments, made) as named:
+        return ran(program, named.words, named.heard_by(errors), output, told)
+
+
+def ran(program, arguments, errors, output, told):
     os.set_inheritable(STDIN, False)
     with Signals() as signals:
         said, ours = stream()
@@ -46,7 +54,7 @@ def run(program, arguments, errors, output=None, told=None):
             child = subprocess.Popen([*command(program), *arguments], stdin=subprocess.PIPE if told else STDIN, stdout=subprocess.PIPE if output else None,
                                      stderr=said, bufsize=0, close_fds=False, preexec_fn=signals.begin)
         except OSError as error:
-            say(f'{program}: {PROGRAMS / program} cannot be run: {error.strerror}; `rt check {program}` builds it')
+            say(f'{program}: {PROGRAMS / program} cannot be run: {error.strerror}; `tools/build {program}` builds it')
             return False
         finally:
             os.close(said)
@@ -66,6 +74,86 @@ def run(program, arguments, errors, output=None, told=None):
     return child.returncode == 0 and all(pump.sound for pump in pumps) and not (told and feed.failed)
 
 
+class Named:
+    """The words of a call, of which those that are no UTF-8 are links to the files that they name, for the time of the run. A file that the program makes,
+    which it cannot do behind a link, is made before. What the program says of a link is said of the file."""
+
+    room = None
+
+    def __init__(self, words, made):
+        self.names, self.made, self.links, self.held = [os.fsencode(word) for word in words], made, {}, b''
+
+    def __enter__(self):
+        self.words = [self.word(k, name) for k, name in enumerate(self.names)]
+        return self
+
+    def __exit__(self, *_):
+        self.cleared()
+
+    @classmethod
+    def cleared(cls):
+        if cls.room is not None:
+            shutil.rmtree(cls.room, ignore_errors=True)
+            cls.room = None
+
+    def word(self, place, name):
+        try:
+            name.decode()
+            return name
+        except UnicodeDecodeError:
+            pass
+        if not os.path.isdir(os.path.dirname(name) or b'.'):
+            return name
+        try:
+            if self.made:
+                make(name)
+            Named.room = Named.room or tempfile.mkdtemp(prefix='rokemaipu-')
+            link = os.fsencode(f'{Named.room}/{place}')
+            os.symlink(os.path.abspath(name), link)
+        except OSError:
+            return name
+        self.links[link] = name
+        return link
+
+    def heard_by(self, errors):
+        """What hears the program: `errors`, which hears of the files."""
+        if not self.links:
+            return errors
+
+        def heard(piece):
+            text, said = self.of_files(piece), b''
+            for part in [text] * (text != b'') + [b''] * (piece == b''):
+                instead = errors(part)
+                said += part if instead is None else instead
+            return said
+
+        return heard
+
+    def of_files(self, piece):
+        text = self.held + piece
+        for link, name in self.links.items():
+            text = text.replace(link, name)
+        # the beginning of a link may stand at the end
+        longest = 0
+        if piece != b'':
+            longest = max((n for link in self.links for n in range(1, len(link)) if text.endswith(link[:n])), default=0)
+        self.held = text[len(text) - longest:]
+        return text[:len(text) - longest]
+
+
+def make(name):
+    """A file without a byte, where there is none, that stays."""
+    try:
+        os.close(os.open(name, os.O_WRONLY | os.O_CREAT | os.O_EXCL, 0o666))
+    except FileExistsError:
+        return
+    folder = os.open(os.path.dirname(name) or b'.', os.O_RDONLY | os.O_DIRECTORY)
+    try:
+        os.fsync(folder)
+    finally:
+        os.close(folder)
+
+
 def stream():
     """The two ends of the program's standard error: a terminal where this one's is a terminal, since the program asks for that."""
     if not os.isatty(2):
@@ -78,6 +166,7 @@ def stream():
 
 def die_by(number):
     """As the program did."""
+    Named.cleared()
     if number != signal.SIGKILL:
         signal.signal(number, signal.SIG_DFL)
     os.kill(os.getpid(), number)
