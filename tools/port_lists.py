@@ -246,10 +246,11 @@ for c, x in sorted(cut, key=lambda e: (place[e[0]], place[e[1]])):
 rt, antt = set(), set()
 for (c, x), m in through.items():
     for need, to in ((x in named_rt[c], rt), (x in named_antt[c], antt)):
-        while need and m is not None and (m, x) not in to:
-            to.add((m, x))
-            m_next = passing.get((m, x))
-            m = m_next if m_next != m else None
+        at = m
+        while need and at is not None and (at, x) not in to:
+            to.add((at, x))
+            after = passing.get((at, x))
+            at = after if after != at else None
 for (m, x), k in passing.items():
     if m != k:
         through.setdefault((m, x), k)
