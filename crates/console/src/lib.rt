@@ -10,7 +10,7 @@ mod reason; // reason.rt: why a call failed, in the system's words
 
 use std::env::{Env, FillError};
 use std::io;
-use std::io::{Print, Read};
+use std::io::{ErrorKind, Print, Read};
 
 // The system's numbers of what is told of a word of the call.
 const MISSING: i32 = 22;
@@ -88,4 +88,12 @@ pub fn fail(rt: HostRuntime, what: &[u8], why: io::Error) {
     say(rt, b": ");
     reason::say(rt, why);
     say(rt, b"\n");
+}
+
+// Standard output could not be written, as fail tells it. Where nobody reads it any more nobody is told: by default the system ends a program there, silently.
+pub fn unwritten(rt: HostRuntime, what: &[u8], why: io::Error) {
+    if why.kind() == ErrorKind::BrokenPipe {
+        return;
+    }
+    fail(rt, what, why);
 }

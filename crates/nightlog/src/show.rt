@@ -13,7 +13,7 @@ fn flushed(rt: HostRuntime, out: &[u8], pen: Pen) -> Pen {
     match console::write(rt, &out[0..at]) {
         Ok(()) => Pen { at: 0, full: false },
         Err(why) => {
-            console::fail(rt, b"nightlog: writing standard output", why);
+            console::unwritten(rt, b"nightlog: writing standard output", why);
             Pen { at: 0, full: true }
         }
     }

@@ -9,7 +9,7 @@ pub fn flushed(rt: HostRuntime, out: &[u8], pen: Pen) -> Pen {
     match console::write(rt, &out[0..at]) {
         Ok(()) => Pen { at: 0, full: false },
         Err(why) => {
-            console::fail(rt, b"replay: writing standard output", why);
+            console::unwritten(rt, b"replay: writing standard output", why);
             Pen { at: 0, full: true }
         }
     }
