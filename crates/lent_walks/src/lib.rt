@@ -1,2 +1,2 @@
-// Walks of functions that are lent a value: it is changed in place, looked at, or lent on, over any types and any number of arguments. Laws alone, without a
-// function, and none says anything of another crate. For the proofs of whatever takes `&mut` or `&` of a struct.
+// Nothing stands here now: functions that are lent a value, and change it in place, look at it or lend it on, had walks by hand here, over any types.
+// Rattle makes their proofs itself today (docs/PORT.md); the crate is kept for its name.
