@@ -1,4 +1,6 @@
 // The step `batch`, which feeds log records to the table in one call and shows every place for answers afterwards, for the desk alone.
+#![tactic(auto)]
+
 mod both; // both.rt: a batch, by value or lent
 
 use desk_buffers::front;

@@ -1,4 +1,6 @@
 // A post's record as one line, the table's count of what was refused, and its index: the steps `record`, `refused` and `index`, for the desk alone.
+#![tactic(auto)]
+
 use desk_values::message;
 use message_types::labels::{plug_number, protocol_number};
 use message_types::{

@@ -1,4 +1,6 @@
 // The step `replay`, which replays a night log over a table of its own, for the desk alone.
+#![tactic(auto)]
+
 mod setups; // setups.rt: the set-ups of a replay
 
 use desk_buffers::front;

@@ -1,5 +1,7 @@
 // The readings of paper 01, those of 02's requests, and frames on both sides of each edge, run through the library.
 // What is printed is held to the file stdout beside src/. The readings through the watch stand in `readings_posts`, messages in words in `readings_messages`.
+#![tactic(auto)]
+
 mod changes; // changes.rt: one signal changed
 mod frames; // frames.rt: frames read
 mod older_frames; // older_frames.rt: frames of document 001
