@@ -3,3 +3,6 @@
 //   specs/Runs.antt       requests with batches among them, and the same without
 // proofs/Laws.antt has each refusal in its case and what stays; proofs/Flat.antt makes a run with batches a run without, so that demand 3 holds of it;
 // proofs/Counted.antt counts what such a run refused (02, Req 08); proofs/Night.antt has all on a night. `batch` and `lent_batch` answer by it.
+
+// The crates among these are passed on to those above, which name them through this one.
+pub use lent_runs::{lent_words, rules, watch_hear, watch_places, watch_rules};

@@ -3,8 +3,12 @@
 
 mod both; // both.rt: a step on the table, by value or lent
 
+// The crates among these are passed on to those above, which name them through this one.
 use desk_buffers::front;
-use lent_words::Lent;
+pub use gateway;
+use gateway::lent_words::Lent;
+use gateway::watch_rules::Table;
+pub use gateway::{batch, lent_words, watch_rules};
 use notation_answers::answer;
 use notation_read::fields::Last;
 use notation_read::heard::Heard;
@@ -12,7 +16,6 @@ use notation_read::{fields, heard};
 use notation_setup::setup;
 use notation_setup::setup::Asked;
 use text_pen::Pen;
-use watch_rules::Table;
 
 // The table after a line, and its answer.
 #[derive(Clone, Copy)]

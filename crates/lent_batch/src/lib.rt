@@ -2,12 +2,15 @@
 // `batch::feed_batch` gives. It stands alone, since the compiler builds the step of a record into it only where that has one caller. For C, and through
 // `gateway` for Rattle.
 #![tactic(auto)]
-ghost use Rattle.std.specs.Prelude.{◌≡◌, length};
-ghost use Rattle.batch_rules.specs.Batch.{batch_of, answers_after};
 
+ghost use Rattle.std.specs.Prelude.{◌≡◌, length};
+ghost use Rattle.batch.specs.batch_rules.specs.Batch.{batch_of, answers_after};
+
+// The crates among these are passed on to those above, which name them through this one.
+pub use batch;
 use batch::feed_batch;
-use lent_words::Lent;
-use watch_rules::Table;
+use lent_table::lent_words::Lent;
+use lent_table::watch_rules::Table;
 
 #[unsafe(no_mangle)]
 pub extern "C" fn rokemaipu_batch(t: &mut Table, records: &[u8], answers: &mut [u32]) -> u32

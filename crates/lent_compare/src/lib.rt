@@ -1,5 +1,6 @@
 // Two night logs compared over lent memory (02, Req 10), for C: `compare_logs::compare`, its answer as a word and two numbers.
 #![tactic(auto)]
+
 ghost use Rattle.std.specs.Prelude.{◌≡◌, ◌≤◌, length};
 ghost use Rattle.std.proofs.lemmas.List.Edits.{sets};
 ghost use Rattle.plain_words.specs.Words.{outcome_word};

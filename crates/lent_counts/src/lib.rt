@@ -1,6 +1,7 @@
 // A post's counts over the C interface, of the record that `watch::look_up` hands out, and how much the table refused. The lent table is only read.
 // For C callers; a caller in Rattle asks `watch::look_up` and `watch::refused`.
 #![tactic(auto)]
+
 ghost use Rattle.std.specs.Prelude.{◌≡◌, length};
 ghost use Rattle.rules.specs.After.{count_count};
 ghost use Rattle.plain_words.specs.Words.{outcome_word};
@@ -13,7 +14,7 @@ use refusals::Refusal;
 use rule_asks::is_set;
 use rules::COUNTS;
 use watch_look::refused;
-use watch_places::is_post;
+use watch_look::watch_places::is_post;
 use watch_rules::Table;
 
 fn store(cs: [u32; COUNTS], counts: &mut [u32]) -> u32

@@ -4,15 +4,16 @@
 // Its answer and the table are exactly what `watch::frame` gives.
 // It stands alone, since the compiler builds a step into its entry only where the step has one caller. For C, and through `gateway` for Rattle.
 #![tactic(auto)]
-ghost use Rattle.std.specs.Prelude.{◌≡◌};
-ghost use Rattle.lent_step.specs.Fed.{frame_word};
 
-use lent_step::heard_on;
-use lent_words::Lent;
-use rules::PLACES;
-use watch_hear::arrival_for;
-use watch_places::place_named;
-use watch_rules::{CHANNELS, Table};
+ghost use Rattle.std.specs.Prelude.{◌≡◌};
+ghost use Rattle.lent_heads.specs.lent_step.specs.Fed.{frame_word};
+
+use lent_heads::lent_step::heard_on;
+use lent_heads::lent_words::Lent;
+use lent_heads::rules::PLACES;
+use lent_heads::watch_hear::arrival_for;
+use lent_heads::watch_places::place_named;
+use lent_heads::watch_rules::{CHANNELS, Table};
 
 #[unsafe(no_mangle)]
 pub extern "C" fn rokemaipu_frame(

@@ -1,6 +1,7 @@
 // The post that holds a channel over the C interface, by the index: to whom a frame or tick on it goes. The lent table is only read.
 // For C callers; a caller in Rattle asks `watch_places::some_place`, or searches by `watch_places::place`.
 #![tactic(auto)]
+
 ghost use Rattle.std.specs.Prelude.{◌≡◌, ◌<◌};
 ghost use Rattle.watch_rules.specs.Table.{post_count};
 ghost use Rattle.lent_holder.specs.Holder.{holder_at, holder_word};

@@ -1,6 +1,7 @@
 // How the lent table lies in memory, as one word: a caller in C compares it with its header's before the first call, since a table of another version has
 // other places.
 #![tactic(auto)]
+
 ghost use Rattle.std.specs.Prelude.{◌≡◌};
 ghost use Rattle.lent_layout.specs.Layout.{layout_word};
 

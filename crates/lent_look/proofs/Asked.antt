@@ -3,8 +3,8 @@ use Prim.Native.Nat.{ℕ}
 use mathlib.Core.Path.{◌≡◌}
 use mathlib.Core.Bool.{Bool, true, false, cond}
 use Rattle.refusals.specs.declared.Refusal.TheVariants.{NoSuchPost, NotSetUp}
-use Rattle.rules.specs.Record.{is_set}
-use Rattle.rules.specs.After.{post_record}
+use Rattle.watch_rules.specs.rules.specs.Record.{is_set}
+use Rattle.watch_rules.specs.rules.specs.After.{post_record}
 use Rattle.watch_rules.specs.declared.Table.{Table}
 use Rattle.watch_rules.specs.declared.Setting.{Setting}
 use Rattle.watch_rules.specs.declared.Setting.TheVariants as setting

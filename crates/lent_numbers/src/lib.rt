@@ -1,6 +1,7 @@
 // A post's numbers over the C interface: of the record that `watch::look_up` hands out, all but the messages. The lent table is only read.
 // For C callers; a caller in Rattle asks `watch::look_up`.
 #![tactic(auto)]
+
 ghost use Rattle.std.specs.Prelude.{◌≡◌, cond, ◌++◌, ◌≤◌, length, drop};
 ghost use Rattle.rules.specs.After.{post_record};
 ghost use Rattle.plain_words.specs.Words.{outcome_word};

@@ -1,6 +1,7 @@
 // A replay of a night log over lent memory, for C (02, Req 05): set-ups, and then a record a call, each of which leaves exactly what `playing_words` gives by
 // value. The walk of such an entry, which is lent a struct and slices beside it, stands here too (proofs/InBoth.antt, Whole.antt).
 #![tactic(auto)]
+
 ghost use Rattle.std.specs.Prelude.{◌≡◌};
 ghost use Rattle.playing_words.specs.Plain.{start_by, set_up_by, line_by, line_left, next_after};
 

@@ -1,11 +1,11 @@
 -- Requests through the entries in place, from any memory that was started.
 use Rattle.std.specs.Prelude.{ℕ, List, [], ◌∷◌}
-use Rattle.watch_rules.specs.declared.Table.{Table}
-use Rattle.watch_rules.specs.Run.{Request, setUp, release, frame, tick, Reply, set, fed}
-use Rattle.lent_words.specs.declared.Lent.{Lent}
+use Rattle.lent_step.specs.watch_rules.specs.declared.Table.{Table}
+use Rattle.lent_step.specs.watch_rules.specs.Run.{Request, setUp, release, frame, tick, Reply, set, fed}
+use Rattle.lent_step.specs.lent_words.specs.declared.Lent.{Lent}
 use Rattle.plain_words.specs.Words.{Outcome, outcome_word}
-use Rattle.lent_words.specs.Words.{answer_outcome, setting_outcome}
-use Rattle.lent_words.specs.Lent.{start_of, set_up_word, release_word}
+use Rattle.lent_step.specs.lent_words.specs.Words.{answer_outcome, setting_outcome}
+use Rattle.lent_step.specs.lent_words.specs.Lent.{start_of, set_up_word, release_word}
 use Rattle.lent_step.specs.Fed.{frame_word, tick_word}
 
 -- what the entry's contract says of a request: the answer's word, and the table at exit

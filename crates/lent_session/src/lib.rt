@@ -2,16 +2,17 @@
 // interface, as `lent_latest` hands out the latest frame of a kind: its time as received, its age and its kind, and its bytes as they came.
 // The lent table is only read. For C callers; a caller in Rattle asks `watch::look_up`.
 #![tactic(auto)]
+
 ghost use Rattle.std.specs.Prelude.{◌≡◌, ◌<◌};
 ghost use Rattle.rules.specs.After.{kept_count, open_kept};
 ghost use Rattle.lent_session.specs.InSession.{part_word, part_time, part_frame};
 
 use lent_latest::hand_out;
+use lent_latest::watch_places::is_post;
 use plain_words::refusal_word;
 use refusals::Refusal;
 use rule_asks::is_set;
 use rules::{KEPT, Session, Slot};
-use watch_places::is_post;
 use watch_rules::Table;
 
 // 01: "With no session open all of the session's part is none."

@@ -1,11 +1,14 @@
 // Starting a lent table, set-ups and releases in place: each leaves exactly what the by-value operation of `watch` gives.
 // For C, and through `gateway` for Rattle.
 #![tactic(auto)]
-ghost use Rattle.std.specs.Prelude.{◌≡◌};
-ghost use Rattle.lent_words.specs.Lent.{start_of, set_up_word, release_word};
 
-use lent_words::{Lent, released, settled, started};
-use watch_rules::Table;
+ghost use Rattle.std.specs.Prelude.{◌≡◌};
+ghost use Rattle.lent_table.specs.lent_words.specs.Lent.{start_of, set_up_word, release_word};
+
+// The crates among these are passed on to those above, which name them through this one.
+use lent_table::lent_words::{Lent, released, settled, started};
+use lent_table::watch_rules::Table;
+pub use lent_table::{lent_words, watch, watch_rules};
 
 #[unsafe(no_mangle)]
 pub extern "C" fn rokemaipu_start(t: &mut Table) -> u32

@@ -1,14 +1,15 @@
 // A tick in place, as a frame is in `lent_frame`: its answer and the table are exactly what `watch::tick` gives. For C, and through `gateway` for Rattle.
 // The limits are asked for nothing (`tick_for`), and not read once the compiler has built that in: they stand there so that a frame and a tick have one walk.
 #![tactic(auto)]
-ghost use Rattle.std.specs.Prelude.{◌≡◌};
-ghost use Rattle.lent_step.specs.Fed.{tick_word};
 
-use lent_step::{heard_on, tick_for};
-use lent_words::Lent;
-use rules::PLACES;
-use watch_places::place_named;
-use watch_rules::{CHANNELS, Table};
+ghost use Rattle.std.specs.Prelude.{◌≡◌};
+ghost use Rattle.lent_heads.specs.lent_step.specs.Fed.{tick_word};
+
+use lent_heads::lent_step::{heard_on, tick_for};
+use lent_heads::lent_words::Lent;
+use lent_heads::rules::PLACES;
+use lent_heads::watch_places::place_named;
+use lent_heads::watch_rules::{CHANNELS, Table};
 
 #[unsafe(no_mangle)]
 pub extern "C" fn rokemaipu_tick(t: &mut Table, channel: u32, time: u32) -> u32

@@ -2,13 +2,17 @@
 // what `lent_settings` hands the whole of a lent table to.
 // Whoever calls from Rattle and wants words may use them too.
 #![tactic(auto)]
+
 ghost use Rattle.std.specs.Prelude.{◌≡◌};
 ghost use Rattle.lent_words.specs.Words.{answer_word, setting_word};
 ghost use Rattle.lent_words.specs.Lent.{start_of, set_up_word, release_word};
 
+// The crates among these are passed on to those above, which name them through this one.
 use plain_words::refusal_word;
 use rule_limits::PlainLimits;
-use watch_rules::{Answer, Setting, Table};
+pub use watch;
+use watch::watch_rules::{Answer, Setting, Table};
+pub use watch::{rules, watch_hear, watch_places, watch_rules};
 
 #[derive(Clone, Copy)]
 pub struct Lent {

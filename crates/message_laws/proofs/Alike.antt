@@ -7,10 +7,10 @@ use Prim.Native.Nat.{ℕ, suc}
 use lib.ListN.{length}
 use lib.IntN.{ℤ}
 use Rattle.signal.specs.Raw.{bits_in}
-use Rattle.page_table.specs.declared.Row.{Row}
-use Rattle.page_table.specs.Table.{rows_of, bits_at, takes}
-use Rattle.page_read.specs.Judge.{unlabelled}
-use Rattle.page_write.specs.Raws.{row_takes, whole_at, wholes_of, all_take}
+use Rattle.page_change.specs.page_table.specs.declared.Row.{Row}
+use Rattle.page_change.specs.page_table.specs.Table.{rows_of, bits_at, takes}
+use Rattle.page_change.specs.page_read.specs.Judge.{unlabelled}
+use Rattle.page_change.specs.page_write.specs.Raws.{row_takes, whole_at, wholes_of, all_take}
 use Rattle.message_fields.specs.Fields.{at}
 use Rattle.message_laws.proofs.Fitting.{labels_at}
 use Rattle.message_laws.proofs.Ways.{Ways}

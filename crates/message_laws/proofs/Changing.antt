@@ -7,14 +7,14 @@ use mathlib.Core.List.{List}
 use Prim.Native.Nat.{ℕ, ◌<◌}
 use lib.IntN.{ℤ}
 use lib.ListN.{length, get_or, set}
-use Rattle.payload.specs.Payload.{number_of, bytes_of, Bytes}
-use Rattle.payload.proofs.Orders.{are_of}
-use Rattle.page_table.specs.declared.Interface.{Interface}
-use Rattle.page_table.specs.Table.{no_row, rows_of, identifier_of, extended_of, length_of, big_of}
-use Rattle.page_read.specs.declared.Judged.TheVariants.{Frame}
-use Rattle.page_read.specs.Judge.{judge_on}
-use Rattle.page_write.specs.Raws.{wholes_of, packed_on, raws_of}
-use Rattle.page_write.proofs.Trips.{accepted_on}
+use Rattle.page_change.specs.payload.specs.Payload.{number_of, bytes_of, Bytes}
+use Rattle.page_change.specs.payload.proofs.Orders.{are_of}
+use Rattle.page_change.specs.page_table.specs.declared.Interface.{Interface}
+use Rattle.page_change.specs.page_table.specs.Table.{no_row, rows_of, identifier_of, extended_of, length_of, big_of}
+use Rattle.page_change.specs.page_read.specs.declared.Judged.TheVariants.{Frame}
+use Rattle.page_change.specs.page_read.specs.Judge.{judge_on}
+use Rattle.page_change.specs.page_write.specs.Raws.{wholes_of, packed_on, raws_of}
+use Rattle.page_change.specs.page_write.proofs.Trips.{accepted_on}
 use Rattle.page_change.specs.Change.{change_on, bytes_after}
 use Rattle.page_change.proofs.Changes.{changed, change_read, change_wholes}
 use Rattle.message_fields.specs.Fields.{at}

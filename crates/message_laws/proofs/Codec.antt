@@ -11,19 +11,19 @@ use lib.ListN.{length}
 use lib.IntN.{ℤ}
 use lib.Seq.{take_all}
 use borrow.Author.Tests.{le-leb}
-use Rattle.payload.specs.Payload.{bytes_of, stored_in, Bytes}
-use Rattle.page_read.specs.declared.Judged.TheVariants.{Frame}
+use Rattle.page_change.specs.payload.specs.Payload.{bytes_of, stored_in, Bytes}
+use Rattle.page_change.specs.page_read.specs.declared.Judged.TheVariants.{Frame}
 use Rattle.refusals.specs.declared.Refusal.TheVariants.{NoRawNumber}
-use Rattle.page_write.specs.declared.Written.{Written}
-use Rattle.page_write.specs.declared.Written.TheVariants.{Refused}
-use Rattle.page_table.specs.declared.Interface.{Interface}
-use Rattle.page_table.specs.Interfaces.{is_on}
-use Rattle.page_table.specs.Table.{rows_of, identifier_of, extended_of, length_of, big_of}
-use Rattle.page_read.specs.Judge.{unlabelled, judge_on}
-use Rattle.page_table.specs.Table.{signal_count}
-use Rattle.page_write.specs.Raws.{wholes_of, pad, all_take, packed_on, can_write, raws_of, written_by, write_raws_of, buffer_after}
-use Rattle.page_table.proofs.Rules.{both_true, few}
-use Rattle.page_write.proofs.Trips.{accepted_on, back_on, raws_there, wholes_length, all_pad, packed_pad}
+use Rattle.page_change.specs.page_write.specs.declared.Written.{Written}
+use Rattle.page_change.specs.page_write.specs.declared.Written.TheVariants.{Refused}
+use Rattle.page_change.specs.page_table.specs.declared.Interface.{Interface}
+use Rattle.page_change.specs.page_table.specs.Interfaces.{is_on}
+use Rattle.page_change.specs.page_table.specs.Table.{rows_of, identifier_of, extended_of, length_of, big_of}
+use Rattle.page_change.specs.page_read.specs.Judge.{unlabelled, judge_on}
+use Rattle.page_change.specs.page_table.specs.Table.{signal_count}
+use Rattle.page_change.specs.page_write.specs.Raws.{wholes_of, pad, all_take, packed_on, can_write, raws_of, written_by, write_raws_of, buffer_after}
+use Rattle.page_change.specs.page_table.proofs.Rules.{both_true, few}
+use Rattle.page_change.specs.page_write.proofs.Trips.{accepted_on, back_on, raws_there, wholes_length, all_pad, packed_pad}
 use Rattle.message_fields.specs.Fields.{at}
 use Rattle.message_laws.specs.Fits.{all_fit}
 use Rattle.message_laws.proofs.Fitting.{labels_at, take_fit, at_pad}

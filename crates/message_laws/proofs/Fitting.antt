@@ -7,12 +7,12 @@ use Prim.Native.Nat.{◌≤◌}
 use lib.ListN.{length}
 use lib.IntN.{ℤ}
 use Rattle.signal.specs.Raw.{fits_in, bits_in}
-use Rattle.page_table.specs.declared.Row.{Row}
-use Rattle.page_table.specs.Table.{takes}
-use Rattle.page_table.specs.Table.{signal_count}
-use Rattle.page_write.specs.Raws.{pad, all_take}
-use Rattle.page_table.proofs.Rules.{both_true}
-use Rattle.page_write.proofs.Trips.{pad_same}
+use Rattle.page_change.specs.page_table.specs.declared.Row.{Row}
+use Rattle.page_change.specs.page_table.specs.Table.{takes}
+use Rattle.page_change.specs.page_table.specs.Table.{signal_count}
+use Rattle.page_change.specs.page_write.specs.Raws.{pad, all_take}
+use Rattle.page_change.specs.page_table.proofs.Rules.{both_true}
+use Rattle.page_change.specs.page_write.proofs.Trips.{pad_same}
 use Rattle.message_fields.specs.Fields.{at}
 use Rattle.message_laws.specs.Fits.{all_fit}
 

@@ -9,8 +9,8 @@ use lib.Arith.{lt_of_le-ne}
 use lib.Dec.{T, eqb, ltb, eqb→eq}
 use lib.ListN.{get_or}
 use borrow.Author.Tests.{ltb-true, eqb-true, eqb-false}
-use Rattle.page_table.specs.declared.Row.{Row}
-use Rattle.page_table.specs.Table.{no_row, rows_of, takes}
+use Rattle.page_change.specs.page_table.specs.declared.Row.{Row}
+use Rattle.page_change.specs.page_table.specs.Table.{no_row, rows_of, takes}
 
 -- ---- the signals of a kind
 

@@ -13,12 +13,12 @@ use borrow.Author.Tests.{not-false}
 use Rattle.signal.specs.Raw.{fits_in, bits_in}
 use Rattle.signal.proofs.Laws.{get_lt}
 use Rattle.signal.proofs.RawLaws.{value_fits}
-use Rattle.page_table.specs.declared.Row.{Row}
-use Rattle.page_table.specs.Table.{no_row, rows_of, lowest, bits_at, takes}
-use Rattle.page_read.specs.Judge.{unlabelled}
-use Rattle.page_write.specs.Raws.{whole_at, all_take}
-use Rattle.page_table.proofs.Rules.{both_true, either_false}
-use Rattle.page_write.proofs.Trips.{takes_at}
+use Rattle.page_change.specs.page_table.specs.declared.Row.{Row}
+use Rattle.page_change.specs.page_table.specs.Table.{no_row, rows_of, lowest, bits_at, takes}
+use Rattle.page_change.specs.page_read.specs.Judge.{unlabelled}
+use Rattle.page_change.specs.page_write.specs.Raws.{whole_at, all_take}
+use Rattle.page_change.specs.page_table.proofs.Rules.{both_true, either_false}
+use Rattle.page_change.specs.page_write.proofs.Trips.{takes_at}
 use Rattle.message_fields.specs.Fields.{at}
 use Rattle.message_fields.proofs.FieldLaws.{Field}
 use Rattle.message_laws.proofs.Labelled.{Label, signal_at}

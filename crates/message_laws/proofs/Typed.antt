@@ -11,21 +11,21 @@ use lib.IntN.{ℤ}
 use lib.ListN.{length, get_or, take, drop}
 use lib.Seq.{take_at, drop_at}
 use borrow.Author.Tests.{le-leb, leb-true, leb-false}
-use Rattle.payload.specs.Payload.{number_of, bytes_of, stored_in, Bytes}
-use Rattle.payload.proofs.Orders.{length_of_lem}
-use Rattle.payload.proofs.Stored.{stored_in_lem, stored_not}
+use Rattle.page_change.specs.payload.specs.Payload.{number_of, bytes_of, stored_in, Bytes}
+use Rattle.page_change.specs.payload.proofs.Orders.{length_of_lem}
+use Rattle.page_change.specs.payload.proofs.Stored.{stored_in_lem, stored_not}
 use Rattle.refusals.specs.declared.Refusal.{Refusal}
 use Rattle.refusals.specs.declared.Refusal.TheVariants.{NoRawNumber}
-use Rattle.page_table.specs.declared.Interface.{Interface}
-use Rattle.page_table.specs.Interfaces.{is_on}
-use Rattle.page_table.specs.Table.{no_row, rows_of, identifier_of, extended_of, length_of, big_of}
-use Rattle.page_read.specs.declared.Judged.TheVariants.{Frame}
-use Rattle.page_read.specs.Judge.{judge_on}
-use Rattle.page_write.specs.declared.Written.{Written}
-use Rattle.page_write.specs.declared.Written.TheVariants.{Wrote, Refused}
-use Rattle.page_table.specs.Table.{signal_count}
-use Rattle.page_write.specs.Raws.{pad, packed_on, raws_of, written_by, write_raws_of, buffer_after}
-use Rattle.page_write.proofs.Trips.{accepts}
+use Rattle.page_change.specs.page_table.specs.declared.Interface.{Interface}
+use Rattle.page_change.specs.page_table.specs.Interfaces.{is_on}
+use Rattle.page_change.specs.page_table.specs.Table.{no_row, rows_of, identifier_of, extended_of, length_of, big_of}
+use Rattle.page_change.specs.page_read.specs.declared.Judged.TheVariants.{Frame}
+use Rattle.page_change.specs.page_read.specs.Judge.{judge_on}
+use Rattle.page_change.specs.page_write.specs.declared.Written.{Written}
+use Rattle.page_change.specs.page_write.specs.declared.Written.TheVariants.{Wrote, Refused}
+use Rattle.page_change.specs.page_table.specs.Table.{signal_count}
+use Rattle.page_change.specs.page_write.specs.Raws.{pad, packed_on, raws_of, written_by, write_raws_of, buffer_after}
+use Rattle.page_change.specs.page_write.proofs.Trips.{accepts}
 use Rattle.page_change.specs.Change.{change_on, bytes_after}
 use Rattle.page_change.proofs.Changes as changes
 use Rattle.message_fields.specs.Fields.{at}

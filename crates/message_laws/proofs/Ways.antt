@@ -5,9 +5,9 @@ use mathlib.Core.List.{List}
 use Prim.Native.Nat.{ℕ}
 use lib.ListN.{length}
 use lib.IntN.{ℤ}
-use Rattle.page_table.specs.Table.{rows_of}
-use Rattle.page_read.specs.Judge.{unlabelled}
-use Rattle.page_write.specs.Raws.{wholes_of, all_take}
+use Rattle.page_change.specs.page_table.specs.Table.{rows_of}
+use Rattle.page_change.specs.page_read.specs.Judge.{unlabelled}
+use Rattle.page_change.specs.page_write.specs.Raws.{wholes_of, all_take}
 use Rattle.message_fields.specs.Fields.{at}
 use Rattle.message_laws.proofs.Fitting.{labels_at}
 

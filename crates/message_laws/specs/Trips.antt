@@ -1,8 +1,8 @@
 -- Bytes and the message that they are, of any type of messages: as it is written, and with one signal changed.
 use Rattle.std.specs.Prelude.{ℕ, ◌≤◌, ◌≡◌, Bool, true, ◌&&◌, List, ◌++◌, ℤ, length, drop}
-use Rattle.page_table.specs.Table.{rows_of}
-use Rattle.page_write.specs.declared.Written.{Written}
-use Rattle.page_write.specs.declared.Written.TheVariants.{Wrote}
+use Rattle.page_change.specs.page_table.specs.Table.{rows_of}
+use Rattle.page_change.specs.page_write.specs.declared.Written.{Written}
+use Rattle.page_change.specs.page_write.specs.declared.Written.TheVariants.{Wrote}
 use Rattle.message_laws.specs.Fits.{all_fit}
 use Rattle.message_laws.specs.WithRaw.{WithRaw}
 

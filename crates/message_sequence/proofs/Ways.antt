@@ -2,12 +2,12 @@
 -- and each label at its signal. Assumes nothing.
 use mathlib.Core.Path.{refl}
 use mathlib.Core.List.{[], ◌∷◌}
-use Rattle.page_table.specs.Table.{rows, of_kind}
-use Rattle.page_write.specs.Raws.{wholes_of}
-use Rattle.message_fields.proofs.FieldLaws.{flags}
-use Rattle.message_fields.proofs.Wides.{wides}
-use Rattle.message_laws.proofs.Signals.{fits_at, field_back, label_back}
-use Rattle.message_laws.proofs.Ways.{Ways, always}
+use Rattle.message_types.specs.page_table.specs.Table.{rows, of_kind}
+use Rattle.message_types.specs.page_write.specs.Raws.{wholes_of}
+use Rattle.message_types.specs.message_fields.proofs.FieldLaws.{flags}
+use Rattle.message_types.specs.message_fields.proofs.Wides.{wides}
+use Rattle.message_types.specs.message_laws.proofs.Signals.{fits_at, field_back, label_back}
+use Rattle.message_types.specs.message_laws.proofs.Ways.{Ways, always}
 use Rattle.message_types.specs.KindNumbers.{sequence_kind, outputs_kind}
 use Rattle.message_types.proofs.Marks.{permission_label, button_label, step_label, validity_label, parameters_label, stop_label}
 use Rattle.message_sequence.specs.Build.{sequence_of, outputs_of}

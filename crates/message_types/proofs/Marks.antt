@@ -1,6 +1,6 @@
 -- Each label type against its signal of the table (`Label` of message_laws). Assumes nothing.
 use mathlib.Core.Path.{refl}
-use Rattle.page_table.specs.Table.{rows, of_kind}
+use Rattle.message_laws.specs.page_table.specs.Table.{rows, of_kind}
 use Rattle.message_laws.proofs.Labelled.{signal_at, Label, Mark, marked, same_label}
 use Rattle.message_types.specs.declared.SystemEnable.{SystemEnable}
 use Rattle.message_types.specs.declared.SystemEnable.TheVariants as enable

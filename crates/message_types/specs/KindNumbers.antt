@@ -2,7 +2,7 @@
 use Rattle.std.specs.Prelude.{ℕ}
 use Rattle.message_types.specs.declared.Message.{Message}
 use Rattle.message_types.specs.declared.Message.TheVariants.{Status, Parameters, Controller, Session, Change, Control, Finished, Stop, Id, SafetyControl, SafetyState, Probes, Sequence, Outputs, Battery, Voltages, ChargeLimits, DischargeLimits, Energy, Cui, Secc, Spcc, Ccs, Mcs, Ocpp}
-pub use Rattle.page_table.specs.Messages.{kind_count, message_count}
+pub use Rattle.message_laws.specs.page_table.specs.Messages.{kind_count, message_count}
 
 abbrev pub status_kind : ℕ
 status_kind = 0

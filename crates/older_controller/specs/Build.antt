@@ -5,8 +5,8 @@ use Rattle.older_types.specs.declared.EmergencyStop.{EmergencyStop}
 use Rattle.older_types.specs.declared.ChargeSessionFinished.{ChargeSessionFinished}
 use Rattle.older_types.specs.declared.ControllerStatus.{ControllerStatus}
 use Rattle.older_types.specs.declared.EvId.{EvId}
-use Rattle.message_types.specs.Labels as label
-use Rattle.message_fields.specs.Fields.{byte_of, natural_of}
+use Rattle.older_types.specs.message_types.specs.Labels as label
+use Rattle.older_types.specs.message_fields.specs.Fields.{byte_of, natural_of}
 
 abbrev pub stop_of : (ℕ → ℤ) → EmergencyStop
 stop_of f =

@@ -5,7 +5,7 @@ use Rattle.older_types.specs.declared.EmergencyStop.{EmergencyStop}
 use Rattle.older_types.specs.declared.ChargeSessionFinished.{ChargeSessionFinished}
 use Rattle.older_types.specs.declared.ControllerStatus.{ControllerStatus}
 use Rattle.older_types.specs.declared.EvId.{EvId}
-use Rattle.message_types.specs.Labels as label
+use Rattle.older_types.specs.message_types.specs.Labels as label
 
 abbrev pub stop_raws : EmergencyStop → List ℤ
 stop_raws m = pos (label.origin_number m.origin) ∷ []

@@ -13,36 +13,36 @@ use native.Mathlib.Omega.{arith}
 use lib.IntN.{ℤ}
 use lib.ListN.{length, get_or, set}
 use Rattle.signal.specs.Signal.{get_bits, put_bits, covers}
-use Rattle.payload.specs.Payload.{number_of, bytes_of, bit_at, Bytes}
-use Rattle.payload.specs.Order as order
+use Rattle.page_write.specs.payload.specs.Payload.{number_of, bytes_of, bit_at, Bytes}
+use Rattle.page_write.specs.payload.specs.Order as order
 use Rattle.signal.specs.Raw.{fits_in, bits_in, value_in}
 use Rattle.signal.proofs.Laws.{get_put_apart, bit_kept, put_lt}
 use Rattle.signal.proofs.RawLaws.{bits_lt}
-use Rattle.payload.proofs.Orders.{number_bound, length_of_lem, number_of_lem}
-use Rattle.payload.proofs.Written.{written_bit, written_kept}
-use Rattle.page_table.specs.declared.Interface.{Interface}
-use Rattle.page_table.specs.declared.Interface.TheVariants.{Newer}
-use Rattle.page_table.specs.declared.Row.{Row}
-use Rattle.page_table.specs.declared.Found.{Found}
-use Rattle.page_table.specs.declared.Found.TheVariants.{At, Nothing}
-use Rattle.page_read.specs.declared.Judged.{Judged}
-use Rattle.page_read.specs.declared.Judged.TheVariants.{Frame, Refused}
+use Rattle.page_write.specs.payload.proofs.Orders.{number_bound, length_of_lem, number_of_lem}
+use Rattle.page_write.specs.payload.proofs.Written.{written_bit, written_kept}
+use Rattle.page_write.specs.page_table.specs.declared.Interface.{Interface}
+use Rattle.page_write.specs.page_table.specs.declared.Interface.TheVariants.{Newer}
+use Rattle.page_write.specs.page_table.specs.declared.Row.{Row}
+use Rattle.page_write.specs.page_table.specs.declared.Found.{Found}
+use Rattle.page_write.specs.page_table.specs.declared.Found.TheVariants.{At, Nothing}
+use Rattle.page_write.specs.page_read.specs.declared.Judged.{Judged}
+use Rattle.page_write.specs.page_read.specs.declared.Judged.TheVariants.{Frame, Refused}
 use Rattle.refusals.specs.declared.Refusal.{Refusal}
-use Rattle.page_table.specs.Table.{rows, no_row, row_at, rows_of, length_of, big_of, is_signal, first_at, lowest, bits_at, Fine, HasBit, takes}
-use Rattle.page_table.specs.Listed.{Among, SignalAt}
-use Rattle.page_read.specs.Judge.{unlabelled, stray_below, judge_on}
+use Rattle.page_write.specs.page_table.specs.Table.{rows, no_row, row_at, rows_of, length_of, big_of, is_signal, first_at, lowest, bits_at, Fine, HasBit, takes}
+use Rattle.page_write.specs.page_table.specs.Listed.{Among, SignalAt}
+use Rattle.page_write.specs.page_read.specs.Judge.{unlabelled, stray_below, judge_on}
 use Rattle.page_write.specs.Taken.{Taken}
 use Rattle.page_write.specs.Raws.{whole_at, wholes_of, put_raw}
 use Rattle.page_change.specs.Change.{changed_by, changed_at, changed_in, change_on, change_of, bytes_after}
 use Rattle.page_change.specs.Changed.{Changed}
-use Rattle.page_table.specs.Rules.{above}
-use Rattle.page_table.proofs.Rules.{Ordered, ordered, row_fine_lem, RowsApart, among_kept, row_message, among_apart, among_from, among_start}
-use Rattle.page_table.proofs.Firsts.{found_in}
-use Rattle.page_table.proofs.Listed.{at_among, found_signal, signal_found}
-use Rattle.page_table.proofs.PageBits.{not_covered}
-use Rattle.page_read.proofs.Gaps.{stray_none, stray_zero}
-use Rattle.page_read.proofs.Interfaces.{newer}
-use Rattle.page_read.proofs.Answers.{labelled_each, each_labelled}
+use Rattle.page_write.specs.page_table.specs.Rules.{above}
+use Rattle.page_write.specs.page_table.proofs.Rules.{Ordered, ordered, row_fine_lem, RowsApart, among_kept, row_message, among_apart, among_from, among_start}
+use Rattle.page_write.specs.page_table.proofs.Firsts.{found_in}
+use Rattle.page_write.specs.page_table.proofs.Listed.{at_among, found_signal, signal_found}
+use Rattle.page_write.specs.page_table.proofs.PageBits.{not_covered}
+use Rattle.page_write.specs.page_read.proofs.Gaps.{stray_none, stray_zero}
+use Rattle.page_write.specs.page_read.proofs.Interfaces.{newer}
+use Rattle.page_write.specs.page_read.proofs.Answers.{labelled_each, each_labelled}
 use Rattle.page_write.proofs.Trips.{accepted_on, accepts, bits_put, whole_put}
 
 pub newer_change : (m : ℕ) (extended : Bool) (bs : List ℕ) (s : ℕ) (z : ℤ) → change_of m extended bs s z ≡ change_on Newer m extended bs s z

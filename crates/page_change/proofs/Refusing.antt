@@ -11,18 +11,18 @@ use Rattle.signal.specs.Raw.{fits_in, bits_in}
 use Rattle.refusals.specs.declared.Refusal.{Refusal}
 use Rattle.refusals.specs.declared.Refusal.TheVariants.{NoLabel, NoRawNumber, NoSignal}
 use Rattle.refusals.specs.Refusals.{number_of}
-use Rattle.page_table.specs.declared.Interface.{Interface}
-use Rattle.page_table.specs.declared.Row.{Row}
-use Rattle.page_table.specs.declared.Found.{Found}
-use Rattle.page_table.specs.declared.Found.TheVariants.{At, Nothing}
-use Rattle.page_table.specs.Table.{rows, row_at, is_signal, first_at, takes}
-use Rattle.page_table.specs.Listed.{SignalAt}
-use Rattle.page_table.proofs.Listed.{found_signal, signal_found, no_signal_at}
-use Rattle.page_read.specs.declared.Judged.{Judged}
-use Rattle.page_read.specs.declared.Judged.TheVariants.{Frame, Refused}
-use Rattle.page_read.specs.Judge.{judge_on}
-use Rattle.page_read.specs.Refusing.{Gives}
-use Rattle.page_read.proofs.Refusing.{reading_gives}
+use Rattle.page_write.specs.page_table.specs.declared.Interface.{Interface}
+use Rattle.page_write.specs.page_table.specs.declared.Row.{Row}
+use Rattle.page_write.specs.page_table.specs.declared.Found.{Found}
+use Rattle.page_write.specs.page_table.specs.declared.Found.TheVariants.{At, Nothing}
+use Rattle.page_write.specs.page_table.specs.Table.{rows, row_at, is_signal, first_at, takes}
+use Rattle.page_write.specs.page_table.specs.Listed.{SignalAt}
+use Rattle.page_write.specs.page_table.proofs.Listed.{found_signal, signal_found, no_signal_at}
+use Rattle.page_write.specs.page_read.specs.declared.Judged.{Judged}
+use Rattle.page_write.specs.page_read.specs.declared.Judged.TheVariants.{Frame, Refused}
+use Rattle.page_write.specs.page_read.specs.Judge.{judge_on}
+use Rattle.page_write.specs.page_read.specs.Refusing.{Gives}
+use Rattle.page_write.specs.page_read.proofs.Refusing.{reading_gives}
 use Rattle.page_change.specs.Change.{changed_by, changed_row, changed_at, changed_in, change_on}
 use Rattle.page_change.specs.Refusing.{NoneStarts, Unfit, NewOffence}
 

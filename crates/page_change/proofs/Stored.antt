@@ -9,22 +9,22 @@ use lib.ListN.{length, get_or}
 use mir.Val.{to_z, of_z, SFits}
 use mir.Syntax.{w64}
 use Rattle.signal.specs.Signal.{put_bits}
-use Rattle.payload.specs.Payload.{number_of}
-use Rattle.payload.specs.Order as order
+use Rattle.page_write.specs.payload.specs.Payload.{number_of}
+use Rattle.page_write.specs.payload.specs.Order as order
 use Rattle.signal.specs.Raw.{bits_in, bits_of}
 use Rattle.signal.proofs.RawLaws.{bits_lt}
-use Rattle.page_table.specs.declared.Interface.{Interface}
-use Rattle.page_table.specs.declared.Row.{Row}
-use Rattle.page_table.specs.declared.Found.TheVariants.{At}
-use Rattle.page_read.specs.declared.Judged.TheVariants.{Frame}
-use Rattle.page_table.specs.Table.{rows, no_row, row_at, big_of, first_at, is_signal}
-use Rattle.page_table.specs.Listed.{SignalAt}
-use Rattle.page_read.specs.Judge.{judge_on}
+use Rattle.page_write.specs.page_table.specs.declared.Interface.{Interface}
+use Rattle.page_write.specs.page_table.specs.declared.Row.{Row}
+use Rattle.page_write.specs.page_table.specs.declared.Found.TheVariants.{At}
+use Rattle.page_write.specs.page_read.specs.declared.Judged.TheVariants.{Frame}
+use Rattle.page_write.specs.page_table.specs.Table.{rows, no_row, row_at, big_of, first_at, is_signal}
+use Rattle.page_write.specs.page_table.specs.Listed.{SignalAt}
+use Rattle.page_write.specs.page_read.specs.Judge.{judge_on}
 use Rattle.page_write.specs.Raws.{put_raw}
 use Rattle.page_change.specs.Change.{change_on}
 use Rattle.page_change.specs.Changed.{Changed}
-use Rattle.page_table.proofs.Rules.{among_kept, row_message}
-use Rattle.page_table.proofs.Listed.{found_signal}
+use Rattle.page_write.specs.page_table.proofs.Rules.{among_kept, row_message}
+use Rattle.page_write.specs.page_table.proofs.Listed.{found_signal}
 use Rattle.page_write.proofs.Trips.{accepts}
 use Rattle.page_write.proofs.AtRow.{bits_row}
 use Rattle.page_change.proofs.Changes.{changed, one_row, signal_fine}

@@ -11,16 +11,16 @@ use Rattle.signal.specs.Signal.{get_bits, put_bits}
 use Rattle.signal.specs.Raw.{fits_in, bits_in}
 use Rattle.signal.specs.Twos.{of_signed}
 use Rattle.signal.proofs.Laws.{put_put}
-use Rattle.payload.specs.Payload.{le_number, le_bytes, number_of, bytes_of, bit_at, Bytes}
-use Rattle.payload.proofs.Orders.{are_of}
-use Rattle.payload.proofs.WholeBytes.{whole_stored}
-use Rattle.page_table.specs.declared.Interface.TheVariants.{Newer}
-use Rattle.page_table.specs.declared.Row.{Row}
-use Rattle.page_table.specs.Table.{rows, of_kind, first_at, row_at, rows_of, big_of, covered, takes}
-use Rattle.page_table.specs.Listed.{SignalAt, Among}
-use Rattle.page_read.specs.declared.Judged.TheVariants.{Frame, Refused}
-use Rattle.page_read.specs.Judge.{unlabelled, offender, stray_below, judged_number, judge_on}
-use Rattle.page_read.specs.Refusing.{Gives}
+use Rattle.page_write.specs.payload.specs.Payload.{le_number, le_bytes, number_of, bytes_of, bit_at, Bytes}
+use Rattle.page_write.specs.payload.proofs.Orders.{are_of}
+use Rattle.page_write.specs.payload.proofs.WholeBytes.{whole_stored}
+use Rattle.page_write.specs.page_table.specs.declared.Interface.TheVariants.{Newer}
+use Rattle.page_write.specs.page_table.specs.declared.Row.{Row}
+use Rattle.page_write.specs.page_table.specs.Table.{rows, of_kind, first_at, row_at, rows_of, big_of, covered, takes}
+use Rattle.page_write.specs.page_table.specs.Listed.{SignalAt, Among}
+use Rattle.page_write.specs.page_read.specs.declared.Judged.TheVariants.{Frame, Refused}
+use Rattle.page_write.specs.page_read.specs.Judge.{unlabelled, offender, stray_below, judged_number, judge_on}
+use Rattle.page_write.specs.page_read.specs.Refusing.{Gives}
 use Rattle.page_write.specs.Raws.{whole_at}
 use Rattle.page_change.specs.Change.{change_on, bytes_after}
 use Rattle.page_change.proofs.Changes.{change_bit, change_kept, change_raws_lem, change_read, change_refused}

@@ -1,16 +1,16 @@
 -- What changing a signal answers, and the lent bytes afterwards.
 use Rattle.std.specs.Prelude.{ℕ, Bool, cond, List, length, get_or, ℤ}
-use Rattle.payload.specs.Payload.{bytes_of}
+use Rattle.page_write.specs.payload.specs.Payload.{bytes_of}
 use Rattle.signal.specs.Raw.{fits_in, bits_in}
-use Rattle.page_table.specs.declared.Interface.{Interface}
-use Rattle.page_table.specs.declared.Row.{Row}
-use Rattle.page_table.specs.declared.Found.{Found}
-use Rattle.page_table.specs.declared.Found.TheVariants.{At, Nothing}
-use Rattle.page_read.specs.declared.Judged.{Judged}
-use Rattle.page_read.specs.declared.Judged.TheVariants.{Frame, Refused}
+use Rattle.page_write.specs.page_table.specs.declared.Interface.{Interface}
+use Rattle.page_write.specs.page_table.specs.declared.Row.{Row}
+use Rattle.page_write.specs.page_table.specs.declared.Found.{Found}
+use Rattle.page_write.specs.page_table.specs.declared.Found.TheVariants.{At, Nothing}
+use Rattle.page_write.specs.page_read.specs.declared.Judged.{Judged}
+use Rattle.page_write.specs.page_read.specs.declared.Judged.TheVariants.{Frame, Refused}
 use Rattle.refusals.specs.declared.Refusal.TheVariants.{NoLabel, NoRawNumber, NoSignal}
-use Rattle.page_table.specs.Table.{rows, no_row, big_of, first_at, is_signal, takes}
-use Rattle.page_read.specs.Judge.{judge_on, judge_of}
+use Rattle.page_write.specs.page_table.specs.Table.{rows, no_row, big_of, first_at, is_signal, takes}
+use Rattle.page_write.specs.page_read.specs.Judge.{judge_on, judge_of}
 use Rattle.page_write.specs.Raws.{put_raw}
 
 -- 7, then 5 for the new label, with the start of the changed signal: by whether the number fits, and whether it has a label

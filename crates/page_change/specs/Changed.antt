@@ -1,11 +1,11 @@
 -- What an accepted change passed.
 use Rattle.std.specs.Prelude.{ℕ, ◌≡◌, Bool, true, List, ℤ}
-use Rattle.payload.specs.Payload.{number_of}
+use Rattle.page_write.specs.payload.specs.Payload.{number_of}
 use Rattle.signal.specs.Raw.{fits_in, bits_in}
-use Rattle.page_table.specs.declared.Interface.{Interface}
-use Rattle.page_table.specs.declared.Row.{Row}
-use Rattle.page_table.specs.Table.{big_of, takes}
-use Rattle.page_table.specs.Listed.{SignalAt}
+use Rattle.page_write.specs.page_table.specs.declared.Interface.{Interface}
+use Rattle.page_write.specs.page_table.specs.declared.Row.{Row}
+use Rattle.page_write.specs.page_table.specs.Table.{big_of, takes}
+use Rattle.page_write.specs.page_table.specs.Listed.{SignalAt}
 use Rattle.page_write.specs.Taken.{Taken}
 use Rattle.page_write.specs.Raws.{put_raw}
 

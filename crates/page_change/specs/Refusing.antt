@@ -1,12 +1,12 @@
 -- 01, "Numbers given back": the case of each refusal that changing gives beside the frame's own.
 use Rattle.std.specs.Prelude.{ℕ, ◌≡◌, Bool, true, false, List, ℤ}
 use Rattle.signal.specs.Raw.{fits_in, bits_in}
-use Rattle.page_table.specs.declared.Interface.{Interface}
-use Rattle.page_table.specs.declared.Row.{Row}
-use Rattle.page_table.specs.Table.{takes}
-use Rattle.page_table.specs.Listed.{SignalAt}
-use Rattle.page_read.specs.declared.Judged.TheVariants.{Frame}
-use Rattle.page_read.specs.Judge.{judge_on}
+use Rattle.page_write.specs.page_table.specs.declared.Interface.{Interface}
+use Rattle.page_write.specs.page_table.specs.declared.Row.{Row}
+use Rattle.page_write.specs.page_table.specs.Table.{takes}
+use Rattle.page_write.specs.page_table.specs.Listed.{SignalAt}
+use Rattle.page_write.specs.page_read.specs.declared.Judged.TheVariants.{Frame}
+use Rattle.page_write.specs.page_read.specs.Judge.{judge_on}
 
 -- 13: "no signal of the message starts at that bit", of a frame that is accepted
 pub record NoneStarts (iface : Interface) (m : ℕ) (x : Bool) (bs : List ℕ) (s : ℕ) : Type 0 where

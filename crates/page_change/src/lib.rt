@@ -1,13 +1,15 @@
 // Changing one signal of a frame in place: the reader's refusals, then 13, 7 and 5, and no byte is touched but the signal's. For whoever corrects frames on
 // their way. Its functions take any input.
 ghost use Rattle.std.specs.Prelude.{◌≡◌};
-ghost use Rattle.page_table.specs.Table.{Fine};
+ghost use Rattle.page_write.specs.page_table.specs.Table.{Fine};
 ghost use Rattle.page_change.specs.Change.{changed_row, change_on, change_of, bytes_after};
 
-use page_read::{Judged, judge_on, start_bit};
-use page_rows::{label_holds, row_to_change};
-use page_search::signal_at;
-use page_table::{Found, Interface, Row};
+// The crates among these are passed on to those above, which name them through this one.
+pub use page_write;
+use page_write::page_read::{Judged, judge_on, start_bit};
+use page_write::page_rows::{label_holds, row_to_change};
+use page_write::page_search::signal_at;
+use page_write::page_table::{Found, Interface, Row};
 use refusals::Refusal;
 use whole::store_changed;
 

@@ -10,22 +10,22 @@ use native.Mathlib.Omega.{arith}
 use lib.Dec.{eqb, ltb}
 use lib.ListN.{length}
 use borrow.Author.Tests.{eq-eqb, ne_eqb, eqb-true, eqb-false, lt-ltb, le-ltb, ltb-true, ltb-false, not-false}
-use Rattle.payload.specs.Payload.{number_of}
-use Rattle.page_table.specs.declared.Interface.{Interface}
-use Rattle.page_table.specs.declared.Row.{Row}
-use Rattle.page_table.specs.declared.Found.{Found}
-use Rattle.page_table.specs.declared.Found.TheVariants.{At, Nothing}
+use Rattle.page_search.specs.payload.specs.Payload.{number_of}
+use Rattle.page_search.specs.page_table.specs.declared.Interface.{Interface}
+use Rattle.page_search.specs.page_table.specs.declared.Row.{Row}
+use Rattle.page_search.specs.page_table.specs.declared.Found.{Found}
+use Rattle.page_search.specs.page_table.specs.declared.Found.TheVariants.{At, Nothing}
 use Rattle.page_read.specs.declared.Judged.{Judged}
 use Rattle.page_read.specs.declared.Judged.TheVariants.{Frame, Refused}
 use Rattle.refusals.specs.declared.Refusal.TheVariants.{UnknownIdentifier, TooShort, TooLong, NoLabel, UncoveredBit}
-use Rattle.page_table.specs.Messages.{message_of}
-use Rattle.page_table.specs.Table.{row_at, rows_of, bits_at, takes}
-use Rattle.page_table.specs.Interfaces.{with_id}
-use Rattle.page_table.specs.Listed.{Among}
+use Rattle.page_search.specs.page_table.specs.Messages.{message_of}
+use Rattle.page_search.specs.page_table.specs.Table.{row_at, rows_of, bits_at, takes}
+use Rattle.page_search.specs.page_table.specs.Interfaces.{with_id}
+use Rattle.page_search.specs.page_table.specs.Listed.{Among}
 use Rattle.page_read.specs.Judge.{unlabelled, offender, stray_below, judged_number, judged_row, judged_at, judge_on}
 use Rattle.page_read.specs.Refusing.{OfKind, number_in}
-use Rattle.page_table.proofs.Rules.{either_false}
-use Rattle.page_table.proofs.Interfaces.{found_has, has_found}
+use Rattle.page_search.specs.page_table.proofs.Rules.{either_false}
+use Rattle.page_search.specs.page_table.proofs.Interfaces.{found_has, has_found}
 
 -- ---- the length
 

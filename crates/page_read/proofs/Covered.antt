@@ -4,11 +4,11 @@ use mathlib.Core.Path.{◌≡◌, refl, ap, ◌∙◌, subst}
 use mathlib.Core.Bool.{Bool, true, false, not, ◌||◌}
 use Prim.Native.Nat.{ℕ, ◌*◌, ◌^◌, ◌<◌}
 use borrow.Author.Tests.{eqb-true}
-use Rattle.page_table.specs.Messages.{message_count}
-use Rattle.page_table.specs.Table.{rows, rows_of, of_kind, length_of, covered}
+use Rattle.page_search.specs.page_table.specs.Messages.{message_count}
+use Rattle.page_search.specs.page_table.specs.Table.{rows, rows_of, of_kind, length_of, covered}
 use Rattle.page_read.specs.Steps.{cleared, has_gaps}
-use Rattle.page_table.proofs.Rules.{not_both, ordered}
-use Rattle.page_table.proofs.Below.{all_below, below_at}
+use Rattle.page_search.specs.page_table.proofs.Rules.{not_both, ordered}
+use Rattle.page_search.specs.page_table.proofs.Below.{all_below, below_at}
 use Rattle.page_read.proofs.Gaps.{stray_zero, cleared_test}
 
 -- the rule, computed over the table

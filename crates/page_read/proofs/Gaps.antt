@@ -13,11 +13,11 @@ use borrow.Author.Tests.{eq-eqb, ne_eqb, eqb-true, not-true}
 use Rattle.signal.specs.Signal.{get_bits, put_bits, covers}
 use Rattle.signal.proofs.Laws.{get_lt, get_zero, bit_put, put_lt, same_bits}
 use Rattle.signal.proofs.Complement.{half_of}
-use Rattle.page_table.specs.declared.Row.{Row}
-use Rattle.page_table.specs.Table.{lowest, covered}
+use Rattle.page_search.specs.page_table.specs.declared.Row.{Row}
+use Rattle.page_search.specs.page_table.specs.Table.{lowest, covered}
 use Rattle.page_read.specs.Judge.{stray_below}
 use Rattle.page_read.specs.Steps.{cleared}
-use Rattle.page_table.proofs.Rules.{both_true, not_both, Ordered}
+use Rattle.page_search.specs.page_table.proofs.Rules.{both_true, not_both, Ordered}
 
 -- ---- clearing the signals
 

@@ -6,16 +6,16 @@ use mathlib.Core.Bool.{Bool, true, false, cond}
 use mathlib.Core.List.{List}
 use Prim.Native.Nat.{ℕ, ◌*◌, ◌<◌}
 use lib.ListN.{length}
-use Rattle.payload.specs.Payload.{number_of}
+use Rattle.page_search.specs.payload.specs.Payload.{number_of}
 use Rattle.refusals.specs.declared.Refusal.TheVariants.{UnknownIdentifier}
-use Rattle.page_table.specs.declared.Interface.{Interface}
-use Rattle.page_table.specs.declared.Interface.TheVariants.{Newer}
-use Rattle.page_table.specs.declared.Found.{Found}
-use Rattle.page_table.specs.declared.Found.TheVariants.{At, Nothing}
-use Rattle.page_table.specs.Messages.{message_count}
-use Rattle.page_table.specs.Table.{rows, row_at, first_at, has_id}
-use Rattle.page_table.specs.Interfaces.{is_on, found_on, with_id}
-use Rattle.page_table.proofs.Interfaces.{found_own, found_has}
+use Rattle.page_search.specs.page_table.specs.declared.Interface.{Interface}
+use Rattle.page_search.specs.page_table.specs.declared.Interface.TheVariants.{Newer}
+use Rattle.page_search.specs.page_table.specs.declared.Found.{Found}
+use Rattle.page_search.specs.page_table.specs.declared.Found.TheVariants.{At, Nothing}
+use Rattle.page_search.specs.page_table.specs.Messages.{message_count}
+use Rattle.page_search.specs.page_table.specs.Table.{rows, row_at, first_at, has_id}
+use Rattle.page_search.specs.page_table.specs.Interfaces.{is_on, found_on, with_id}
+use Rattle.page_search.specs.page_table.proofs.Interfaces.{found_own, found_has}
 use Rattle.page_read.specs.declared.Judged.TheVariants.{Frame, Refused}
 use Rattle.page_read.specs.Judge.{judged_row, judged_at, judged_for, judge_on, judge_of, judge_from}
 use Rattle.page_read.proofs.Answers.{Reached, reached_frame, taken}

@@ -9,19 +9,19 @@ use Prim.Native.Nat.{ℕ, suc, ◌*◌, ◌^◌, ◌<◌, ◌≤◌, min}
 use native.Mathlib.Omega.{arith}
 use lib.Dec.{eqb}
 use lib.ListN.{length}
-use Rattle.payload.specs.Payload.{number_of}
-use Rattle.page_table.specs.declared.Interface.{Interface}
-use Rattle.page_table.specs.declared.Row.{Row}
+use Rattle.page_search.specs.payload.specs.Payload.{number_of}
+use Rattle.page_search.specs.page_table.specs.declared.Interface.{Interface}
+use Rattle.page_search.specs.page_table.specs.declared.Row.{Row}
 use Rattle.page_read.specs.declared.Offence.{Offence}
 use Rattle.page_read.specs.declared.Offence.TheVariants.{Start, Nothing}
 use Rattle.page_read.specs.declared.Judged.TheVariants.{Frame, Refused}
 use Rattle.refusals.specs.declared.Refusal.TheVariants.{NoLabel, UncoveredBit}
-use Rattle.page_table.specs.Table.{row_at, rows_of, length_of, bits_at, takes}
-use Rattle.page_table.specs.Listed.{Among}
+use Rattle.page_search.specs.page_table.specs.Table.{row_at, rows_of, length_of, bits_at, takes}
+use Rattle.page_search.specs.page_table.specs.Listed.{Among}
 use Rattle.page_read.specs.Judge.{unlabelled, offends, offender, stray_below, judged_number, judge_on}
 use Rattle.page_read.specs.Refusing.{number_in, SomeOffence, FirstOffence}
 use Rattle.page_read.specs.Steps.{offence_of, cleared, judged_by}
-use Rattle.page_table.proofs.Rules.{not_both, Ordered, ordered}
+use Rattle.page_search.specs.page_table.proofs.Rules.{not_both, Ordered, ordered}
 use Rattle.page_read.proofs.Gaps.{cleared_test}
 use Rattle.page_read.proofs.Answers.{Reached, reached, fifth, reached_kind, reached_number, of_kind_lem}
 

@@ -12,15 +12,15 @@ use borrow.Author.Tests.{eqb-true, eqb-false, ltb-true, ltb-false}
 use Rattle.refusals.specs.declared.Refusal.{Refusal}
 use Rattle.refusals.specs.declared.Refusal.TheVariants.{UnknownIdentifier, TooShort, TooLong, NoLabel, UncoveredBit}
 use Rattle.refusals.specs.Refusals as refusals
-use Rattle.payload.specs.Payload.{number_of, Bytes}
-use Rattle.page_table.specs.declared.Interface.{Interface}
-use Rattle.page_table.specs.declared.Row.{Row}
-use Rattle.page_table.specs.declared.Found.{Found}
-use Rattle.page_table.specs.declared.Found.TheVariants.{At, Nothing}
-use Rattle.page_table.specs.Messages.{message_of}
-use Rattle.page_table.specs.Table.{rows, row_at, rows_of}
-use Rattle.page_table.specs.Interfaces.{with_id, Has}
-use Rattle.page_table.proofs.Interfaces.{found_has, has_found, on_none}
+use Rattle.page_search.specs.payload.specs.Payload.{number_of, Bytes}
+use Rattle.page_search.specs.page_table.specs.declared.Interface.{Interface}
+use Rattle.page_search.specs.page_table.specs.declared.Row.{Row}
+use Rattle.page_search.specs.page_table.specs.declared.Found.{Found}
+use Rattle.page_search.specs.page_table.specs.declared.Found.TheVariants.{At, Nothing}
+use Rattle.page_search.specs.page_table.specs.Messages.{message_of}
+use Rattle.page_search.specs.page_table.specs.Table.{rows, row_at, rows_of}
+use Rattle.page_search.specs.page_table.specs.Interfaces.{with_id, Has}
+use Rattle.page_search.specs.page_table.proofs.Interfaces.{found_has, has_found, on_none}
 use Rattle.page_read.specs.declared.Judged.{Judged}
 use Rattle.page_read.specs.declared.Judged.TheVariants.{Frame, Refused}
 use Rattle.page_read.specs.Judge.{unlabelled, offender, stray_below, judged_number, judged_row, judged_at, judge_on}

@@ -7,23 +7,23 @@ use mathlib.Core.List.{List}
 use native.Mathlib.Omega.{arith}
 use Prim.Native.Nat.{ℕ, ◌*◌, ◌^◌, ◌<◌, ◌≤◌}
 use lib.ListN.{length, drop, take}
-use Rattle.payload.specs.Payload.{number_of, Bytes}
-use Rattle.payload.proofs.Orders.{number_bound}
-use Rattle.payload.proofs.Stored.{number_in}
+use Rattle.page_search.specs.payload.specs.Payload.{number_of, Bytes}
+use Rattle.page_search.specs.payload.proofs.Orders.{number_bound}
+use Rattle.page_search.specs.payload.proofs.Stored.{number_in}
 use Rattle.refusals.specs.declared.Refusal.{Refusal}
-use Rattle.page_table.specs.declared.Interface.{Interface}
-use Rattle.page_table.specs.declared.Found.{Found}
-use Rattle.page_table.specs.declared.Found.TheVariants.{At, Nothing}
-use Rattle.page_table.specs.declared.FoundMessage.TheVariants as message
-use Rattle.page_table.specs.declared.Row.{Row}
+use Rattle.page_search.specs.page_table.specs.declared.Interface.{Interface}
+use Rattle.page_search.specs.page_table.specs.declared.Found.{Found}
+use Rattle.page_search.specs.page_table.specs.declared.Found.TheVariants.{At, Nothing}
+use Rattle.page_search.specs.page_table.specs.declared.FoundMessage.TheVariants as message
+use Rattle.page_search.specs.page_table.specs.declared.Row.{Row}
 use Rattle.page_read.specs.declared.Judged.TheVariants.{Refused}
-use Rattle.page_table.specs.Messages.{message_count}
-use Rattle.page_table.specs.Table.{rows, row_at, rows_of, has_id, first_at, block, length_of, with_message}
+use Rattle.page_search.specs.page_table.specs.Messages.{message_count}
+use Rattle.page_search.specs.page_table.specs.Table.{rows, row_at, rows_of, has_id, first_at, block, length_of, with_message}
 use Rattle.page_read.specs.Judge.{judged_number, wrong_length, judged_row, judged_for, judge_from}
 use Rattle.page_read.specs.Steps.{offence_of, cleared, judged_by}
-use Rattle.page_table.proofs.Rules.{short_length}
-use Rattle.page_table.proofs.Firsts.{first_id}
-use Rattle.page_table.proofs.Listed.{found_listed}
+use Rattle.page_search.specs.page_table.proofs.Rules.{short_length}
+use Rattle.page_search.specs.page_table.proofs.Firsts.{first_id}
+use Rattle.page_search.specs.page_table.proofs.Listed.{found_listed}
 use Rattle.page_read.proofs.Offenders.{judged_by_lem}
 
 -- what the search for the identifier decides

@@ -8,20 +8,20 @@ use Prim.Native.Nat.{ℕ, ◌*◌, ◌<◌, ◌≤◌}
 use native.Mathlib.Omega.{arith}
 use lib.ListN.{length}
 use Rattle.signal.specs.Signal.{get_bits}
-use Rattle.payload.specs.Payload.{number_of, bit_at, Bytes}
-use Rattle.payload.specs.Order.{place}
+use Rattle.page_search.specs.payload.specs.Payload.{number_of, bit_at, Bytes}
+use Rattle.page_search.specs.payload.specs.Order.{place}
 use Rattle.signal.proofs.Complement.{half_of}
-use Rattle.payload.proofs.Words.{place_lt, place_place, bit_of_lem, bit_past}
-use Rattle.page_table.specs.declared.Interface.{Interface}
-use Rattle.page_table.specs.declared.Row.{Row}
+use Rattle.page_search.specs.payload.proofs.Words.{place_lt, place_place, bit_of_lem, bit_past}
+use Rattle.page_search.specs.page_table.specs.declared.Interface.{Interface}
+use Rattle.page_search.specs.page_table.specs.declared.Row.{Row}
 use Rattle.page_read.specs.declared.Judged.TheVariants.{Frame, Refused}
 use Rattle.refusals.specs.declared.Refusal.TheVariants.{UncoveredBit}
-use Rattle.page_table.specs.Table.{row_at, rows_of, length_of, big_of, HasBit, covered}
-use Rattle.page_table.specs.Listed.{Among}
+use Rattle.page_search.specs.page_table.specs.Table.{row_at, rows_of, length_of, big_of, HasBit, covered}
+use Rattle.page_search.specs.page_table.specs.Listed.{Among}
 use Rattle.page_read.specs.Judge.{unlabelled, stray_below, judged_number, judge_on}
 use Rattle.page_read.specs.Refusing.{number_in, Uncovered}
-use Rattle.page_table.proofs.Heads.{says}
-use Rattle.page_table.proofs.PageBits.{no_signal_lem, no_place}
+use Rattle.page_search.specs.page_table.proofs.Heads.{says}
+use Rattle.page_search.specs.page_table.proofs.PageBits.{no_signal_lem, no_place}
 use Rattle.page_read.proofs.Gaps.{stray_told, stray_none}
 use Rattle.page_read.proofs.Answers.{Reached, reached, reached_frame, taken, sixth, reached_kind, reached_number, of_kind_lem, labelled_each, each_labelled}
 

@@ -1,18 +1,18 @@
 -- What reading a frame answers: 01, "Reading gives 3 to 6", the lowest that applies.
 use Rattle.std.specs.Prelude.{ℕ, zero, suc, ◌*◌, min, Bool, false, cond, not, ◌&&◌, ◌||◌, List, [], ◌∷◌, eqb, ltb, length, get_or}
 use Rattle.signal.specs.Signal.{get_bits}
-use Rattle.payload.specs.Payload.{number_of}
-use Rattle.page_table.specs.declared.Interface.{Interface}
-use Rattle.page_table.specs.declared.Interface.TheVariants.{Newer}
-use Rattle.page_table.specs.declared.Row.{Row}
-use Rattle.page_table.specs.declared.Found.{Found}
-use Rattle.page_table.specs.declared.Found.TheVariants.{At, Nothing}
+use Rattle.page_search.specs.payload.specs.Payload.{number_of}
+use Rattle.page_search.specs.page_table.specs.declared.Interface.{Interface}
+use Rattle.page_search.specs.page_table.specs.declared.Interface.TheVariants.{Newer}
+use Rattle.page_search.specs.page_table.specs.declared.Row.{Row}
+use Rattle.page_search.specs.page_table.specs.declared.Found.{Found}
+use Rattle.page_search.specs.page_table.specs.declared.Found.TheVariants.{At, Nothing}
 use Rattle.page_read.specs.declared.Judged.{Judged}
 use Rattle.page_read.specs.declared.Judged.TheVariants.{Frame, Refused}
 use Rattle.refusals.specs.declared.Refusal.{Refusal}
 use Rattle.refusals.specs.declared.Refusal.TheVariants.{UnknownIdentifier, TooShort, TooLong, NoLabel, UncoveredBit}
-use Rattle.page_table.specs.Table.{rows, no_row, row_at, rows_of, has_id, first_at, bits_at, covered, takes}
-use Rattle.page_table.specs.Interfaces.{is_on, with_id}
+use Rattle.page_search.specs.page_table.specs.Table.{rows, no_row, row_at, rows_of, has_id, first_at, bits_at, covered, takes}
+use Rattle.page_search.specs.page_table.specs.Interfaces.{is_on, with_id}
 
 -- 5: "a label signal holds a number without a label"
 unfoldable pub unlabelled : ℕ → List Row → Bool

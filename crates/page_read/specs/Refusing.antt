@@ -2,13 +2,13 @@
 use Rattle.std.specs.Prelude.{ℕ, ◌*◌, ◌≤◌, ◌<◌, ◌≡◌, Bool, true, List, length}
 use Rattle.refusals.specs.declared.Refusal.{Refusal}
 use Rattle.refusals.specs.Refusals as refusals
-use Rattle.payload.specs.Payload.{number_of, bit_at}
-use Rattle.page_table.specs.declared.Interface.{Interface}
-use Rattle.page_table.specs.declared.Row.{Row}
-use Rattle.page_table.specs.Messages.{message_of}
-use Rattle.page_table.specs.Table.{rows_of, bits_at, takes, HasBit}
-use Rattle.page_table.specs.Interfaces.{Has}
-use Rattle.page_table.specs.Listed.{Among, SignalAt}
+use Rattle.page_search.specs.payload.specs.Payload.{number_of, bit_at}
+use Rattle.page_search.specs.page_table.specs.declared.Interface.{Interface}
+use Rattle.page_search.specs.page_table.specs.declared.Row.{Row}
+use Rattle.page_search.specs.page_table.specs.Messages.{message_of}
+use Rattle.page_search.specs.page_table.specs.Table.{rows_of, bits_at, takes, HasBit}
+use Rattle.page_search.specs.page_table.specs.Interfaces.{Has}
+use Rattle.page_search.specs.page_table.specs.Listed.{Among, SignalAt}
 use Rattle.page_read.specs.declared.Judged.{Judged}
 use Rattle.page_read.specs.declared.Judged.TheVariants.{Refused}
 use Rattle.page_read.specs.Judge.{offends}

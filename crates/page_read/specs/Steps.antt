@@ -1,13 +1,13 @@
 -- Inner steps: what the walk over a message's rows computes. The promise of Judge does not speak of them.
 use Rattle.std.specs.Prelude.{ℕ, Bool, cond, ◌||◌, List, [], ◌∷◌, eqb}
 use Rattle.signal.specs.Signal.{put_bits}
-use Rattle.page_table.specs.declared.Row.{Row}
+use Rattle.page_search.specs.page_table.specs.declared.Row.{Row}
 use Rattle.page_read.specs.declared.Judged.{Judged}
 use Rattle.page_read.specs.declared.Judged.TheVariants.{Frame, Refused}
 use Rattle.refusals.specs.declared.Refusal.TheVariants.{NoLabel, UncoveredBit}
 use Rattle.page_read.specs.declared.Offence.{Offence}
 use Rattle.page_read.specs.declared.Offence.TheVariants.{Start, Nothing}
-use Rattle.page_table.specs.Table.{lowest, bits_at, takes}
+use Rattle.page_search.specs.page_table.specs.Table.{lowest, bits_at, takes}
 
 -- the first signal that holds a number without a label
 unfoldable pub offence_of : ℕ → List Row → Offence

@@ -1,11 +1,11 @@
 // 5 of a message without gaps, by its rows with labels alone: its every bit is a signal's, so that 6 is never given.
 ghost use Rattle.std.specs.Prelude.{◌≡◌, false};
-ghost use Rattle.page_table.specs.Table.{rows_of};
+ghost use Rattle.page_search.specs.page_table.specs.Table.{rows_of};
 ghost use Rattle.page_read.specs.Steps.{offence_of, judged_by, has_gaps};
 
 use crate::signals::offence_at;
 use crate::{Judged, Offence};
-use page_rows::{
+use page_search::page_rows::{
     CE_STATE, COMMUNICATION_PROTOCOL, CONTROLLER_STATE, CP_STATE, FINISHED_STATE, ID_STATE,
     LOWER_OUTPUT_VOLTAGE, OLD_CE_STATE, OLD_COMMUNICATION_PROTOCOL, OLD_CONTROLLER_STATE,
     OLD_CP_STATE, OLD_FINISHED_STATE, OLD_ID_STATE, OLD_PLUG_AND_PINS, OLD_STOP_ORIGIN,

@@ -3,9 +3,12 @@
 ghost use Rattle.std.specs.Prelude.{◌≡◌};
 ghost use Rattle.page_read.specs.Judge.{judge_on, judge_of, judge_from};
 
-use page_rows::is_on;
+// The crates among these are passed on to those above, which name them through this one.
+pub use page_search;
+use page_search::page_rows::is_on;
+use page_search::page_table::{FoundMessage, Interface};
 use page_search::with_id;
-use page_table::{FoundMessage, Interface};
+pub use page_search::{page_rows, page_table, payload};
 use refusals::Refusal;
 
 mod labels; // labels.rt: 5 of a message that has no bit without a signal

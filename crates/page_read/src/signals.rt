@@ -1,12 +1,12 @@
 // The walk over the rows of one message, which stand together from its first row on, and what it does at a row.
 ghost use Rattle.std.specs.Prelude.{◌≡◌, cond, ◌%◌, drop};
-ghost use Rattle.page_table.specs.Layout.{row_of};
-ghost use Rattle.page_table.specs.Table.{rows, Fine, block, bits_at, takes};
+ghost use Rattle.page_search.specs.page_table.specs.Layout.{row_of};
+ghost use Rattle.page_search.specs.page_table.specs.Table.{rows, Fine, block, bits_at, takes};
 ghost use Rattle.page_read.specs.Steps.{offence_of, cleared, judged_by};
 
 use crate::{Judged, Offence, Sifted};
-use page_rows::{ROW_COUNT, label_holds, row_of, row_to_sift};
-use page_table::{Line, Row};
+use page_search::page_rows::{ROW_COUNT, label_holds, row_of, row_to_sift};
+use page_search::page_table::{Line, Row};
 use refusals::Refusal;
 
 // The start as refusal 5 carries it: no signal of 8 bytes starts above bit 63.

@@ -4,11 +4,11 @@ use native.Mathlib.Omega.{arith}
 use mathlib.Core.Path.{◌≡◌, refl}
 use mathlib.Core.List.{List, [], ◌∷◌, ◌++◌}
 use lib.ListN.{get_or, length}
-use Rattle.page_table.specs.Charger.{charger_count, charger_rows}
-use Rattle.page_table.specs.Safety.{safety_rows}
-use Rattle.page_table.specs.Older.{older_rows}
-use Rattle.page_table.specs.Rest.{rest_rows}
-use Rattle.page_table.specs.Table.{rows, no_row}
+use Rattle.page_charger.specs.page_table.specs.Charger.{charger_count, charger_rows}
+use Rattle.page_charger.specs.page_table.specs.Safety.{safety_rows}
+use Rattle.page_charger.specs.page_table.specs.Older.{older_rows}
+use Rattle.page_charger.specs.page_table.specs.Rest.{rest_rows}
+use Rattle.page_charger.specs.page_table.specs.Table.{rows, no_row}
 use Rattle.page_charger.specs.Past.{past}
 
 -- what stands in a list stands in a longer one that begins with it

@@ -1,8 +1,8 @@
 // The messages, by their kinds: what every row of a message says of it. A search by identifier goes through the arrays, and a row names its own by its kind.
 ghost use Rattle.std.specs.Prelude.{◌≡◌, get_or};
-ghost use Rattle.page_table.specs.Messages.{messages, no_message};
+ghost use Rattle.page_charger.specs.page_table.specs.Messages.{messages, no_message};
 
-use page_table::Message;
+use page_charger::page_table::Message;
 
 // Document 000, the base messages: extended identifiers, byte 0 lowest.
 const POWER_MODULES_STATUS: Message = Message(0x63000, true, 8, false, 0);

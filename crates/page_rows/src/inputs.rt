@@ -1,10 +1,10 @@
 // The rows of document 000 that 02's Req 14 adds, from ADM_CO_CUI1_Inputs to OCPP_Control, in the same order.
 ghost use Rattle.std.specs.Prelude.{◌≡◌, ◌≤◌, ◌<◌, get_or};
-ghost use Rattle.page_table.specs.Table.{rows, no_row};
-ghost use Rattle.page_table.specs.Layout.{row_of};
+ghost use Rattle.page_charger.specs.page_table.specs.Table.{rows, no_row};
+ghost use Rattle.page_charger.specs.page_table.specs.Layout.{row_of};
 
 use crate::NO_LINE;
-use page_table::Line;
+use page_charger::page_table::Line;
 
 // The rows with labels, of messages whose every bit is a signal's: the reader asks for them by name.
 pub const CP_STATE: Line = Line(40, 0, 8, 0, false, 0b1001001001001);

@@ -1,11 +1,13 @@
 // The table of the maker's pages in code, its messages and rows as constants: a row by its place, and what a kind's message says. For `page_search` and every
 // crate that goes by the table. Every public function takes any input.
 ghost use Rattle.std.specs.Prelude.{◌≡◌};
-ghost use Rattle.page_table.specs.Interfaces.{is_on};
-ghost use Rattle.page_table.specs.Layout.{row_of};
-ghost use Rattle.page_table.specs.Table.{identifier_of, length_of, extended_of, big_of, takes};
+ghost use Rattle.page_charger.specs.page_table.specs.Interfaces.{is_on};
+ghost use Rattle.page_charger.specs.page_table.specs.Layout.{row_of};
+ghost use Rattle.page_charger.specs.page_table.specs.Table.{identifier_of, length_of, extended_of, big_of, takes};
 
-use page_table::{Interface, KIND_COUNT, Line, REST_KIND, Row, SAFETY_KIND};
+// The crates among these are passed on to those above, which name them through this one.
+use page_charger::page_table::{Interface, KIND_COUNT, Line, REST_KIND, Row, SAFETY_KIND};
+pub use page_charger::{page_table, payload};
 
 mod contents; // contents.rt: the messages, and where the rows of each begin
 mod safety; // safety.rt: the rows of document 004

@@ -1,11 +1,11 @@
 // The rows of document 001, the pages of the older controllers: extended identifiers, byte 0 lowest. In the order of their identifiers and, within a message,
 // of their starts.
 ghost use Rattle.std.specs.Prelude.{◌≡◌, ◌≤◌, ◌<◌, get_or};
-ghost use Rattle.page_table.specs.Table.{rows, no_row};
-ghost use Rattle.page_table.specs.Layout.{row_of};
+ghost use Rattle.page_charger.specs.page_table.specs.Table.{rows, no_row};
+ghost use Rattle.page_charger.specs.page_table.specs.Layout.{row_of};
 
 use crate::NO_LINE;
-use page_table::Line;
+use page_charger::page_table::Line;
 
 // The rows with labels, of messages whose every bit is a signal's: the reader asks for them by name.
 pub const OLD_SYSTEM_ENABLE: Line = Line(12, 48, 8, 48, false, 0b11);

@@ -1,11 +1,11 @@
 // The rows of document 004, the pages of the safety controller: standard identifiers (02, Req 04: "our choice"), byte 0 highest. In the order of their
 // identifiers and, within a message, of their starts.
 ghost use Rattle.std.specs.Prelude.{◌≡◌, ◌≤◌, ◌<◌, get_or};
-ghost use Rattle.page_table.specs.Table.{rows, no_row};
-ghost use Rattle.page_table.specs.Layout.{row_of};
+ghost use Rattle.page_charger.specs.page_table.specs.Table.{rows, no_row};
+ghost use Rattle.page_charger.specs.page_table.specs.Layout.{row_of};
 
 use crate::NO_LINE;
-use page_table::Line;
+use page_charger::page_table::Line;
 
 pub const END: usize = 61;
 

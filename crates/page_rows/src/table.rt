@@ -1,9 +1,9 @@
 // The table: the rows of all documents, one behind the other.
 ghost use Rattle.std.specs.Prelude.{◌≡◌, get_or};
-ghost use Rattle.page_table.specs.Table.{rows, no_row};
+ghost use Rattle.page_charger.specs.page_table.specs.Table.{rows, no_row};
 
 use crate::{NO_ROW, inputs, older, row_of, safety, vehicle};
-use page_table::Row;
+use page_charger::page_table::Row;
 
 pub const ROW_COUNT: usize = 206;
 

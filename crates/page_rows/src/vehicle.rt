@@ -1,11 +1,11 @@
 // The rows of document 000 that 02's Req 14 adds, from Sequence_Control to EV_Information_Energy: extended identifiers, byte 0 lowest. In the order of their
 // identifiers and, within a message, of their starts.
 ghost use Rattle.std.specs.Prelude.{◌≡◌, ◌≤◌, ◌<◌, get_or};
-ghost use Rattle.page_table.specs.Table.{rows, no_row};
-ghost use Rattle.page_table.specs.Layout.{row_of};
+ghost use Rattle.page_charger.specs.page_table.specs.Table.{rows, no_row};
+ghost use Rattle.page_charger.specs.page_table.specs.Layout.{row_of};
 
 use crate::NO_LINE;
-use page_table::Line;
+use page_charger::page_table::Line;
 
 pub const END: usize = 169;
 

@@ -1,11 +1,11 @@
 // The search by identifier: through the messages, as one number each.
 ghost use Rattle.std.specs.Prelude.{◌≡◌};
-ghost use Rattle.page_table.specs.Messages.{kind_count, message_count, rest_kind, key_of};
-ghost use Rattle.page_table.specs.Table.{rows, has_id, first_at, among, kind_found, with_message};
-ghost use Rattle.page_table.specs.Interfaces.{with_id};
+ghost use Rattle.page_rows.specs.page_table.specs.Messages.{kind_count, message_count, rest_kind, key_of};
+ghost use Rattle.page_rows.specs.page_table.specs.Table.{rows, has_id, first_at, among, kind_found, with_message};
+ghost use Rattle.page_rows.specs.page_table.specs.Interfaces.{with_id};
 
+use page_rows::page_table::{Found, FoundMessage, Interface, KIND_COUNT, REST_KIND};
 use page_rows::{MESSAGES, OLDER, REST, is_on, message_at};
-use page_table::{Found, FoundMessage, Interface, KIND_COUNT, REST_KIND};
 
 // How many messages document 001 has, and the rest of 000.
 const OLDER_COUNT: usize = 18;

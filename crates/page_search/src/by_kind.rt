@@ -1,9 +1,9 @@
 // The search by kind and start: the place of a kind's first row is told by its message, and its rows stand together.
 ghost use Rattle.std.specs.Prelude.{◌≡◌};
-ghost use Rattle.page_table.specs.Table.{rows, first_at, has_kind, is_signal};
+ghost use Rattle.page_rows.specs.page_table.specs.Table.{rows, first_at, has_kind, is_signal};
 
+use page_rows::page_table::{Found, MESSAGE_COUNT};
 use page_rows::{ROW_COUNT, message_at, row_to_seek};
-use page_table::{Found, MESSAGE_COUNT};
 
 pub fn first_of_kind(kind: usize) -> Found
     ensures { result ≡ first_at (has_kind kind) 0 rows }

@@ -3,5 +3,8 @@
 mod by_id; // by_id.rt: the search by identifier
 mod by_kind; // by_kind.rt: the searches by kind and start
 
+// The crates among these are passed on to those above, which name them through this one.
 pub use by_id::{message_on, with_id};
 pub use by_kind::{first_of_kind, signal_at};
+pub use page_rows;
+pub use page_rows::{page_table, payload};

@@ -6,11 +6,11 @@ use Rattle.signal.specs.Twos.{of_signed}
 use Rattle.signal.specs.Raw.{fits_in, bits_in, fits_of, bits_of}
 use Rattle.signal.proofs.Totals.{put_in}
 use Rattle.signal.proofs.RawLaws.{fits_in_lem, bits_in_lem, bits_lt}
-use Rattle.page_table.specs.declared.Row.{Row}
-use Rattle.page_table.specs.Rules.{every}
-use Rattle.page_table.specs.Table.{rows, row_count, no_row, Fine, lowest, takes}
+use Rattle.page_read.specs.page_table.specs.declared.Row.{Row}
+use Rattle.page_read.specs.page_table.specs.Rules.{every}
+use Rattle.page_read.specs.page_table.specs.Table.{rows, row_count, no_row, Fine, lowest, takes}
 use Rattle.page_write.specs.Raws.{row_takes, put_raw}
-use Rattle.page_table.proofs.Rules.{both_true, every_at, rows_length}
+use Rattle.page_read.specs.page_table.proofs.Rules.{both_true, every_at, rows_length}
 use Rattle.page_write.proofs.Words.{low_word}
 
 -- no row has a label from 63 on, so that packing may take 63 for every number from there on

@@ -1,11 +1,11 @@
 -- One raw number of a kind by its place: the rows of a message stand together, so that the number at place p is that of the row p after the first.
 use Rattle.std.proofs.Common.{◌≡◌, ℕ, zero, suc, ◌+◌, ◌<◌, ◌≤◌, ◌⊎◌, List, [], ◌∷◌, get_or, drop, ℤ, pos, refl, ap, ◌∙◌, inl, inr, le_of_suc-le-suc, not-suc-le-zero, arith}
 use Rattle.signal.proofs.Complement.{half_of}
-use Rattle.page_table.specs.declared.Row.{Row}
-use Rattle.page_table.specs.Table.{rows, row_at, row_count, block}
+use Rattle.page_read.specs.page_table.specs.declared.Row.{Row}
+use Rattle.page_read.specs.page_table.specs.Table.{rows, row_at, row_count, block}
 use Rattle.page_write.specs.Raws.{whole_at, wholes_of, pad}
-use Rattle.page_table.proofs.Rules.{kind_is, kind_between}
-use Rattle.page_table.proofs.Walk.{block_in, block_out, block_end}
+use Rattle.page_read.specs.page_table.proofs.Rules.{kind_is, kind_between}
+use Rattle.page_read.specs.page_table.proofs.Walk.{block_in, block_out, block_end}
 
 -- the number at a place among those of the rows of kind k that stand together from row i on
 abbrev number_at : ℕ → ℕ → ℕ → ℕ → ℤ

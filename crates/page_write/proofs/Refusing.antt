@@ -5,9 +5,9 @@ use borrow.Author.Tests.{lt-leb}
 use Rattle.refusals.specs.declared.Refusal.{Refusal}
 use Rattle.refusals.specs.declared.Refusal.TheVariants.{NoRawNumber, ShortBuffer}
 use Rattle.refusals.specs.Refusals.{number_of}
-use Rattle.page_table.specs.declared.Row.{Row}
-use Rattle.page_table.specs.Table.{no_row, rows_of, length_of}
-use Rattle.page_table.proofs.Rules.{not_both}
+use Rattle.page_read.specs.page_table.specs.declared.Row.{Row}
+use Rattle.page_read.specs.page_table.specs.Table.{no_row, rows_of, length_of}
+use Rattle.page_read.specs.page_table.proofs.Rules.{not_both}
 use Rattle.page_write.specs.declared.Written.{Written}
 use Rattle.page_write.specs.declared.Written.TheVariants.{Refused}
 use Rattle.page_write.specs.Raws.{row_takes, all_take, can_write, written_by, write_raws_of}

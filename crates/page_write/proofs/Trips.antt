@@ -4,27 +4,27 @@
 use Rattle.std.proofs.Common.{◌≡◌, ℕ, zero, suc, ◌+◌, ◌-◌, ◌*◌, ◌^◌, ◌<◌, ◌≤◌, Bool, true, false, cond, not, ◌&&◌, ◌||◌, leb, List, [], ◌∷◌, length, get_or, take, ℤ, pos, sym, refl, ap, ◌∙◌, subst, ap₂, inl, inr, zero-le, le_of_suc-le-suc, not-suc-le-zero, arith, pow_pos, eq-eqb, le-leb, leb-true}
 use borrow.Author.Tests.{not-false}
 use Rattle.signal.specs.Signal.{get_bits, put_bits, covers}
-use Rattle.payload.specs.Payload.{number_of, bytes_of, Bytes}
+use Rattle.page_read.specs.payload.specs.Payload.{number_of, bytes_of, Bytes}
 use Rattle.signal.specs.Raw.{fits_in, bits_in, value_in}
 use Rattle.signal.proofs.Laws.{get_lt, get_get, get_zero, get_put, get_put_apart, bit_put, bit_kept, put_lt, same_bits, covers_in, Apart}
 use Rattle.signal.proofs.RawLaws.{value_bits, bits_value, value_fits, bits_lt}
-use Rattle.payload.proofs.Orders.{number_bound, length_of_lem, number_of_lem, bytes_of_lem}
-use Rattle.page_table.specs.declared.Interface.{Interface}
-use Rattle.page_table.specs.declared.Interface.TheVariants.{Newer}
-use Rattle.page_table.specs.declared.Row.{Row}
+use Rattle.page_read.specs.payload.proofs.Orders.{number_bound, length_of_lem, number_of_lem, bytes_of_lem}
+use Rattle.page_read.specs.page_table.specs.declared.Interface.{Interface}
+use Rattle.page_read.specs.page_table.specs.declared.Interface.TheVariants.{Newer}
+use Rattle.page_read.specs.page_table.specs.declared.Row.{Row}
 use Rattle.page_read.specs.declared.Judged.TheVariants.{Frame}
-use Rattle.page_table.specs.declared.Found.TheVariants.{At}
-use Rattle.page_table.specs.Interfaces.{is_on, with_id}
-use Rattle.page_table.specs.Table.{rows, first_at, has_id, no_row, rows_of, head_row, identifier_of, extended_of, length_of, big_of, lowest, bits_at, Fine, covered, takes}
+use Rattle.page_read.specs.page_table.specs.declared.Found.TheVariants.{At}
+use Rattle.page_read.specs.page_table.specs.Interfaces.{is_on, with_id}
+use Rattle.page_read.specs.page_table.specs.Table.{rows, first_at, has_id, no_row, rows_of, head_row, identifier_of, extended_of, length_of, big_of, lowest, bits_at, Fine, covered, takes}
 use Rattle.page_read.specs.Judge.{unlabelled, stray_below, judged_number, judge_on, judge_of}
-use Rattle.page_table.specs.Table.{signal_count}
+use Rattle.page_read.specs.page_table.specs.Table.{signal_count}
 use Rattle.page_write.specs.Raws.{whole_at, wholes_of, pad, raws_of, all_by, row_takes, all_take, put_raw, packed_on, can_write}
-use Rattle.page_table.specs.Listed.{Among}
+use Rattle.page_read.specs.page_table.specs.Listed.{Among}
 use Rattle.page_write.specs.Taken.{Taken}
 use Rattle.page_write.specs.Trips.{Back, There}
-use Rattle.page_table.proofs.Rules.{both_true, either_false, not_both, Ordered, ordered, apart_sym, few}
-use Rattle.page_table.proofs.Firsts.{id_kind_lem, first_kind, first_id, known}
-use Rattle.page_table.proofs.Interfaces.{found_own, found_has}
+use Rattle.page_read.specs.page_table.proofs.Rules.{both_true, either_false, not_both, Ordered, ordered, apart_sym, few}
+use Rattle.page_read.specs.page_table.proofs.Firsts.{id_kind_lem, first_kind, first_id, known}
+use Rattle.page_read.specs.page_table.proofs.Interfaces.{found_own, found_has}
 use Rattle.page_read.proofs.Gaps.{stray_none, stray_zero}
 use Rattle.page_read.proofs.Answers.{reached_frame, taken}
 use Rattle.page_read.proofs.Interfaces.{newer, on_own}

@@ -9,7 +9,7 @@ use Rattle.signal.specs.Twos.{of_signed}
 use Rattle.signal.specs.Raw.{fits_in, bits_in}
 use Rattle.signal.proofs.Complement.{halves, half_of}
 use Rattle.signal.proofs.Masks.{ones_shr}
-use Rattle.page_table.specs.Table.{takes}
+use Rattle.page_read.specs.page_table.specs.Table.{takes}
 
 -- ---- the lowest bits
 

@@ -4,10 +4,10 @@ use Rattle.std.proofs.Common.{◌≡◌, ℕ, ◌*◌, ◌≤◌, true, false, l
 use Rattle.refusals.specs.declared.Refusal.TheVariants.{NoRawNumber}
 use Rattle.signal.specs.Signal.{get_bits}
 use Rattle.signal.specs.Twos.{of_signed}
-use Rattle.payload.specs.Payload.{bit_at}
-use Rattle.payload.specs.Order.{walk, place}
-use Rattle.page_table.specs.Table.{rows, no_row, of_kind, rows_of, identifier_of, length_of, big_of, covered}
-use Rattle.page_table.proofs.PageBits.{no_signal_lem}
+use Rattle.page_read.specs.payload.specs.Payload.{bit_at}
+use Rattle.page_read.specs.payload.specs.Order.{walk, place}
+use Rattle.page_read.specs.page_table.specs.Table.{rows, no_row, of_kind, rows_of, identifier_of, length_of, big_of, covered}
+use Rattle.page_read.specs.page_table.proofs.PageBits.{no_signal_lem}
 use Rattle.page_write.specs.declared.Written.TheVariants.{Wrote, Refused}
 use Rattle.page_write.specs.Raws.{row_takes, all_take, write_raws_of, buffer_after}
 use Rattle.page_write.specs.Refusing.{Gives}

@@ -4,21 +4,21 @@
 use Rattle.std.proofs.Common.{◌≡◌, ℕ, ◌+◌, ◌*◌, ◌<◌, ◌≤◌, Bool, true, false, cond, leb, List, length, get_or, ℤ, pos, sym, refl, ap, ◌∙◌, subst, ap₂, arith, leb-false, leb-true}
 use Rattle.signal.specs.Signal.{get_bits}
 use Rattle.signal.specs.Raw.{bits_in}
-use Rattle.payload.specs.Payload.{stored_in, bit_at}
-use Rattle.payload.specs.Order.{place, bit_of}
+use Rattle.page_read.specs.payload.specs.Payload.{stored_in, bit_at}
+use Rattle.page_read.specs.payload.specs.Order.{place, bit_of}
 use Rattle.signal.proofs.Laws.{get_get, get_zero}
-use Rattle.payload.proofs.Stored.{stored_not}
-use Rattle.payload.proofs.Words.{bit_place}
-use Rattle.payload.proofs.Written.{stored_bit, stored_behind}
+use Rattle.page_read.specs.payload.proofs.Stored.{stored_not}
+use Rattle.page_read.specs.payload.proofs.Words.{bit_place}
+use Rattle.page_read.specs.payload.proofs.Written.{stored_bit, stored_behind}
 use Rattle.refusals.specs.declared.Refusal.{Refusal}
-use Rattle.page_table.specs.declared.Row.{Row}
-use Rattle.page_table.specs.Table.{no_row, rows_of, identifier_of, length_of, big_of, lowest, HasBit}
-use Rattle.page_table.specs.Listed.{Among}
+use Rattle.page_read.specs.page_table.specs.declared.Row.{Row}
+use Rattle.page_read.specs.page_table.specs.Table.{no_row, rows_of, identifier_of, length_of, big_of, lowest, HasBit}
+use Rattle.page_read.specs.page_table.specs.Listed.{Among}
 use Rattle.page_write.specs.declared.Written.TheVariants.{Wrote, Refused}
 use Rattle.page_write.specs.Raws.{packed_on, can_write, written_by, write_raws_of, buffer_after}
-use Rattle.page_table.proofs.Rules.{ordered, among_kept, row_message}
-use Rattle.page_table.proofs.PageBits.{no_place}
-use Rattle.page_table.proofs.Listed.{at_among}
+use Rattle.page_read.specs.page_table.proofs.Rules.{ordered, among_kept, row_message}
+use Rattle.page_read.specs.page_table.proofs.PageBits.{no_place}
+use Rattle.page_read.specs.page_table.proofs.Listed.{at_among}
 use Rattle.page_write.proofs.Trips.{can_write_lem, packed_at, packed_kept}
 
 -- what an accepted writing passed

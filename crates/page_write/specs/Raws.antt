@@ -1,14 +1,14 @@
 -- The raw whole numbers of a kind's signals, read from a payload number and written into one.
 use Rattle.std.specs.Prelude.{ℕ, zero, suc, Bool, true, false, cond, ◌&&◌, List, [], ◌∷◌, length, ℤ, pos, nat_le}
 use Rattle.signal.specs.Signal.{put_bits}
-use Rattle.payload.specs.Payload.{stored_in}
+use Rattle.page_read.specs.payload.specs.Payload.{stored_in}
 use Rattle.signal.specs.Raw.{fits_in, bits_in, value_in}
-use Rattle.page_table.specs.declared.Row.{Row}
+use Rattle.page_read.specs.page_table.specs.declared.Row.{Row}
 use Rattle.page_write.specs.declared.Written.{Written}
 use Rattle.page_write.specs.declared.Written.TheVariants.{Wrote, Refused}
 use Rattle.refusals.specs.declared.Refusal.TheVariants.{NoRawNumber, ShortBuffer}
-use Rattle.page_table.specs.Table.{rows_of, identifier_of, length_of, big_of, lowest, bits_at, takes}
-pub use Rattle.page_table.specs.Table.{signal_count}
+use Rattle.page_read.specs.page_table.specs.Table.{rows_of, identifier_of, length_of, big_of, lowest, bits_at, takes}
+pub use Rattle.page_read.specs.page_table.specs.Table.{signal_count}
 
 -- ---- reading
 

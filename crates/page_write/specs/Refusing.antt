@@ -2,7 +2,7 @@
 use Rattle.std.specs.Prelude.{◌≡◌, ℕ, ◌<◌, true, false, ◌⊎◌, List, [], length, ℤ, pos, slice_index_or}
 use Rattle.refusals.specs.declared.Refusal.{Refusal}
 use Rattle.refusals.specs.Refusals.{number_of}
-use Rattle.page_table.specs.Table.{no_row, rows_of, length_of}
+use Rattle.page_read.specs.page_table.specs.Table.{no_row, rows_of, length_of}
 use Rattle.page_write.specs.declared.Written.{Written}
 use Rattle.page_write.specs.declared.Written.TheVariants.{Refused}
 use Rattle.page_write.specs.Raws.{row_takes, can_write}

@@ -1,9 +1,9 @@
 -- What a frame passed that an interface accepts.
 use Rattle.std.specs.Prelude.{◌≡◌, ℕ, ◌*◌, ◌≤◌, Bool, true, false, List, length}
-use Rattle.payload.specs.Payload.{number_of}
-use Rattle.page_table.specs.declared.Interface.{Interface}
-use Rattle.page_table.specs.Interfaces.{is_on}
-use Rattle.page_table.specs.Table.{rows_of, identifier_of, extended_of, length_of, big_of}
+use Rattle.page_read.specs.payload.specs.Payload.{number_of}
+use Rattle.page_read.specs.page_table.specs.declared.Interface.{Interface}
+use Rattle.page_read.specs.page_table.specs.Interfaces.{is_on}
+use Rattle.page_read.specs.page_table.specs.Table.{rows_of, identifier_of, extended_of, length_of, big_of}
 use Rattle.page_read.specs.Judge.{unlabelled, stray_below}
 
 -- the interface has its kind; it has the identifier, its form and the length of its kind, a label where there are labels, and no stray bit

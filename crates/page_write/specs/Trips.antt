@@ -1,9 +1,9 @@
 -- A frame and its raw numbers, there and back.
 use Rattle.std.specs.Prelude.{◌≡◌, ℕ, true, List, length, take, ℤ}
-use Rattle.payload.specs.Payload.{bytes_of}
-use Rattle.page_table.specs.declared.Interface.{Interface}
-use Rattle.page_table.specs.Interfaces.{is_on}
-use Rattle.page_table.specs.Table.{rows_of, identifier_of, extended_of, length_of, big_of}
+use Rattle.page_read.specs.payload.specs.Payload.{bytes_of}
+use Rattle.page_read.specs.page_table.specs.declared.Interface.{Interface}
+use Rattle.page_read.specs.page_table.specs.Interfaces.{is_on}
+use Rattle.page_read.specs.page_table.specs.Table.{rows_of, identifier_of, extended_of, length_of, big_of}
 use Rattle.page_read.specs.declared.Judged.TheVariants.{Frame}
 use Rattle.page_read.specs.Judge.{judge_on}
 use Rattle.page_write.specs.Raws.{wholes_of, raws_of, packed_on, can_write}

@@ -2,10 +2,10 @@
 // once, and rows are looked up in tables: of a yes or no that is branched on the compiler makes a jump for each row instead.
 ghost use Rattle.std.specs.Prelude.{◌≡◌, ◌-◌, ◌^◌, ◌<◌, ◌≤◌, min, true, if◌then◌else◌, nat_eq};
 ghost use Rattle.signal.specs.Twos.{of_signed};
-ghost use Rattle.page_table.specs.Table.{Fine, takes};
+ghost use Rattle.page_read.specs.page_table.specs.Table.{Fine, takes};
 ghost use Rattle.page_write.specs.Raws.{row_takes, put_raw};
 
-use page_table::Row;
+use page_read::page_table::Row;
 use std::num::wrapping_add_u64;
 
 // z in 64 bits: those that carry it in a signal are the lowest of them.

@@ -3,9 +3,12 @@
 ghost use Rattle.std.specs.Prelude.{◌≡◌, pos, slice_index_or};
 ghost use Rattle.page_write.specs.Raws.{raws_of, write_raws_of, buffer_after};
 
-use page_rows::{identifier_of, is_big, length_of};
-use page_search::first_of_kind;
-use page_table::Found;
+// The crates among these are passed on to those above, which name them through this one.
+pub use page_read;
+use page_read::page_rows::{identifier_of, is_big, length_of};
+use page_read::page_search::first_of_kind;
+use page_read::page_table::Found;
+pub use page_read::{page_rows, page_search, page_table, payload};
 use refusals::Refusal;
 use signals::pack;
 

@@ -1,13 +1,13 @@
 // The loops over the rows of one message, which stand together from its first row on, and what they do at a row.
 ghost use Rattle.std.specs.Prelude.{◌≡◌, ◌<◌, get_or, drop, pos, slice_index_or};
-ghost use Rattle.page_table.specs.Table.{rows, no_row, row_count, signal_count, Fine, block};
+ghost use Rattle.page_read.specs.page_table.specs.Table.{rows, no_row, row_count, signal_count, Fine, block};
 ghost use Rattle.page_write.specs.Raws.{whole_at, wholes_of, pad};
 ghost use Rattle.page_write.specs.Steps.{pack_of};
 
 use crate::Packed;
 use crate::at_row::{put_raw, row_takes};
-use page_rows::{ROW_COUNT, row_at, row_to_unpack};
-use page_table::Row;
+use page_read::page_rows::{ROW_COUNT, row_at, row_to_unpack};
+use page_read::page_table::Row;
 
 fn signal_whole(r: Row, n: u64) -> i64
     requires { Fine r }

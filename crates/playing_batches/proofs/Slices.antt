@@ -15,8 +15,8 @@ use Rattle.log_records.proofs.Logs.{turn_end}
 use Rattle.log_read.proofs.Scans.{log_at, unroll}
 use Rattle.watch_rules.specs.declared.Table.{Table}
 use Rattle.watch_rules.specs.Table.{empty_table}
-use Rattle.batch_rules.specs.Batch.{is_whole, why_batch}
-use Rattle.batch_rules.proofs.Laws.{by_why, few_records}
+use Rattle.batch.specs.batch_rules.specs.Batch.{is_whole, why_batch}
+use Rattle.batch.specs.batch_rules.proofs.Laws.{by_why, few_records}
 use Rattle.batch.proofs.Turns.{found_on_lem}
 use Rattle.text_pen.specs.Pens.{text_of}
 use Rattle.playing_nights.specs.declared.Course.{Course}

@@ -3,14 +3,17 @@
 // A step has two promises: what it is for every head, and, for whatever history with room for one event more the head stands for,
 // that its findings are 01's over that history and that the post with what it leaves stands for the longer one.
 ghost use Rattle.std.specs.Prelude.{◌≡◌};
-ghost use Rattle.rules.specs.Right.{tick_at, frame_at, AfterRight};
-ghost use Rattle.rules.specs.After.{after_tick, after_frame, new_post, free_post, fresh_post};
+ghost use Rattle.post_times.specs.rules.specs.Right.{tick_at, frame_at, AfterRight};
+ghost use Rattle.post_times.specs.rules.specs.After.{after_tick, after_frame, new_post, free_post, fresh_post};
 
 mod step; // step.rt: a head after one event more
 
-use rule_limits::PlainLimits;
-use rule_pages::place_by;
-use rules::{AfterEvent, COUNTS, Head, PLACES, Post};
+// The crates among these are passed on to those above, which name them through this one.
+pub use post_times;
+use post_times::rule_limits::PlainLimits;
+use post_times::rule_pages::place_by;
+use post_times::rules::{AfterEvent, COUNTS, Head, PLACES, Post};
+pub use post_times::{rule_asks, rules};
 
 // A post that nothing was heard of.
 fn new_post(used: u32, channel: u32, limits: PlainLimits) -> Post

@@ -3,12 +3,15 @@
 // that the answer is what 01's rules give when read afresh over those steps, and that the table then stands for the extended steps.
 // For users of the library, through `watch`.
 ghost use Rattle.std.specs.Prelude.{◌≡◌, ◌<◌};
-ghost use Rattle.watch_rules.specs.Steps.{Steps, Kept, FeedRight};
-ghost use Rattle.watch_rules.specs.Table.{post_count, framing, ticking, fed_by, feed_of};
+ghost use Rattle.watch_hear.specs.watch_rules.specs.Steps.{Steps, Kept, FeedRight};
+ghost use Rattle.watch_hear.specs.watch_rules.specs.Table.{post_count, framing, ticking, fed_by, feed_of};
 
+// The crates among these are passed on to those above, which name them through this one.
+pub use watch_hear;
+use watch_hear::watch_places::{put, some_place, store};
+use watch_hear::watch_rules::{Arrival, Fed, Heard, Table};
+pub use watch_hear::{watch_places, watch_rules};
 use watch_hear::{arrival_for, hear, refused_after};
-use watch_places::{put, some_place, store};
-use watch_rules::{Arrival, Fed, Heard, Table};
 
 // The table with what the post at a place heard.
 fn fed(t: Table, i: usize, r: Heard) -> Fed

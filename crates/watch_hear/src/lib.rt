@@ -1,17 +1,21 @@
 // One post hears what comes to it: 1 where it does not hold the channel, 2, then the reader's 3 to 6 with 29 in 3's place, then 25, then the findings.
 // For every way to step a table of posts.
 ghost use Rattle.std.specs.Prelude.{◌≡◌};
-ghost use Rattle.rules.specs.After.{is_full_in, after_tick, after_frame};
-ghost use Rattle.watch_rules.specs.Steps.{HearRight};
-ghost use Rattle.watch_rules.specs.Table.{arrival_for, turned_away, heard_by, unless_full, heard_of, one_more, refused_after};
+ghost use Rattle.post.specs.rules.specs.After.{is_full_in, after_tick, after_frame};
+ghost use Rattle.watch_places.specs.watch_rules.specs.Steps.{HearRight};
+ghost use Rattle.watch_places.specs.watch_rules.specs.Table.{arrival_for, turned_away, heard_by, unless_full, heard_of, one_more, refused_after};
 
-use page_interfaces::judge_for;
+// The crates among these are passed on to those above, which name them through this one.
 use page_read::Judged;
+use post::post_times;
+use post::rules::{Head, PLACES, Slot};
 use refusals::Refusal;
 use rule_limits::PlainLimits;
 use rule_limits::kept::interface_of;
-use rules::{Head, PLACES, Slot};
-use watch_rules::{Answer, Arrival, Heard};
+pub use watch_places;
+use watch_places::page_interfaces::judge_for;
+pub use watch_places::watch_rules;
+use watch_places::watch_rules::{Answer, Arrival, Heard};
 
 // What a frame is to a post, by its limits and by what the pages of its interface say.
 pub fn arrival_for(limits: PlainLimits, id: u32, extended: bool, payload: &[u8]) -> Arrival

@@ -1,15 +1,17 @@
 // Looking a post's record up, with the two promises of `watch_feed`, and how much was refused. For users of the library, through `watch`.
 ghost use Rattle.std.specs.Prelude.{List, ◌≡◌, min};
-ghost use Rattle.rules.specs.Counts.{largest};
-ghost use Rattle.watch_rules.specs.Run.{Request, run, refused_ever};
-ghost use Rattle.watch_rules.specs.Steps.{Steps, Kept, look_up01};
-ghost use Rattle.watch_rules.specs.Table.{look_up_of, no_record};
+ghost use Rattle.post.specs.rules.specs.Counts.{largest};
+ghost use Rattle.watch_places.specs.watch_rules.specs.Run.{Request, run, refused_ever};
+ghost use Rattle.watch_places.specs.watch_rules.specs.Steps.{Steps, Kept, look_up01};
+ghost use Rattle.watch_places.specs.watch_rules.specs.Table.{look_up_of, no_record};
 
+// The crates among these are passed on to those above, which name them through this one.
+use post::rule_asks::is_set;
+use post::rules::Record;
 use refusals::Refusal;
-use rule_asks::is_set;
-use rules::Record;
+pub use watch_places;
 use watch_places::is_post;
-use watch_rules::{LookedUp, Setting, Table};
+use watch_places::watch_rules::{LookedUp, Setting, Table};
 
 fn no_record() -> Record
     ensures { result ≡ no_record }

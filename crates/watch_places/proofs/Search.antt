@@ -7,7 +7,7 @@ use mathlib.Core.List.{List}
 use mathlib.Core.Bool.{true, false}
 use lib.ListN.{length, drop, get_or, drop_of_length-le}
 use lib.Seq.{drop-cons}
-use Rattle.rules.specs.declared.Post.{Post}
+use Rattle.watch_rules.specs.rules.specs.declared.Post.{Post}
 use Rattle.watch_rules.specs.Table.{holds, place_of, no_post}
 
 module _ (l : List Post) (i c : ℕ) (passed : place_of l c ≡ i + place_of (drop i l) c) where

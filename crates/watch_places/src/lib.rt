@@ -1,9 +1,12 @@
 // The places of the table: which numbers are posts, who holds a channel, and what is stored in a place. For what feeds, sets up and releases posts.
 ghost use Rattle.std.specs.Prelude.{◌≡◌, ◌≤◌, ◌<◌};
-ghost use Rattle.rules.specs.After.{stored};
+ghost use Rattle.watch_rules.specs.rules.specs.After.{stored};
 ghost use Rattle.watch_rules.specs.Table.{post_count, is_post, holds, place_of, place_named, some_place, put_in, with_entry};
 
-use rules::{Head, PLACES, Post, Slot};
+// The crates among these are passed on to those above, which name them through this one.
+pub use watch_rules;
+pub use watch_rules::page_interfaces;
+use watch_rules::rules::{Head, PLACES, Post, Slot};
 use watch_rules::{CHANNELS, POSTS, Table};
 
 pub fn is_post(i: u32) -> bool

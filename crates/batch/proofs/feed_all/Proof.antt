@@ -9,10 +9,10 @@ use lib.ListN.{length, length-map}
 use types.Run.{OneOf, miss}
 use denote.Enum.Declared.{tag_of}
 use borrow.Author.Rules.{rules}
-use Rattle.rules.proofs.Unmapped.{unmapped}
-use Rattle.rules.specs.declared.Post.{Post}
-use Rattle.watch_rules.specs.declared.Table.{Table}
-use Rattle.watch_rules.specs.Table.{post_count}
+use Rattle.batch_rules.specs.rules.proofs.Unmapped.{unmapped}
+use Rattle.batch_rules.specs.rules.specs.declared.Post.{Post}
+use Rattle.batch_rules.specs.watch_rules.specs.declared.Table.{Table}
+use Rattle.batch_rules.specs.watch_rules.specs.Table.{post_count}
 use Rattle.log_records.specs.declared.Found.{Found}
 use Rattle.log_records.specs.declared.Found.TheVariants.{Record, End, Cut, Refused}
 use Rattle.log_records.specs.Reading.{Log, onward, log_of, records_in}
@@ -164,12 +164,6 @@ offset_bounds-latest-i c = search rules
 
 offset_bounds-latest-k : tie.Need-offset_bounds-latest-k invariant-loop decreases-loop
 offset_bounds-latest-k c = search rules
-
-bounds-1-slot : tie.Need-bounds-1-slot invariant-loop decreases-loop
-bounds-1-slot c = search rules
-
-bounds-2-slot : tie.Need-bounds-2-slot invariant-loop decreases-loop
-bounds-2-slot c = search rules
 
 loop-e-smaller-then-k-lt-PLACES : tie.Need-loop-e-smaller-then-k-lt-PLACES invariant-loop decreases-loop
 loop-e-smaller-then-k-lt-PLACES c =

@@ -3,7 +3,7 @@ use mir.Syntax.{w64}
 use mir.Facts.{to_z-of_z}
 use borrow.Author.Rules.{rules, sfits_of}
 use Rattle.message_build.specs.Built.{built_of}
-use Rattle.message_types.proofs.Choices.{past}
+use Rattle.message_charger.specs.message_types.proofs.Choices.{past}
 use Rattle.message_build.proofs.built.Statement.{statement}
 use Rattle.message_build.proofs.built.Tie as tie
 
@@ -51,7 +51,7 @@ built_spec =
     (λ c. rw (c.in-3.is, c.session.ensures))
     (λ c. rw (c.in-4.is, c.status_of.ensures, c.natural-in-4.ensures, to_z-of_z {w = w64} (sfits_of c.natural-arg-in-4-1.given)))
     (λ c. rw (c.in-5.is, c.control.ensures))
-    (λ c. rw (c.in-6.is, c.end_of_lem.ensures, c.natural-in-6.ensures, to_z-of_z {w = w64} (sfits_of c.natural-arg-in-6-1.given)))
+    (λ c. rw (c.in-6.is, c.end_of.ensures, c.natural-in-6.ensures, to_z-of_z {w = w64} (sfits_of c.natural-arg-in-6-1.given)))
     (λ c. rw (c.in-7.is, c.origin_of.ensures, c.natural-in-7.ensures, to_z-of_z {w = w64} (sfits_of c.natural-arg-in-7-1.given)))
     (λ c. rw (c.in-8.is, c.ev_id.ensures))
     (λ c. rw (c.in-9.is, c.safety_control.ensures))

@@ -6,8 +6,8 @@ use Prim.Native.Nat.{ℕ}
 use lib.IntN.{ℤ}
 use mir.Facts.{to_z-of_z}
 use borrow.Author.Rules.{rules}
-use Rattle.page_table.specs.declared.Interface.TheVariants.{Newer}
-use Rattle.page_read.specs.declared.Judged.{Judged}
+use Rattle.page_write.specs.page_table.specs.declared.Interface.TheVariants.{Newer}
+use Rattle.page_write.specs.page_read.specs.declared.Judged.{Judged}
 use Rattle.page_change.specs.Change.{change_on, change_of, bytes_after}
 use Rattle.page_change.proofs.Changes.{newer_change}
 use Rattle.page_change.proofs.change.Statement.{statement}

@@ -7,20 +7,20 @@ use Prim.Native.Nat.{ℕ}
 use lib.IntN.{ℤ}
 use lib.ListN.{length}
 use mir.Facts.{to_z-of_z}
-use Rattle.payload.specs.Payload.{bytes_of}
-use Rattle.page_table.specs.declared.Interface.{Interface}
-use Rattle.page_table.specs.declared.Row.{Row}
-use Rattle.page_table.specs.declared.Found.{Found}
-use Rattle.page_table.specs.declared.Found.TheVariants.{At, Nothing}
-use Rattle.page_read.specs.declared.Judged.{Judged}
-use Rattle.page_read.specs.declared.Judged.TheVariants.{Frame, Refused}
+use Rattle.page_write.specs.payload.specs.Payload.{bytes_of}
+use Rattle.page_write.specs.page_table.specs.declared.Interface.{Interface}
+use Rattle.page_write.specs.page_table.specs.declared.Row.{Row}
+use Rattle.page_write.specs.page_table.specs.declared.Found.{Found}
+use Rattle.page_write.specs.page_table.specs.declared.Found.TheVariants.{At, Nothing}
+use Rattle.page_write.specs.page_read.specs.declared.Judged.{Judged}
+use Rattle.page_write.specs.page_read.specs.declared.Judged.TheVariants.{Frame, Refused}
 use Rattle.refusals.specs.declared.Refusal.{Refusal}
 use Rattle.refusals.specs.declared.Refusal.TheVariants.{NoSignal}
-use Rattle.page_table.specs.Table.{rows, first_at, is_signal}
-use Rattle.page_read.specs.Judge.{judge_on}
+use Rattle.page_write.specs.page_table.specs.Table.{rows, first_at, is_signal}
+use Rattle.page_write.specs.page_read.specs.Judge.{judge_on}
 use Rattle.page_change.specs.Change.{changed_row, changed_at, changed_in, change_on, bytes_after}
-use Rattle.page_table.proofs.Rules.{fine_at}
-use Rattle.page_table.proofs.Firsts.{found_in}
+use Rattle.page_write.specs.page_table.proofs.Rules.{fine_at}
+use Rattle.page_write.specs.page_table.proofs.Firsts.{found_in}
 use Rattle.page_change.proofs.Stored.{Storing, storing}
 use Rattle.page_change.proofs.change_on.Statement.{statement}
 use Rattle.page_change.proofs.change_on.Tie as tie

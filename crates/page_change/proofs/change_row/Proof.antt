@@ -5,11 +5,11 @@ use Prim.Native.Nat.{ℕ}
 use borrow.Author.Tests.{not-true, not-false}
 use borrow.Author.Rules.{rules}
 use Rattle.signal.specs.Raw.{fits_in, bits_in}
-use Rattle.page_read.specs.declared.Judged.TheVariants.{Frame, Refused}
+use Rattle.page_write.specs.page_read.specs.declared.Judged.TheVariants.{Frame, Refused}
 use Rattle.refusals.specs.declared.Refusal.TheVariants.{NoLabel}
-use Rattle.page_table.specs.Table.{takes}
+use Rattle.page_write.specs.page_table.specs.Table.{takes}
 use Rattle.page_write.specs.Raws.{row_takes}
-use Rattle.page_read.proofs.Starts.{start_row}
+use Rattle.page_write.specs.page_read.proofs.Starts.{start_row}
 use Rattle.page_write.proofs.AtRow.{fits_row, bits_row, put_raw_row}
 use Rattle.page_change.proofs.change_row.Statement.{statement}
 use Rattle.page_change.proofs.change_row.Tie as tie

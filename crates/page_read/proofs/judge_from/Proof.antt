@@ -7,14 +7,14 @@ use mathlib.Core.Bool.{Bool, true, false, cond, not}
 use mathlib.Core.List.{List}
 use native.Mathlib.Omega.{arith}
 use Prim.Native.Nat.{ℕ}
-use Rattle.payload.specs.Payload.{number_of}
+use Rattle.page_search.specs.payload.specs.Payload.{number_of}
 use lib.ListN.{take}
-use Rattle.page_table.specs.declared.Found.TheVariants.{At, Nothing}
-use Rattle.page_table.specs.declared.Row.{Row}
+use Rattle.page_search.specs.page_table.specs.declared.Found.TheVariants.{At, Nothing}
+use Rattle.page_search.specs.page_table.specs.declared.Row.{Row}
 use Rattle.page_read.specs.declared.Judged.{Judged}
 use Rattle.page_read.specs.declared.Judged.TheVariants.{Refused}
-use Rattle.page_table.specs.Table.{rows, row_at, rows_of, has_id, first_at}
-use Rattle.page_table.specs.Interfaces.{is_on}
+use Rattle.page_search.specs.page_table.specs.Table.{rows, row_at, rows_of, has_id, first_at}
+use Rattle.page_search.specs.page_table.specs.Interfaces.{is_on}
 use Rattle.page_read.specs.Judge.{judged_row, judge_from}
 use Rattle.page_read.specs.Steps.{offence_of, cleared, judged_by, has_gaps}
 use Rattle.page_read.proofs.Covered.{cleared_none}

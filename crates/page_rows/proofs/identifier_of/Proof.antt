@@ -1,8 +1,8 @@
 -- `page_rows::identifier_of` meets its contract: the message says of a kind what its first row says.
 use mathlib.Core.Path.{ap, ◌∙◌}
 use borrow.Author.Rules.{rules}
-use Rattle.page_table.specs.declared.Message.{Message}
-use Rattle.page_table.proofs.Heads.{says}
+use Rattle.page_charger.specs.page_table.specs.declared.Message.{Message}
+use Rattle.page_charger.specs.page_table.proofs.Heads.{says}
 use Rattle.page_rows.proofs.identifier_of.Statement.{statement}
 use Rattle.page_rows.proofs.identifier_of.Tie as tie
 

@@ -4,10 +4,10 @@ use Prim.Native.Nat.{ℕ}
 use mathlib.Core.Bool.{true, false}
 use lib.Dec.{leb, ltb}
 use borrow.Author.Tests.{lt-ltb, le-ltb, le-leb, lt-leb}
-use Rattle.page_table.specs.declared.Interface.{Interface}
-use Rattle.page_table.specs.declared.Interface.TheVariants.{Newer, Older}
-use Rattle.page_table.specs.Messages.{kind_count, rest_kind}
-use Rattle.page_table.specs.Interfaces.{safety_kind, is_on}
+use Rattle.page_charger.specs.page_table.specs.declared.Interface.{Interface}
+use Rattle.page_charger.specs.page_table.specs.declared.Interface.TheVariants.{Newer, Older}
+use Rattle.page_charger.specs.page_table.specs.Messages.{kind_count, rest_kind}
+use Rattle.page_charger.specs.page_table.specs.Interfaces.{safety_kind, is_on}
 use borrow.Author.Rules.{rules}
 use Rattle.page_rows.proofs.is_on.Statement.{statement}
 use Rattle.page_rows.proofs.is_on.Tie as tie

@@ -1,7 +1,7 @@
 -- `page_rows::row_of` meets its contract: what the kind's message says stands in the row.
 use mathlib.Core.Path.{ap}
 use borrow.Author.Rules.{rules}
-use Rattle.page_table.specs.Layout.{row_with}
+use Rattle.page_charger.specs.page_table.specs.Layout.{row_with}
 use Rattle.page_rows.proofs.row_of.Statement.{statement}
 use Rattle.page_rows.proofs.row_of.Tie as tie
 

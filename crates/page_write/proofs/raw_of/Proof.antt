@@ -1,10 +1,10 @@
 -- `page_write::raw_of` meets its contract: a kind's numbers stand from its first row on.
 use Rattle.std.proofs.Common.{◌≡◌, List, get_or, pos, sym, ap, ◌∙◌, to_z-of_z, w64, rules, eqb-true}
-use Rattle.page_table.specs.declared.Row.{Row}
-use Rattle.page_table.specs.Table.{rows, no_row, rows_of, has_kind}
-use Rattle.page_table.specs.Table.{signal_count}
+use Rattle.page_read.specs.page_table.specs.declared.Row.{Row}
+use Rattle.page_read.specs.page_table.specs.Table.{rows, no_row, rows_of, has_kind}
+use Rattle.page_read.specs.page_table.specs.Table.{signal_count}
 use Rattle.page_write.specs.Raws.{wholes_of, pad, raws_of}
-use Rattle.page_table.proofs.Firsts.{first_kind, none_kind, found_in}
+use Rattle.page_read.specs.page_table.proofs.Firsts.{first_kind, none_kind, found_in}
 use Rattle.page_write.proofs.Places.{pad_at, pad_past, pad_none}
 use Rattle.page_write.proofs.raw_of.Statement.{statement}
 use Rattle.page_write.proofs.raw_of.Tie as tie

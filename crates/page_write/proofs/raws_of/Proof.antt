@@ -1,9 +1,9 @@
 -- `page_write::raws_of` meets its contract: from its first row on stand a kind's rows, and a number that is no kind has none.
 use Rattle.std.proofs.Common.{◌≡◌, List, sym, ap, ◌∙◌, rules}
-use Rattle.page_table.specs.declared.Row.{Row}
-use Rattle.page_table.specs.Table.{signal_count}
+use Rattle.page_read.specs.page_table.specs.declared.Row.{Row}
+use Rattle.page_read.specs.page_table.specs.Table.{signal_count}
 use Rattle.page_write.specs.Raws.{wholes_of, pad, raws_of}
-use Rattle.page_table.proofs.Firsts.{first_kind, none_kind}
+use Rattle.page_read.specs.page_table.proofs.Firsts.{first_kind, none_kind}
 use Rattle.page_write.proofs.raws_of.Statement.{statement}
 use Rattle.page_write.proofs.raws_of.Tie as tie
 

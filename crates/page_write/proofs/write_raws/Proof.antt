@@ -1,18 +1,18 @@
 -- `page_write::write_raws` meets its contract: 7 where the kind has no row or a raw number is not taken, then 8, else the packed number's bytes.
 use Rattle.std.proofs.Common.{◌≡◌, ℕ, ◌<◌, ◌≤◌, Bool, true, false, cond, ◌&&◌, leb, List, length, ℤ, sym, refl, ap, ◌∙◌, subst, ap₂, arith, rules, le-leb}
 use borrow.Author.Tests.{lt-leb}
-use Rattle.payload.specs.Payload.{stored_in}
-use Rattle.payload.proofs.Stored.{stored_not}
-use Rattle.page_table.specs.declared.Row.{Row}
+use Rattle.page_read.specs.payload.specs.Payload.{stored_in}
+use Rattle.page_read.specs.payload.proofs.Stored.{stored_not}
+use Rattle.page_read.specs.page_table.specs.declared.Row.{Row}
 use Rattle.refusals.specs.declared.Refusal.TheVariants.{NoRawNumber}
 use Rattle.page_write.specs.declared.Written.{Written}
 use Rattle.page_write.specs.declared.Written.TheVariants.{Wrote, Refused}
 use Rattle.page_write.specs.declared.Packed.{Packed}
 use Rattle.page_write.specs.declared.Packed.TheVariants as packed
-use Rattle.page_table.specs.Table.{rows_of, length_of, big_of}
+use Rattle.page_read.specs.page_table.specs.Table.{rows_of, length_of, big_of}
 use Rattle.page_write.specs.Raws.{all_take, packed_on, can_write, written_by, write_raws_of, buffer_after}
 use Rattle.page_write.specs.Steps.{pack_of}
-use Rattle.page_table.proofs.Firsts.{first_kind, none_kind}
+use Rattle.page_read.specs.page_table.proofs.Firsts.{first_kind, none_kind}
 use Rattle.page_write.proofs.write_raws.Statement.{statement}
 use Rattle.page_write.proofs.write_raws.Tie as tie
 

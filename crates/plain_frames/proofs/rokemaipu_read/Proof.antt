@@ -54,7 +54,7 @@ unfolding start
 overflow_cast-result c =
     let j = c.before.before.before.before.before in
     let a = (start j).args in
-    record { fits = omega (arith, subst SmallJudged (sym j.judge-j.ensures ∙ j.j.given.1) (judge_small a.id a.extended a.payload.now)) }
+    record { fits = omega (arith, subst SmallJudged (sym j.judge-j.ensures ∙ c.in-Frame.is) (judge_small a.id a.extended a.payload.now)) }
 
 returns-else-raws-lt-SIGNALS : tie.Need-returns-else-raws-lt-SIGNALS
 unfolding start

@@ -57,7 +57,7 @@ unfolding start
 overflow_cast-result c =
     let j = c.before.before.before.before.before in
     let a = (start j).args in
-    record { fits = omega (arith, subst (SmallBelow rest_kind) (sym j.judge_on-j.ensures ∙ j.j.given.1) (judge_small_on Older a.id a.extended a.payload.now)) }
+    record { fits = omega (arith, subst (SmallBelow rest_kind) (sym j.judge_on-j.ensures ∙ c.in-Frame.is) (judge_small_on Older a.id a.extended a.payload.now)) }
 
 returns-else-raws-lt-SIGNALS : tie.Need-returns-else-raws-lt-SIGNALS
 unfolding start

@@ -8,7 +8,7 @@ returns : tie.Need-returns
 unfolding set_up_by
 returns c =
     let p = c in
-    rw (c.prepared_word.ensures, c.before.plain_of_lem.ensures, p.set_up-p.ensures, p.replay_of.ensures)
+    rw (c.prepared_word.ensures, c.plain_of-replay.ensures, p.set_up-p.ensures, p.replay_of.ensures)
 
 pub settled_spec : {M : Type 1} → statement M
 settled_spec = tie.close (tie.spec (λ c κs. search rules) (λ c κs. search rules) (λ c κs. search rules) (λ c κs. search rules) returns)

@@ -6,7 +6,7 @@ use Rattle.playing_words.proofs.started.Tie as tie
 
 returns : tie.Need-returns
 unfolding start_by
-returns c = rw (c.plain_of_lem.ensures, c.start-fresh.ensures)
+returns c = rw (c.plain_of-replay.ensures, c.start-fresh.ensures)
 
 pub started_spec : {M : Type 1} → statement M
 started_spec = tie.close (tie.spec (λ c κs. search rules) (λ c κs. search rules) returns)

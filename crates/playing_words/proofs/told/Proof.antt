@@ -14,7 +14,7 @@ returns-in-Line c =
     let s = m in
     let a = s.args in
     told_by_lem a.r a.x.replay a.next.now m.in-Line.is
-    (ap (λ (p : PlainReplay). record { replay = p; answer = m.in-Line.bytes % 4294967296 }) c.plain_of_lem.ensures, set_first a.next.now m.in-Line.n s.requires)
+    (ap (λ (p : PlainReplay). record { replay = p; answer = m.in-Line.bytes % 4294967296 }) c.plain_of-replay.ensures, set_first a.next.now m.in-Line.n s.requires)
 
 returns-in-End : tie.Need-returns-in-End
 returns-in-End c =

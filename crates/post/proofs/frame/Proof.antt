@@ -1,7 +1,7 @@
 -- `post::frame` meets its contract: the head is aged, judged there, and then given the frame.
 use borrow.Author.Rules.{rules}
-use Rattle.rules.specs.After.{after_frame, aged_to}
-use Rattle.rules.proofs.Right.{frame_both}
+use Rattle.post_times.specs.rules.specs.After.{after_frame, aged_to}
+use Rattle.post_times.specs.rules.proofs.Right.{frame_both}
 use Rattle.post.proofs.frame.Statement.{statement}
 use Rattle.post.proofs.frame.Tie as tie
 

@@ -1,7 +1,7 @@
 -- `post::tick` meets its contract: the head is aged, and judged there.
 use borrow.Author.Rules.{rules}
-use Rattle.rules.specs.After.{after_tick}
-use Rattle.rules.proofs.Right.{tick_both}
+use Rattle.post_times.specs.rules.specs.After.{after_tick}
+use Rattle.post_times.specs.rules.proofs.Right.{tick_both}
 use Rattle.post.proofs.tick.Statement.{statement}
 use Rattle.post.proofs.tick.Tie as tie
 

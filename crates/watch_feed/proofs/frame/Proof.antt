@@ -1,8 +1,8 @@
 -- `watch_feed::frame` meets its contract: what the post at `some_place` hears is the table's step.
 use borrow.Author.Rules.{rules}
-use Rattle.watch_rules.proofs.Promises.{fed_both}
-use Rattle.watch_rules.proofs.Same.{feed_same}
-use Rattle.watch_rules.specs.Table.{framing, feed_at}
+use Rattle.watch_hear.specs.watch_rules.proofs.Promises.{fed_both}
+use Rattle.watch_hear.specs.watch_rules.proofs.Same.{feed_same}
+use Rattle.watch_hear.specs.watch_rules.specs.Table.{framing, feed_at}
 use Rattle.watch_feed.proofs.frame.Statement.{statement}
 use Rattle.watch_feed.proofs.frame.Tie as tie
 

@@ -1,8 +1,8 @@
 -- `watch_feed::tick` meets its contract: what the post at `some_place` hears is the table's step.
 use borrow.Author.Rules.{rules}
-use Rattle.watch_rules.proofs.Promises.{fed_both}
-use Rattle.watch_rules.proofs.Same.{feed_same}
-use Rattle.watch_rules.specs.Table.{ticking, feed_at}
+use Rattle.watch_hear.specs.watch_rules.proofs.Promises.{fed_both}
+use Rattle.watch_hear.specs.watch_rules.proofs.Same.{feed_same}
+use Rattle.watch_hear.specs.watch_rules.specs.Table.{ticking, feed_at}
 use Rattle.watch_feed.proofs.tick.Statement.{statement}
 use Rattle.watch_feed.proofs.tick.Tie as tie
 

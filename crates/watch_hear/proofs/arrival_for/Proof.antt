@@ -2,7 +2,7 @@
 use native.Mathlib.Omega.{arith}
 use mathlib.Core.Path.{sym, ◌∙◌}
 use borrow.Author.Rules.{rules}
-use Rattle.watch_rules.proofs.Pages.{own_read}
+use Rattle.watch_places.specs.watch_rules.proofs.Pages.{own_read}
 use Rattle.watch_hear.proofs.arrival_for.Statement.{statement}
 use Rattle.watch_hear.proofs.arrival_for.Tie as tie
 

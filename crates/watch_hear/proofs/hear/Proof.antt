@@ -2,8 +2,8 @@
 use mathlib.Core.Path.{sym, ◌∙◌}
 use borrow.Author.Tests.{le-leb, lt-leb, not-true, not-false}
 use borrow.Author.Rules.{rules}
-use Rattle.watch_rules.specs.Table.{heard_of}
-use Rattle.watch_rules.proofs.Hears.{heard_both}
+use Rattle.watch_places.specs.watch_rules.specs.Table.{heard_of}
+use Rattle.watch_places.specs.watch_rules.proofs.Hears.{heard_both}
 use Rattle.watch_hear.proofs.hear.Statement.{statement}
 use Rattle.watch_hear.proofs.hear.Tie as tie
 

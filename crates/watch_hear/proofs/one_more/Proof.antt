@@ -1,7 +1,7 @@
 -- `watch_hear::one_more` meets its contract.
 use borrow.Author.Rules.{rules}
 use borrow.Author.Tests.{lt-ltb, le-ltb}
-use Rattle.watch_rules.specs.Table.{one_more}
+use Rattle.watch_places.specs.watch_rules.specs.Table.{one_more}
 use Rattle.watch_hear.proofs.one_more.Statement.{statement}
 use Rattle.watch_hear.proofs.one_more.Tie as tie
 

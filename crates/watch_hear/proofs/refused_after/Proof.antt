@@ -1,8 +1,8 @@
 -- `watch_hear::refused_after` meets its contract, arm by arm.
 use mathlib.Core.Path.{sym, ap, ◌∙◌}
 use borrow.Author.Rules.{rules}
-use Rattle.watch_rules.specs.declared.Answer.{Answer}
-use Rattle.watch_rules.specs.Table.{refused_after}
+use Rattle.watch_places.specs.watch_rules.specs.declared.Answer.{Answer}
+use Rattle.watch_places.specs.watch_rules.specs.Table.{refused_after}
 use Rattle.watch_hear.proofs.refused_after.Statement.{statement}
 use Rattle.watch_hear.proofs.refused_after.Tie as tie
 

@@ -2,8 +2,8 @@
 use mathlib.Core.Path.{sym, ◌∙◌}
 use borrow.Author.Tests.{ltb-true, not-true, not-false}
 use borrow.Author.Rules.{rules}
-use Rattle.watch_rules.specs.Table.{look_up_of}
-use Rattle.watch_rules.proofs.Promises.{shown_both}
+use Rattle.watch_places.specs.watch_rules.specs.Table.{look_up_of}
+use Rattle.watch_places.specs.watch_rules.proofs.Promises.{shown_both}
 use Rattle.watch_look.proofs.look_up.Statement.{statement}
 use Rattle.watch_look.proofs.look_up.Tie as tie
 

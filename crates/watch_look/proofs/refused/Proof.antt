@@ -4,10 +4,10 @@ use native.Mathlib.Omega.{arith}
 use mathlib.Core.Path.{◌≡◌, ap, ◌∙◌}
 use mathlib.Core.List.{List}
 use borrow.Author.Rules.{rules}
-use Rattle.rules.specs.Counts.{largest}
-use Rattle.watch_rules.specs.declared.Table.{Table}
-use Rattle.watch_rules.specs.Run.{Request, run, refused_ever}
-use Rattle.watch_rules.proofs.Handed.{refused_counted}
+use Rattle.post.specs.rules.specs.Counts.{largest}
+use Rattle.watch_places.specs.watch_rules.specs.declared.Table.{Table}
+use Rattle.watch_places.specs.watch_rules.specs.Run.{Request, run, refused_ever}
+use Rattle.watch_places.specs.watch_rules.proofs.Handed.{refused_counted}
 use Rattle.watch_look.proofs.refused.Statement.{statement}
 use Rattle.watch_look.proofs.refused.Tie as tie
 

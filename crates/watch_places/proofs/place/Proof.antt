@@ -5,7 +5,7 @@ use native.Mathlib.Omega.{arith}
 use mathlib.Core.Path.{◌≡◌, sym, ◌∙◌}
 use lib.ListN.{length, drop}
 use borrow.Author.Rules.{rules}
-use Rattle.rules.proofs.Unmapped.{unmapped}
+use Rattle.watch_rules.specs.rules.proofs.Unmapped.{unmapped}
 use Rattle.watch_rules.specs.Table.{post_count, place_of}
 use Rattle.watch_places.proofs.Search.{place_on_lem, place_here, place_end}
 use Rattle.watch_places.proofs.place.Statement.{statement}

@@ -4,7 +4,7 @@ use native.Mathlib.Omega.{arith}
 use lib.ListN.{length}
 use lib.Seq.{set_out}
 use borrow.Author.Rules.{rules}
-use Rattle.rules.proofs.Unmapped.{unmapped}
+use Rattle.watch_rules.specs.rules.proofs.Unmapped.{unmapped}
 use Rattle.watch_rules.specs.Table.{post_count}
 use Rattle.watch_places.proofs.put.Statement.{statement}
 use Rattle.watch_places.proofs.put.Tie as tie

@@ -1,7 +1,7 @@
 -- `watch_settings::empty` meets its contract, by what `free_post` ensures; that table stands for no steps.
 use mathlib.Core.Path.{refl}
 use borrow.Author.Rules.{rules}
-use Rattle.watch_rules.proofs.Right.{empty_kept}
+use Rattle.watch_places.specs.watch_rules.proofs.Right.{empty_kept}
 use Rattle.watch_settings.proofs.empty.Statement.{statement}
 use Rattle.watch_settings.proofs.empty.Tie as tie
 

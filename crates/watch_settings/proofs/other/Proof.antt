@@ -1,6 +1,6 @@
 -- `watch_settings::other` meets its contract.
 use borrow.Author.Tests.{lt-ltb, le-ltb}
-use Rattle.watch_rules.specs.Table.{is_other}
+use Rattle.watch_places.specs.watch_rules.specs.Table.{is_other}
 use Rattle.watch_settings.proofs.other.Statement.{statement}
 use Rattle.watch_settings.proofs.other.Tie as tie
 

@@ -2,8 +2,8 @@
 use mathlib.Core.Path.{sym, ◌∙◌}
 use borrow.Author.Tests.{ltb-true, not-true, not-false}
 use borrow.Author.Rules.{rules}
-use Rattle.watch_rules.specs.Table.{release_of}
-use Rattle.watch_rules.proofs.Promises.{released_both}
+use Rattle.watch_places.specs.watch_rules.specs.Table.{release_of}
+use Rattle.watch_places.specs.watch_rules.proofs.Promises.{released_both}
 use Rattle.watch_settings.proofs.release.Statement.{statement}
 use Rattle.watch_settings.proofs.release.Tie as tie
 

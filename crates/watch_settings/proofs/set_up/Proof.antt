@@ -1,6 +1,6 @@
 -- `watch_settings::set_up` meets its contract, by what `plain` and `set_up_plain` ensure.
 use borrow.Author.Rules.{rules}
-use Rattle.watch_rules.proofs.Promises.{set_both}
+use Rattle.watch_places.specs.watch_rules.proofs.Promises.{set_both}
 use Rattle.rule_limits.specs.Sensor.{plain_of}
 use Rattle.watch_settings.proofs.set_up.Statement.{statement}
 use Rattle.watch_settings.proofs.set_up.Tie as tie

@@ -2,8 +2,8 @@
 use mathlib.Core.Path.{sym, ◌∙◌}
 use borrow.Author.Tests.{ltb-true, not-true, not-false, le-leb, lt-leb}
 use borrow.Author.Rules.{rules}
-use Rattle.watch_rules.specs.Table.{set_up_of}
-use Rattle.watch_rules.proofs.Promises.{set_both}
+use Rattle.watch_places.specs.watch_rules.specs.Table.{set_up_of}
+use Rattle.watch_places.specs.watch_rules.proofs.Promises.{set_both}
 use Rattle.watch_settings.proofs.set_up_plain.Statement.{statement}
 use Rattle.watch_settings.proofs.set_up_plain.Tie as tie
 

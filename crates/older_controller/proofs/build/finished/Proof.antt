@@ -12,7 +12,7 @@ returns c =
       sfits_of,
       x1.natural-arg-1.given,
       x1.natural.ensures,
-      c.end_of_lem.ensures,
+      c.end_of.ensures,
     )
 
 pub finished_spec : {M : Type 1} → statement M

@@ -4,7 +4,7 @@ use mathlib.Core.Bool.{true, false}
 use Prim.Native.Nat.{ℕ}
 use borrow.Author.Tests.{ne_eqb}
 use Rattle.page_read.specs.Steps.{has_gaps}
-use Rattle.page_table.proofs.Keys.{at_key}
+use Rattle.page_search.specs.page_table.proofs.Keys.{at_key}
 use Rattle.page_read.proofs.labels.has_gaps.Statement.{statement}
 use Rattle.page_read.proofs.labels.has_gaps.Tie as tie
 

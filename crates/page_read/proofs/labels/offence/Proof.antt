@@ -4,14 +4,14 @@ use mathlib.Core.Bool.{Bool, true, false, true≢false}
 use mathlib.Core.List.{List}
 use Prim.Native.Nat.{ℕ, ◌≤◌}
 use borrow.Author.Rules.{rules}
-use Rattle.page_table.specs.declared.Row.{Row}
-use Rattle.page_table.specs.Messages.{message_count}
-use Rattle.page_table.specs.Table.{rows, rows_of, of_kind}
+use Rattle.page_search.specs.page_table.specs.declared.Row.{Row}
+use Rattle.page_search.specs.page_table.specs.Messages.{message_count}
+use Rattle.page_search.specs.page_table.specs.Table.{rows, rows_of, of_kind}
 use Rattle.page_read.specs.declared.Offence.TheVariants.{Nothing}
 use Rattle.page_read.specs.Steps.{offence_of, has_gaps}
-use Rattle.page_table.proofs.Keys.{past_keys}
-use Rattle.page_table.proofs.Firsts.{none_kind}
-use Rattle.page_table.proofs.Heads.{no_kind}
+use Rattle.page_search.specs.page_table.proofs.Keys.{past_keys}
+use Rattle.page_search.specs.page_table.proofs.Firsts.{none_kind}
+use Rattle.page_search.specs.page_table.proofs.Heads.{no_kind}
 use Rattle.page_read.proofs.labels.offence.Statement.{statement}
 use Rattle.page_read.proofs.labels.offence.Tie as tie
 

@@ -1,7 +1,7 @@
 -- `page_read::labels::old_mcs_offence` meets its contract: the rows with labels of the message, one behind the other, since a row without labels takes
 -- every number.
 use borrow.Author.Rules.{rules}
-use Rattle.page_table.specs.Table.{rows, of_kind}
+use Rattle.page_search.specs.page_table.specs.Table.{rows, of_kind}
 use Rattle.page_read.specs.Steps.{offence_of}
 use Rattle.page_read.proofs.labels.old_mcs_offence.Statement.{statement}
 use Rattle.page_read.proofs.labels.old_mcs_offence.Tie as tie

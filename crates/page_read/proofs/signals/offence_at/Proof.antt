@@ -2,9 +2,9 @@
 use mathlib.Core.Path.{◌≡◌, sym, ap, ◌∙◌, subst}
 use borrow.Author.Rules.{rules}
 use Rattle.page_read.specs.declared.Offence.TheVariants.{Start}
-use Rattle.page_table.specs.declared.Row.{Row}
-use Rattle.page_table.specs.Layout.{row_of}
-use Rattle.page_table.specs.Table.{Fine, bits_at, takes}
+use Rattle.page_search.specs.page_table.specs.declared.Row.{Row}
+use Rattle.page_search.specs.page_table.specs.Layout.{row_of}
+use Rattle.page_search.specs.page_table.specs.Table.{Fine, bits_at, takes}
 use Rattle.page_read.proofs.Starts.{start_row}
 use Rattle.page_read.proofs.signals.offence_at.Statement.{statement}
 use Rattle.page_read.proofs.signals.offence_at.Tie as tie

@@ -9,13 +9,13 @@ use lib.Pow.{pow_pos}
 use borrow.Author.Tests.{not-true, not-false}
 use borrow.Author.Rules.{rules}
 use Rattle.signal.proofs.Totals.{put_in}
-use Rattle.page_table.specs.declared.Row.{Row}
+use Rattle.page_search.specs.page_table.specs.declared.Row.{Row}
 use Rattle.page_read.specs.declared.Offence.{Offence}
 use Rattle.page_read.specs.declared.Offence.TheVariants.{Nothing, Start}
-use Rattle.page_table.specs.Table.{rows, row_count, block, lowest, bits_at, takes}
+use Rattle.page_search.specs.page_table.specs.Table.{rows, row_count, block, lowest, bits_at, takes}
 use Rattle.page_read.specs.Steps.{offence_of, cleared, judged_by}
-use Rattle.page_table.proofs.Rules.{fine_at}
-use Rattle.page_table.proofs.Walk.{block_in, block_out, block_end}
+use Rattle.page_search.specs.page_table.proofs.Rules.{fine_at}
+use Rattle.page_search.specs.page_table.proofs.Walk.{block_in, block_out, block_end}
 use Rattle.page_read.proofs.Starts.{start_row}
 use Rattle.page_read.proofs.signals.sifted.Statement.{statement}
 use Rattle.page_read.proofs.signals.sifted.Tie as tie

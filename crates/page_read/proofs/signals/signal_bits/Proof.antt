@@ -2,7 +2,7 @@
 use mathlib.Core.Path.{◌∙◌}
 use borrow.Author.Rules.{rules}
 use Rattle.signal.proofs.Totals.{get_in}
-use Rattle.page_table.specs.Table.{lowest}
+use Rattle.page_search.specs.page_table.specs.Table.{lowest}
 use Rattle.page_read.proofs.signals.signal_bits.Statement.{statement}
 use Rattle.page_read.proofs.signals.signal_bits.Tie as tie
 

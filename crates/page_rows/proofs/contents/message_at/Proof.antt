@@ -1,8 +1,8 @@
 -- `page_rows::contents::message_at` meets its contract: arm k hands out message k, and the last arm what a number that is no kind says.
 use mathlib.Core.Path.{sym}
 use lib.ListN.{get_or-eq_default}
-use Rattle.page_table.specs.Messages.{message_count, messages, no_message, message_of}
-use Rattle.page_table.proofs.Keys.{at_key, past_keys}
+use Rattle.page_charger.specs.page_table.specs.Messages.{message_count, messages, no_message, message_of}
+use Rattle.page_charger.specs.page_table.proofs.Keys.{at_key, past_keys}
 use Rattle.page_rows.proofs.contents.message_at.Statement.{statement}
 use Rattle.page_rows.proofs.contents.message_at.Tie as tie
 

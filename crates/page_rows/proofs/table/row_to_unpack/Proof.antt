@@ -2,8 +2,8 @@
 use mathlib.Core.Path.{sym, ◌∙◌}
 use lib.ListN.{get_or-eq_default}
 use borrow.Author.Rules.{rules}
-use Rattle.page_table.specs.Table.{rows, no_row}
-use Rattle.page_table.proofs.Rules.{rows_length}
+use Rattle.page_charger.specs.page_table.specs.Table.{rows, no_row}
+use Rattle.page_charger.specs.page_table.proofs.Rules.{rows_length}
 use Rattle.page_rows.proofs.ChargerRows.{charger_row}
 use Rattle.page_rows.proofs.table.row_to_unpack.Statement.{statement}
 use Rattle.page_rows.proofs.table.row_to_unpack.Tie as tie

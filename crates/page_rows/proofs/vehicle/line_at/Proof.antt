@@ -1,6 +1,6 @@
 -- `page_rows::vehicle::line_at` meets its contract: arm k hands out row k, and no index is left for the last arm.
-use Rattle.page_table.specs.Table.{rows, row_at}
-use Rattle.page_table.proofs.Keys.{at_key, no_key}
+use Rattle.page_charger.specs.page_table.specs.Table.{rows, row_at}
+use Rattle.page_charger.specs.page_table.proofs.Keys.{at_key, no_key}
 use Rattle.page_rows.proofs.vehicle.line_at.Statement.{statement}
 use Rattle.page_rows.proofs.vehicle.line_at.Tie as tie
 

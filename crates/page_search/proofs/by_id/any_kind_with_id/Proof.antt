@@ -2,9 +2,9 @@
 use mathlib.Core.Path.{sym, ◌∙◌}
 use Prim.Native.Nat.{zero-le}
 use native.Mathlib.Omega.{arith}
-use Rattle.page_table.specs.Messages.{kind_count, rest_kind, message_count}
-use Rattle.page_table.specs.Table.{rows, first_at, has_id}
-use Rattle.page_table.proofs.Scans.{scan_is, scan_on, scan_all}
+use Rattle.page_rows.specs.page_table.specs.Messages.{kind_count, rest_kind, message_count}
+use Rattle.page_rows.specs.page_table.specs.Table.{rows, first_at, has_id}
+use Rattle.page_rows.specs.page_table.proofs.Scans.{scan_is, scan_on, scan_all}
 use borrow.Author.Rules.{rules}
 use Rattle.page_search.proofs.by_id.any_kind_with_id.Statement.{statement}
 use Rattle.page_search.proofs.by_id.any_kind_with_id.Tie as tie

@@ -1,7 +1,7 @@
 -- `page_search::by_id::message_on` meets its contract: the message that is found, where the interface has its kind.
 use mathlib.Core.Path.{sym, ◌∙◌}
-use Rattle.page_table.specs.Table.{rows, first_at, has_id}
-use Rattle.page_table.proofs.Interfaces.{message_own, message_other, message_none}
+use Rattle.page_rows.specs.page_table.specs.Table.{rows, first_at, has_id}
+use Rattle.page_rows.specs.page_table.proofs.Interfaces.{message_own, message_other, message_none}
 use borrow.Author.Rules.{rules}
 use Rattle.page_search.proofs.by_id.message_on.Statement.{statement}
 use Rattle.page_search.proofs.by_id.message_on.Tie as tie

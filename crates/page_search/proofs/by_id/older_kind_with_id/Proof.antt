@@ -4,11 +4,11 @@ use mathlib.Core.Path.{◌≡◌, sym, ap, ◌∙◌}
 use Prim.Native.Nat.{ℕ, ◌+◌, ◌-◌, ◌<◌}
 use native.Mathlib.Omega.{arith}
 use borrow.Author.Rules.{rules}
-use Rattle.page_table.specs.declared.Message.{Message}
-use Rattle.page_table.specs.Messages.{kind_count, rest_kind, key_of}
-use Rattle.page_table.proofs.Heads.{kind_key}
-use Rattle.page_table.proofs.Interfaces.{older_message}
-use Rattle.page_table.proofs.Scans.{scan_found, scan_none, one_more_lem}
+use Rattle.page_rows.specs.page_table.specs.declared.Message.{Message}
+use Rattle.page_rows.specs.page_table.specs.Messages.{kind_count, rest_kind, key_of}
+use Rattle.page_rows.specs.page_table.proofs.Heads.{kind_key}
+use Rattle.page_rows.specs.page_table.proofs.Interfaces.{older_message}
+use Rattle.page_rows.specs.page_table.proofs.Scans.{scan_found, scan_none, one_more_lem}
 use Rattle.page_search.proofs.by_id.older_kind_with_id.Statement.{statement}
 use Rattle.page_search.proofs.by_id.older_kind_with_id.Tie as tie
 

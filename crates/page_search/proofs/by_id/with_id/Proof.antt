@@ -1,12 +1,12 @@
 -- `page_search::by_id::with_id` meets its contract: what the kind that was found says of its message.
 use mathlib.Core.Path.{sym, ap, ◌∙◌}
 use borrow.Author.Rules.{rules}
-use Rattle.page_table.specs.declared.Message.{Message}
-use Rattle.page_table.specs.declared.Found.TheVariants.{At}
-use Rattle.page_table.specs.declared.FoundMessage.TheVariants as message
-use Rattle.page_table.specs.Table.{rows, first_at, has_id}
-use Rattle.page_table.proofs.Firsts.{id_kind_lem}
-use Rattle.page_table.proofs.Heads.{kind_message, kind_nothing}
+use Rattle.page_rows.specs.page_table.specs.declared.Message.{Message}
+use Rattle.page_rows.specs.page_table.specs.declared.Found.TheVariants.{At}
+use Rattle.page_rows.specs.page_table.specs.declared.FoundMessage.TheVariants as message
+use Rattle.page_rows.specs.page_table.specs.Table.{rows, first_at, has_id}
+use Rattle.page_rows.specs.page_table.proofs.Firsts.{id_kind_lem}
+use Rattle.page_rows.specs.page_table.proofs.Heads.{kind_message, kind_nothing}
 use Rattle.page_search.proofs.by_id.with_id.Statement.{statement}
 use Rattle.page_search.proofs.by_id.with_id.Tie as tie
 

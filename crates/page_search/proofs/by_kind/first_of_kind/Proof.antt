@@ -1,9 +1,9 @@
 -- `page_search::by_kind::first_of_kind` meets its contract: the place that a kind's message tells, and no other number is a kind.
 use mathlib.Core.Path.{sym, ap, ◌∙◌}
 use borrow.Author.Rules.{rules}
-use Rattle.page_table.specs.declared.Message.{Message}
-use Rattle.page_table.specs.declared.Found.TheVariants.{At}
-use Rattle.page_table.proofs.Heads.{first_place, no_kind}
+use Rattle.page_rows.specs.page_table.specs.declared.Message.{Message}
+use Rattle.page_rows.specs.page_table.specs.declared.Found.TheVariants.{At}
+use Rattle.page_rows.specs.page_table.proofs.Heads.{first_place, no_kind}
 use Rattle.page_search.proofs.by_kind.first_of_kind.Statement.{statement}
 use Rattle.page_search.proofs.by_kind.first_of_kind.Tie as tie
 

@@ -9,11 +9,11 @@ use native.Mathlib.Omega.{arith}
 use lib.ListN.{drop}
 use borrow.Author.Rules.{rules}
 use borrow.Author.Tests.{eq-eqb, ne_eqb}
-use Rattle.page_table.specs.declared.Row.{Row}
-use Rattle.page_table.specs.declared.Found.TheVariants.{At, Nothing}
-use Rattle.page_table.specs.Table.{rows, row_count, block, first_at, has_kind, is_signal}
-use Rattle.page_table.proofs.Searches.{kind_search, kind_nothing}
-use Rattle.page_table.proofs.Walk.{block_in, block_out, block_end}
+use Rattle.page_rows.specs.page_table.specs.declared.Row.{Row}
+use Rattle.page_rows.specs.page_table.specs.declared.Found.TheVariants.{At, Nothing}
+use Rattle.page_rows.specs.page_table.specs.Table.{rows, row_count, block, first_at, has_kind, is_signal}
+use Rattle.page_rows.specs.page_table.proofs.Searches.{kind_search, kind_nothing}
+use Rattle.page_rows.specs.page_table.proofs.Walk.{block_in, block_out, block_end}
 use Rattle.page_search.proofs.by_kind.signal_at.Statement.{statement}
 use Rattle.page_search.proofs.by_kind.signal_at.Tie as tie
 

@@ -3,7 +3,7 @@ use Rattle.std.proofs.Common.{◌≡◌, ℕ, ◌+◌, ◌%◌, ◌^◌, true, l
 use borrow.Author.Tests.{lt-leb}
 use Rattle.signal.specs.Twos.{of_signed}
 use Rattle.signal.specs.Raw.{fits_in}
-use Rattle.page_table.specs.Table.{takes}
+use Rattle.page_read.specs.page_table.specs.Table.{takes}
 use Rattle.page_write.proofs.AtRow.{low_row}
 use Rattle.page_write.proofs.Words.{below, below_fits, fits_sum}
 use Rattle.page_write.proofs.at_row.row_takes.Statement.{statement}

@@ -2,15 +2,15 @@
 -- onto `n`, make the answer. The measure is what is left of the table.
 use Rattle.std.proofs.Common.{◌≡◌, ℕ, ◌+◌, ◌-◌, ◌<◌, ◌≤◌, true, false, cond, List, [], ◌∷◌, length, get_or, drop, ℤ, pos, sym, refl, ap, ◌∙◌, ap₂, add-one, arith, drop_of_length-le, drop-cons, to_z-of_z, w64, rules}
 use borrow.Author.Tests.{not-true, not-false}
-use Rattle.page_table.specs.declared.Row.{Row}
+use Rattle.page_read.specs.page_table.specs.declared.Row.{Row}
 use Rattle.page_write.specs.declared.Packed.{Packed}
 use Rattle.page_write.specs.declared.Packed.TheVariants.{Number, Refused}
-use Rattle.page_table.specs.Table.{rows, row_count, block}
-use Rattle.page_table.specs.Table.{signal_count}
+use Rattle.page_read.specs.page_table.specs.Table.{rows, row_count, block}
+use Rattle.page_read.specs.page_table.specs.Table.{signal_count}
 use Rattle.page_write.specs.Raws.{row_takes, put_raw, all_take, packed_on}
 use Rattle.page_write.specs.Steps.{pack_of}
-use Rattle.page_table.proofs.Rules.{fine_at}
-use Rattle.page_table.proofs.Walk.{block_in, block_out, block_end}
+use Rattle.page_read.specs.page_table.proofs.Rules.{fine_at}
+use Rattle.page_read.specs.page_table.proofs.Walk.{block_in, block_out, block_end}
 use Rattle.page_write.proofs.AtRow.{labels_at_lem}
 use Rattle.page_write.proofs.signals.pack.Statement.{statement}
 use Rattle.page_write.proofs.signals.pack.Tie as tie

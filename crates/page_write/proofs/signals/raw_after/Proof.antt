@@ -1,8 +1,8 @@
 -- `page_write::signals::raw_after` meets its contract: the row `place` rows on is of the kind, or the kind has no number there.
 use Rattle.std.proofs.Common.{◌≡◌, sym, ap, ◌∙◌, inl, inr, to_z-of_z, w64, rules}
-use Rattle.page_table.specs.declared.Row.{Row}
+use Rattle.page_read.specs.page_table.specs.declared.Row.{Row}
 use Rattle.page_write.specs.Raws.{whole_at}
-use Rattle.page_table.proofs.Rules.{fine_at}
+use Rattle.page_read.specs.page_table.proofs.Rules.{fine_at}
 use Rattle.page_write.proofs.Places.{number_in, number_out}
 use Rattle.page_write.proofs.signals.raw_after.Statement.{statement}
 use Rattle.page_write.proofs.signals.raw_after.Tie as tie

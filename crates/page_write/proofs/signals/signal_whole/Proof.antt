@@ -4,7 +4,7 @@ use Rattle.signal.specs.Raw.{whole_of}
 use Rattle.signal.proofs.Laws.{get_lt}
 use Rattle.signal.proofs.RawLaws.{whole_in}
 use Rattle.signal.proofs.Totals.{get_in}
-use Rattle.page_table.specs.Table.{lowest, bits_at}
+use Rattle.page_read.specs.page_table.specs.Table.{lowest, bits_at}
 use Rattle.page_write.proofs.signals.signal_whole.Statement.{statement}
 use Rattle.page_write.proofs.signals.signal_whole.Tie as tie
 

@@ -2,12 +2,12 @@
 -- place `j` on, make the answer. The measure is what is left of the table.
 use Rattle.std.proofs.Common.{◌≡◌, ℕ, zero, suc, ◌-◌, ◌≤◌, List, [], ◌∷◌, length, drop, set, ℤ, sym, refl, ap, ◌∙◌, add-one, arith, length-set, to_z-of_z, w64, to_z, of_z, rules}
 use lib.Seq.{sets, set_out}
-use Rattle.page_table.specs.declared.Row.{Row}
-use Rattle.page_table.specs.Table.{rows, row_count, block}
-use Rattle.page_table.specs.Table.{signal_count}
+use Rattle.page_read.specs.page_table.specs.declared.Row.{Row}
+use Rattle.page_read.specs.page_table.specs.Table.{rows, row_count, block}
+use Rattle.page_read.specs.page_table.specs.Table.{signal_count}
 use Rattle.page_write.specs.Raws.{whole_at, wholes_of, pad}
-use Rattle.page_table.proofs.Rules.{fine_at}
-use Rattle.page_table.proofs.Walk.{block_in, block_out, block_end}
+use Rattle.page_read.specs.page_table.proofs.Rules.{fine_at}
+use Rattle.page_read.specs.page_table.proofs.Walk.{block_in, block_out, block_end}
 use Rattle.page_write.proofs.signals.unpack.Statement.{statement}
 use Rattle.page_write.proofs.signals.unpack.Tie as tie
 

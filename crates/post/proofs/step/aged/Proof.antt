@@ -1,6 +1,6 @@
 -- `post::step::aged` meets its contract: only whether the head was heard, and its time, are new.
 use mathlib.Core.Path.{refl}
-use Rattle.rules.specs.After.{aged_to}
+use Rattle.post_times.specs.rules.specs.After.{aged_to}
 use Rattle.post.proofs.step.aged.Statement.{statement}
 use Rattle.post.proofs.step.aged.Tie as tie
 

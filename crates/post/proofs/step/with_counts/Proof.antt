@@ -1,6 +1,6 @@
 -- `post::step::with_counts` meets its contract: only the counts are new.
 use borrow.Author.Rules.{rules}
-use Rattle.rules.specs.After.{with_counts}
+use Rattle.post_times.specs.rules.specs.After.{with_counts}
 use Rattle.post.proofs.step.with_counts.Statement.{statement}
 use Rattle.post.proofs.step.with_counts.Tie as tie
 

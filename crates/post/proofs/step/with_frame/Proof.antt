@@ -1,7 +1,7 @@
 -- `post::step::with_frame` meets its contract, by what the frame is to the rules.
 use mathlib.Core.Path.{sym, ◌∙◌}
 use borrow.Author.Rules.{rules}
-use Rattle.rules.specs.After.{session_after, with_frame}
+use Rattle.post_times.specs.rules.specs.After.{session_after, with_frame}
 use Rattle.post.proofs.step.with_frame.Statement.{statement}
 use Rattle.post.proofs.step.with_frame.Tie as tie
 
