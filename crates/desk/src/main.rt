@@ -1,5 +1,7 @@
 // The desk: reads a script on standard input and writes one answer line for each step, in order. Every step runs by value; with the argument
 // `lent` it runs through the entries that change a lent table in place.
+#![tactic(auto)]
+
 ghost use Rattle.std.specs.Prelude.{◌≤◌};
 
 mod word; // word.rt: the word that a line begins with
@@ -36,23 +38,23 @@ fn emptied(desk: Desk, pen: Pen) -> Desk {
 }
 
 // The line in the buffer is whole: its answer goes to the pen.
-fn ended(desk: Desk, line: &[u8], room: &mut [u8], out: &mut [u8]) -> Desk {
+fn ended(rt: HostRuntime, desk: Desk, line: &[u8], room: &mut [u8], out: &mut [u8]) -> Desk {
     let s = front(line, desk.have);
     if script::is_skipped(s) {
         return emptied(desk, desk.pen);
     }
-    answered(desk, s, room, out)
+    answered(rt, desk, s, room, out)
 }
 
-fn answered(desk: Desk, s: &[u8], room: &mut [u8], out: &mut [u8]) -> Desk {
+fn answered(rt: HostRuntime, desk: Desk, s: &[u8], room: &mut [u8], out: &mut [u8]) -> Desk {
     let lent = desk.lent;
     let table = desk.table;
     let p = desk.pen;
-    let pen = desk_buffers::with_room(p, out, s.len());
+    let pen = desk_buffers::with_room(rt, p, out, s.len());
     if desk.over {
         return emptied(desk, answer::unknown(out, pen));
     }
-    let l = step::answered(lent, table, s, room, out, pen);
+    let l = step::answered(rt, lent, table, s, room, out, pen);
     let t = l.table;
     let q = l.pen;
     Desk {
@@ -65,14 +67,21 @@ fn answered(desk: Desk, s: &[u8], room: &mut [u8], out: &mut [u8]) -> Desk {
 }
 
 // The bytes of a piece, one after the other.
-fn fed(desk: Desk, piece: &[u8], line: &mut [u8], room: &mut [u8], out: &mut [u8]) -> Desk {
+fn fed(
+    rt: HostRuntime,
+    desk: Desk,
+    piece: &[u8],
+    line: &mut [u8],
+    room: &mut [u8],
+    out: &mut [u8],
+) -> Desk {
     let mut d = desk;
     let mut i = 0;
     while i < piece.len() {
         let b = piece[i];
         i += 1;
         if b == b'\n' {
-            d = ended(d, line, room, out);
+            d = ended(rt, d, line, room, out);
         } else {
             d = kept(d, line, b);
         }
@@ -99,31 +108,28 @@ fn kept(desk: Desk, line: &mut [u8], b: u8) -> Desk {
     d
 }
 
-// How many bytes were read; none at the input's end, and none where the reading failed, which is said.
-fn counted(got: isize, piece: &[u8]) -> usize {
-    if got < 0 {
-        os::fail(b"desk: reading standard input");
-        return 0;
-    }
-    io::count(got, piece)
-}
-
 // Nobody waits for an answer while the desk waits for more: what is answered goes out first.
-fn told(desk: Desk, out: &[u8]) -> Desk {
+fn told(rt: HostRuntime, desk: Desk, out: &[u8]) -> Desk {
     let p = desk.pen;
-    let pen = desk_buffers::flushed(p, out);
+    let pen = desk_buffers::flushed(rt, p, out);
     let mut d = desk;
     d.pen = pen;
     d
 }
 
-// The next piece of the input, and how many bytes of it there are.
-fn read_piece(piece: &mut [u8]) -> usize {
-    let got = libc::read(libc::STDIN_FILENO, piece);
-    counted(got, piece)
+// The next piece of the input, and how many bytes of it there are; none at the input's end, and none where the reading failed, which is said.
+fn read_piece(rt: HostRuntime, piece: &mut [u8]) -> usize {
+    match console::read(rt, piece) {
+        Ok(n) => n,
+        Err(why) => {
+            console::fail(rt, b"desk: reading standard input", why);
+            0
+        }
+    }
 }
 
 fn fed_first(
+    rt: HostRuntime,
     desk: Desk,
     n: usize,
     piece: &[u8],
@@ -131,40 +137,47 @@ fn fed_first(
     room: &mut [u8],
     out: &mut [u8],
 ) -> Desk {
-    fed(desk, front(piece, n), line, room, out)
+    fed(rt, desk, front(piece, n), line, room, out)
 }
 
-fn run(desk: Desk, piece: &mut [u8], line: &mut [u8], room: &mut [u8], out: &mut [u8]) -> Desk {
+fn run(
+    rt: HostRuntime,
+    desk: Desk,
+    piece: &mut [u8],
+    line: &mut [u8],
+    room: &mut [u8],
+    out: &mut [u8],
+) -> Desk {
     let mut d = desk;
     let mut turns = u64::MAX;
     while turns > 0 {
-        d = told(d, out);
-        let n = read_piece(piece);
+        d = told(rt, d, out);
+        let n = read_piece(rt, piece);
         if n == 0 {
             return d;
         }
-        d = fed_first(d, n, piece, line, room, out);
+        d = fed_first(rt, d, n, piece, line, room, out);
         turns -= 1;
     }
     d
 }
 
 // "The last line may lack its line feed."
-fn finish(desk: Desk, line: &[u8], room: &mut [u8], out: &mut [u8]) {
+fn finish(rt: HostRuntime, desk: Desk, line: &[u8], room: &mut [u8], out: &mut [u8]) {
     let have = desk.have;
     if have == 0 {
-        desk_buffers::flushed(desk.pen, out);
+        desk_buffers::flushed(rt, desk.pen, out);
         return;
     }
-    let d = ended(desk, line, room, out);
-    desk_buffers::flushed(d.pen, out);
+    let d = ended(rt, desk, line, room, out);
+    desk_buffers::flushed(rt, d.pen, out);
 }
 
-fn serve(lent: bool) {
-    let mut piece = io::large_buffer();
-    let mut line = io::large_buffer();
-    let mut room = io::large_buffer();
-    let mut out = io::large_buffer();
+fn serve(rt: HostRuntime, lent: bool) {
+    let mut piece = console::large_buffer();
+    let mut line = console::large_buffer();
+    let mut room = console::large_buffer();
+    let mut out = console::large_buffer();
     let start = Desk {
         lent,
         table: watch::empty(),
@@ -172,26 +185,39 @@ fn serve(lent: bool) {
         over: false,
         pen: Pen { at: 0, full: false },
     };
-    let d = run(start, &mut piece, &mut line, &mut room, &mut out);
-    finish(d, &line, &mut room, &mut out);
+    let d = run(rt, start, &mut piece, &mut line, &mut room, &mut out);
+    finish(rt, d, &line, &mut room, &mut out);
 }
 
-fn main() {
-    let count = os::arg_count();
-    if count < 2 {
-        serve(false);
+fn says_lent(word: &[u8]) -> bool {
+    match word {
+        b"lent" => true,
+        _ => false,
+    }
+}
+
+// Whether the call's first word is `lent`. A word longer than its room is not.
+fn is_lent(rt: HostRuntime) -> bool {
+    let mut word = [0u8; 16];
+    match console::word(rt, 1, &mut word) {
+        Ok(n) => says_lent(front(&word, n)),
+        Err(_) => false,
+    }
+}
+
+fn main(rt: HostRuntime) {
+    if console::has_words(rt, 0) {
+        serve(rt, false);
         return;
     }
-    let mut word = [0u8; 16];
-    let n = os::arg(1, &mut word);
-    if count == 2 {
-        if check::same(&word[..n], b"lent") {
-            serve(true);
+    if console::has_words(rt, 1) {
+        if is_lent(rt) {
+            serve(rt, true);
             return;
         }
     }
-    io::write_all(
-        libc::STDERR_FILENO,
+    console::say(
+        rt,
         b"usage: desk [lent] < SCRIPT; lent runs the steps on a lent table\n",
     );
 }

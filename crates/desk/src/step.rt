@@ -9,6 +9,7 @@ use page_table::Interface;
 use text_pen::Pen;
 
 pub fn answered(
+    rt: HostRuntime,
     lent: bool,
     table: Table,
     s: &[u8],
@@ -21,19 +22,20 @@ pub fn answered(
     let word = &s[0..e];
     match word::changing_word(word) {
         Changing::No => {
-            let p = shown(table, word, s, at, room, out, pen);
+            let p = shown(rt, table, word, s, at, room, out, pen);
             Line { table, pen: p }
         }
         Changing::Frame => desk_table::frame(lent, table, s, at, room, out, pen),
         Changing::Tick => desk_table::tick(lent, table, s, at, out, pen),
         Changing::Setup => desk_table::setup(lent, table, s, at, out, pen),
         Changing::Release => desk_table::release(lent, table, s, at, out, pen),
-        Changing::Batch => desk_batch::batch(lent, table, s, at, room, out, pen),
+        Changing::Batch => desk_batch::batch(rt, lent, table, s, at, room, out, pen),
     }
 }
 
 // The steps that leave the table as it was.
 fn shown(
+    rt: HostRuntime,
     table: Table,
     word: &[u8],
     s: &[u8],
@@ -43,7 +45,7 @@ fn shown(
     pen: Pen,
 ) -> Pen {
     match word::showing_word(word) {
-        Showing::No => told(word::telling_word(word), s, at, room, out, pen),
+        Showing::No => told(rt, word::telling_word(word), s, at, room, out, pen),
         Showing::Record => desk_record::show(table, s, at, out, pen),
         Showing::Refused => desk_record::refused(table, s, at, out, pen),
         Showing::Index => desk_record::index(table, s, at, out, pen),
@@ -57,12 +59,20 @@ fn shown(
 }
 
 // The steps that need no table.
-fn told(t: Telling, s: &[u8], at: usize, room: &mut [u8], out: &mut [u8], pen: Pen) -> Pen {
+fn told(
+    rt: HostRuntime,
+    t: Telling,
+    s: &[u8],
+    at: usize,
+    room: &mut [u8],
+    out: &mut [u8],
+    pen: Pen,
+) -> Pen {
     match t {
         Telling::No => answer::unknown(out, pen),
         Telling::LogWrite => desk_log::write(s, at, room, out, pen),
-        Telling::LogRead => desk_log::read(s, at, room, out, pen),
-        Telling::Replay => desk_replay::replay(s, at, room, out, pen),
+        Telling::LogRead => desk_log::read(rt, s, at, room, out, pen),
+        Telling::Replay => desk_replay::replay(rt, s, at, room, out, pen),
         Telling::Compare => desk_compare::compare(s, at, room, out, pen),
         Telling::Probe => desk_screen::probe(s, at, out, pen),
         Telling::Duty => desk_screen::duty(s, at, out, pen),

@@ -12,22 +12,14 @@ pub enum Changing {
 }
 
 pub fn changing_word(word: &[u8]) -> Changing {
-    if check::same(word, b"frame") {
-        return Changing::Frame;
+    match word {
+        b"frame" => Changing::Frame,
+        b"tick" => Changing::Tick,
+        b"setup" => Changing::Setup,
+        b"release" => Changing::Release,
+        b"batch" => Changing::Batch,
+        _ => Changing::No,
     }
-    if check::same(word, b"tick") {
-        return Changing::Tick;
-    }
-    if check::same(word, b"setup") {
-        return Changing::Setup;
-    }
-    if check::same(word, b"release") {
-        return Changing::Release;
-    }
-    if check::same(word, b"batch") {
-        return Changing::Batch;
-    }
-    Changing::No
 }
 
 // The steps on the table as it is, and on a frame by itself, by the pages of either interface.
@@ -46,34 +38,18 @@ pub enum Showing {
 }
 
 pub fn showing_word(word: &[u8]) -> Showing {
-    if check::same(word, b"record") {
-        return Showing::Record;
+    match word {
+        b"record" => Showing::Record,
+        b"refused" => Showing::Refused,
+        b"index" => Showing::Index,
+        b"read" => Showing::Read,
+        b"change" => Showing::Change,
+        b"write" => Showing::Write,
+        b"read1" => Showing::ReadOlder,
+        b"change1" => Showing::ChangeOlder,
+        b"write1" => Showing::WriteOlder,
+        _ => Showing::No,
     }
-    if check::same(word, b"refused") {
-        return Showing::Refused;
-    }
-    if check::same(word, b"index") {
-        return Showing::Index;
-    }
-    if check::same(word, b"read") {
-        return Showing::Read;
-    }
-    if check::same(word, b"change") {
-        return Showing::Change;
-    }
-    if check::same(word, b"write") {
-        return Showing::Write;
-    }
-    if check::same(word, b"read1") {
-        return Showing::ReadOlder;
-    }
-    if check::same(word, b"change1") {
-        return Showing::ChangeOlder;
-    }
-    if check::same(word, b"write1") {
-        return Showing::WriteOlder;
-    }
-    Showing::No
 }
 
 // The steps of logs, of the service screen and of words.
@@ -90,26 +66,14 @@ pub enum Telling {
 }
 
 pub fn telling_word(word: &[u8]) -> Telling {
-    if check::same(word, b"logw") {
-        return Telling::LogWrite;
+    match word {
+        b"logw" => Telling::LogWrite,
+        b"logr" => Telling::LogRead,
+        b"replay" => Telling::Replay,
+        b"compare" => Telling::Compare,
+        b"probe" => Telling::Probe,
+        b"duty" => Telling::Duty,
+        b"explain" => Telling::Explain,
+        _ => Telling::No,
     }
-    if check::same(word, b"logr") {
-        return Telling::LogRead;
-    }
-    if check::same(word, b"replay") {
-        return Telling::Replay;
-    }
-    if check::same(word, b"compare") {
-        return Telling::Compare;
-    }
-    if check::same(word, b"probe") {
-        return Telling::Probe;
-    }
-    if check::same(word, b"duty") {
-        return Telling::Duty;
-    }
-    if check::same(word, b"explain") {
-        return Telling::Explain;
-    }
-    Telling::No
 }

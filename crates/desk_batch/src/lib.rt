@@ -1,4 +1,6 @@
 // The step `batch`, which feeds log records to the table in one call and shows every place for answers afterwards, for the desk alone.
+#![tactic(auto)]
+
 mod both; // both.rt: a batch, by value or lent
 
 // The crates among these are passed on to those above, which name them through this one.
@@ -51,13 +53,13 @@ fn put_outcome(word: u32, out: &mut [u8], pen: Pen) -> Pen {
 }
 
 // The answer may be longer than its line, so that what is written goes out between two words.
-fn put_words(answers: &[u32], out: &mut [u8], pen: Pen) -> Pen {
+fn put_words(rt: HostRuntime, answers: &[u32], out: &mut [u8], pen: Pen) -> Pen {
     let mut p = pen;
     let mut i = 0;
     while i < answers.len() {
         let n = answers[i];
         i += 1;
-        p = desk_buffers::half_full(p, out);
+        p = desk_buffers::half_full(rt, p, out);
         p = answer::named(out, p, b" ", n);
     }
     answer::line_end(out, p)
@@ -72,6 +74,7 @@ fn first(words: &[u32], n: usize) -> &[u32] {
 }
 
 fn fed(
+    rt: HostRuntime,
     lent: bool,
     table: Table,
     records: &[u8],
@@ -88,12 +91,13 @@ fn fed(
     }
     let r = both::batch(lent, table, records, &mut answers[0..places]);
     let p = put_outcome(r.answer, out, pen);
-    let q = put_words(first(answers, places), out, p);
+    let q = put_words(rt, first(answers, places), out, p);
     let t = r.table;
     Line { table: t, pen: q }
 }
 
 fn untouched(
+    rt: HostRuntime,
     lent: bool,
     table: Table,
     records: &[u8],
@@ -102,11 +106,12 @@ fn untouched(
     pen: Pen,
 ) -> Line {
     let mut answers = [UNTOUCHED; MOST];
-    fed(lent, table, records, places, &mut answers, out, pen)
+    fed(rt, lent, table, records, places, &mut answers, out, pen)
 }
 
 // `batch HEX ROOM`
 pub fn batch(
+    rt: HostRuntime,
     lent: bool,
     table: Table,
     s: &[u8],
@@ -121,7 +126,7 @@ pub fn batch(
             pen: answer::unknown(out, pen),
         },
         Asked::Batch { length, places } => {
-            untouched(lent, table, front(room, length), places, out, pen)
+            untouched(rt, lent, table, front(room, length), places, out, pen)
         }
     }
 }

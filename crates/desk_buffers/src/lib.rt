@@ -1,5 +1,7 @@
 // The buffers that the desk lends to its steps: the output on its way to standard output, and the bytes at the front of the room. For the desk and its
 // steps alone; every function takes any input.
+#![tactic(auto)]
+
 ghost use Rattle.std.specs.Prelude.{◌≡◌, take};
 
 use text_pen::Pen;
@@ -9,29 +11,29 @@ const HALF: usize = 32768;
 // What an answer may have beyond its line's length: a record, or every finding in words. The answers of `logr` and `replay` go out between two records.
 const SPARE: usize = 2048;
 
-pub fn flushed(pen: Pen, out: &[u8]) -> Pen {
+pub fn flushed(rt: HostRuntime, pen: Pen, out: &[u8]) -> Pen {
     let at = pen.at;
     if at <= out.len() {
-        if !io::write_all(libc::STDOUT_FILENO, &out[0..at]) {
-            os::fail(b"desk: writing standard output");
+        if let Err(why) = console::write(rt, &out[0..at]) {
+            console::fail(rt, b"desk: writing standard output", why);
         }
     }
     Pen { at: 0, full: false }
 }
 
-pub fn half_full(pen: Pen, out: &[u8]) -> Pen {
+pub fn half_full(rt: HostRuntime, pen: Pen, out: &[u8]) -> Pen {
     if pen.at > HALF {
-        return flushed(pen, out);
+        return flushed(rt, pen, out);
     }
     pen
 }
 
 // The pen with room for the answer to a line of this length: no answer is longer than its line and SPARE.
-pub fn with_room(pen: Pen, out: &[u8], have: usize) -> Pen {
+pub fn with_room(rt: HostRuntime, pen: Pen, out: &[u8], have: usize) -> Pen {
     if have > HALF - SPARE {
-        return flushed(pen, out);
+        return flushed(rt, pen, out);
     }
-    half_full(pen, out)
+    half_full(rt, pen, out)
 }
 
 // The first n bytes, or all where there are fewer.

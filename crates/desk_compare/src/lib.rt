@@ -1,4 +1,6 @@
 // The step `compare`, which compares two night logs, for the desk alone.
+#![tactic(auto)]
+
 use compare_rules::{CHANNELS, Compared};
 use desk_buffers::front;
 use notation_answers::answer;

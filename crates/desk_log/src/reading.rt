@@ -10,16 +10,23 @@ use text_bytes::Bytes;
 use text_pen::Pen;
 
 // `logr HEX`
-pub fn read(s: &[u8], at: usize, room: &mut [u8], out: &mut [u8], pen: Pen) -> Pen {
+pub fn read(
+    rt: HostRuntime,
+    s: &[u8],
+    at: usize,
+    room: &mut [u8],
+    out: &mut [u8],
+    pen: Pen,
+) -> Pen {
     match fields::take_rest(s, at, room) {
         Bytes::Bad => answer::unknown(out, pen),
-        Bytes::Is(n) => put_log(front(room, n), out, pen),
+        Bytes::Is(n) => put_log(rt, front(room, n), out, pen),
     }
 }
 
-fn put_log(bytes: &[u8], out: &mut [u8], pen: Pen) -> Pen {
+fn put_log(rt: HostRuntime, bytes: &[u8], out: &mut [u8], pen: Pen) -> Pen {
     let scan = log_read::scan_log(bytes);
-    let p = put_list(bytes, records_of(scan), out, pen);
+    let p = put_list(rt, bytes, records_of(scan), out, pen);
     put_ending(out, p, scan)
 }
 
@@ -58,19 +65,19 @@ pub fn put_bad(out: &mut [u8], pen: Pen, why: Refusal, at: usize) -> Pen {
 }
 
 // `L K REC*K` and a space
-fn put_list(bytes: &[u8], records: usize, out: &mut [u8], pen: Pen) -> Pen {
-    let p = put_records(bytes, records, out, pen);
+fn put_list(rt: HostRuntime, bytes: &[u8], records: usize, out: &mut [u8], pen: Pen) -> Pen {
+    let p = put_records(rt, bytes, records, out, pen);
     text_pen::put(out, p, b" ")
 }
 
 // The answer may be twice as long as its line, so that what is written goes out between two records.
-fn put_records(bytes: &[u8], records: usize, out: &mut [u8], pen: Pen) -> Pen {
+fn put_records(rt: HostRuntime, bytes: &[u8], records: usize, out: &mut [u8], pen: Pen) -> Pen {
     let mut p = put_count(out, pen, records);
     let mut at = 0;
     let mut left = records;
     while left > 0 {
         left -= 1;
-        p = desk_buffers::half_full(p, out);
+        p = desk_buffers::half_full(rt, p, out);
         let r = put_next(bytes, at, out, p);
         p = r.pen;
         at = r.next;

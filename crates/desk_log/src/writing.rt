@@ -34,13 +34,11 @@ fn written(s: &[u8], at: usize, room: &mut [u8]) -> Done {
     }
     let e = text_lines::word_end(s, at);
     let kind = &s[at..e];
-    if check::same(kind, b"t") {
-        return tick(s, e + 1, room);
+    match kind {
+        b"t" => tick(s, e + 1, room),
+        b"f" => frame(s, e + 1, room),
+        _ => Done::Bad,
     }
-    if check::same(kind, b"f") {
-        return frame(s, e + 1, room);
-    }
-    Done::Bad
 }
 
 // `TIME CHANNEL HEX`

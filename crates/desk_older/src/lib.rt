@@ -1,5 +1,7 @@
 // The values of 001's messages as desk.md lists them, and the message of such values: for the steps that show a message of the older interface or take one by
 // its numbers. 004's are its messages too.
+#![tactic(auto)]
+
 mod fields; // fields.rt: the fields whose values are no raw numbers
 
 // The crates among these are passed on to those above, which name them through this one.

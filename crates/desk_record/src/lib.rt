@@ -1,4 +1,6 @@
 // A post's record as one line, the table's count of what was refused, and its index: the steps `record`, `refused` and `index`, for the desk alone.
+#![tactic(auto)]
+
 // The crates among these are passed on to those above, which name them through this one.
 use desk_older::desk_values::message;
 use message_types::labels::{plug_number, protocol_number};

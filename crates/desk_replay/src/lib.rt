@@ -1,4 +1,6 @@
 // The step `replay`, which replays a night log over a table of its own, for the desk alone.
+#![tactic(auto)]
+
 mod setups; // setups.rt: the set-ups of a replay
 
 use desk_buffers::front;
@@ -61,10 +63,10 @@ fn put_answer(a: Played, line: &[u8], out: &mut [u8], pen: Pen) -> Told {
     }
 }
 
-fn called(c: Course, log: &[u8], line: &mut [u8], out: &mut [u8]) -> Course {
+fn called(rt: HostRuntime, c: Course, log: &[u8], line: &mut [u8], out: &mut [u8]) -> Course {
     let at = c.at;
     let p = c.pen;
-    let pen = desk_buffers::half_full(p, out);
+    let pen = desk_buffers::half_full(rt, p, out);
     let n = playing_calls::next_line(c.replay, log, at, line);
     let replay = n.replay;
     let a = n.answer;
@@ -80,11 +82,11 @@ fn called(c: Course, log: &[u8], line: &mut [u8], out: &mut [u8]) -> Course {
 
 // `LINE|LINE|..|ENDING`: there are no more records than bytes, and one call more ends the replay. The answer may be longer than its line, so that
 // what is written goes out between two records.
-fn put_night(start: Course, log: &[u8], line: &mut [u8], out: &mut [u8]) -> Pen {
+fn put_night(rt: HostRuntime, start: Course, log: &[u8], line: &mut [u8], out: &mut [u8]) -> Pen {
     let mut c = start;
     let mut calls = 0;
     while calls <= log.len() {
-        c = called(c, log, line, out);
+        c = called(rt, c, log, line, out);
         if !c.more {
             return c.pen;
         }
@@ -93,7 +95,7 @@ fn put_night(start: Course, log: &[u8], line: &mut [u8], out: &mut [u8]) -> Pen 
     c.pen
 }
 
-fn put_replay(r: Ready, log: &[u8], out: &mut [u8], pen: Pen) -> Pen {
+fn put_replay(rt: HostRuntime, r: Ready, log: &[u8], out: &mut [u8], pen: Pen) -> Pen {
     if !r.well {
         return answer::unknown(out, pen);
     }
@@ -104,8 +106,8 @@ fn put_replay(r: Ready, log: &[u8], out: &mut [u8], pen: Pen) -> Pen {
         at: 0,
         more: true,
     };
-    let mut line = io::buffer();
-    put_night(start, log, &mut line, out)
+    let mut line = console::buffer();
+    put_night(rt, start, log, &mut line, out)
 }
 
 // A log's bytes are the first `length` of the room; `next` is where the set-ups stand.
@@ -130,11 +132,24 @@ fn take_log(s: &[u8], at: usize, room: &mut [u8]) -> Night {
 }
 
 // `replay HEX SETUPS`
-pub fn replay(s: &[u8], at: usize, room: &mut [u8], out: &mut [u8], pen: Pen) -> Pen {
+pub fn replay(
+    rt: HostRuntime,
+    s: &[u8],
+    at: usize,
+    room: &mut [u8],
+    out: &mut [u8],
+    pen: Pen,
+) -> Pen {
     match take_log(s, at, room) {
         Night::Bad => answer::unknown(out, pen),
         Night::Log { length, next } => {
-            put_replay(setups::take_set_ups(s, next), front(room, length), out, pen)
+            put_replay(
+                rt,
+                setups::take_set_ups(s, next),
+                front(room, length),
+                out,
+                pen,
+            )
         }
     }
 }

@@ -104,9 +104,9 @@ pub fn take_set_ups(s: &[u8], at: usize) -> Ready {
         return ill();
     }
     let all = &s[at..];
-    if check::same(all, b"-") {
+    if let b"-" = all {
         return fresh();
     }
-    let mut room = io::buffer();
+    let mut room = console::buffer();
     set_ups(all, &mut room)
 }

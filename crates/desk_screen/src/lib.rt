@@ -1,5 +1,7 @@
 // The steps of the service screen, a probe's degrees and the limited duty, for the desk alone. A raw number that its signal of document 004 cannot hold
 // is too large for its place.
+#![tactic(auto)]
+
 use message_fields::{short, word};
 use notation_answers::answer;
 use service::Probe;

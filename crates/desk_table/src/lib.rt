@@ -1,4 +1,6 @@
 // The steps that change the table, by value or lent: setup, release, frame, tick, for the desk alone. A line is read before the table is touched.
+#![tactic(auto)]
+
 mod both; // both.rt: a step on the table, by value or lent
 
 // The crates among these are passed on to those above, which name them through this one.

@@ -1,4 +1,6 @@
 // Findings and refusals in words, 01's sentences in short: the step `explain`, for the desk alone.
+#![tactic(auto)]
+
 mod asked; // asked.rt: what a line asks to be explained
 mod sentence; // sentence.rt: a sentence of a list
 mod findings; // findings.rt: findings in words

@@ -1,5 +1,7 @@
 // The readings of paper 01, those of 02's requests, and frames on both sides of each edge, run through the library.
 // What is printed is held to the file stdout beside src/. The readings through the watch stand in `readings_posts`, messages in words in `readings_messages`.
+#![tactic(auto)]
+
 mod changes; // changes.rt: one signal changed
 mod frames; // frames.rt: frames read
 mod older_frames; // older_frames.rt: frames of document 001
@@ -14,19 +16,22 @@ use readings_messages::show::text;
 use readings_messages::trips;
 use readings_posts::posts;
 
-fn codec() {
-    frames::all();
-    writings::all();
-    changes::all();
-    safety::all();
-    older_frames::all();
-    rest::all();
-    text(b"read-write, write-read and one-message, run on two frames of each kind\n");
-    trips::all();
+fn codec(rt: HostRuntime) {
+    frames::all(rt);
+    writings::all(rt);
+    changes::all(rt);
+    safety::all(rt);
+    older_frames::all(rt);
+    rest::all(rt);
+    text(
+        rt,
+        b"read-write, write-read and one-message, run on two frames of each kind\n",
+    );
+    trips::all(rt);
 }
 
-fn main() {
-    codec();
-    posts::all();
-    readings_posts::older::all();
+fn main(rt: HostRuntime) {
+    codec(rt);
+    posts::all(rt);
+    readings_posts::older::all(rt);
 }

@@ -7,99 +7,106 @@ use readings_messages::show::{bytes, hex, natural, number, refusal, text};
 // The places that a message's raw numbers have, as in `page_write::raws_of`.
 const SIGNALS: usize = 16;
 
-fn asked(id: u32, payload: &[u8]) {
-    text(b"  read ");
-    hex(id as u64, 1);
-    text(b" ");
-    bytes(payload);
-    text(b" -> ");
+fn asked(rt: HostRuntime, id: u32, payload: &[u8]) {
+    text(rt, b"  read ");
+    hex(rt, id as u64, 1);
+    text(rt, b" ");
+    bytes(rt, payload);
+    text(rt, b" -> ");
 }
 
-pub fn read(id: u32, extended: bool, payload: &[u8]) {
-    asked(id, payload);
-    reading(messages::read(id, extended, payload));
-    text(b"\n");
+pub fn read(rt: HostRuntime, id: u32, extended: bool, payload: &[u8]) {
+    asked(rt, id, payload);
+    reading(rt, messages::read(id, extended, payload));
+    text(rt, b"\n");
 }
 
-fn spaced(z: i64) {
-    text(b" ");
-    number(z);
+fn spaced(rt: HostRuntime, z: i64) {
+    text(rt, b" ");
+    number(rt, z);
 }
 
-fn raws(zs: [i64; SIGNALS]) {
+fn raws(rt: HostRuntime, zs: [i64; SIGNALS]) {
     let mut j = 0;
     while j < SIGNALS {
-        spaced(zs[j]);
+        spaced(rt, zs[j]);
         j += 1;
     }
 }
 
 // Kind, then the raw numbers of the kind's signals with zeros behind them.
-fn of_kind(kind: usize, zs: [i64; SIGNALS]) {
-    text(b"kind ");
-    natural(kind as u64);
-    text(b":");
-    raws(zs);
+fn of_kind(rt: HostRuntime, kind: usize, zs: [i64; SIGNALS]) {
+    text(rt, b"kind ");
+    natural(rt, kind as u64);
+    text(rt, b":");
+    raws(rt, zs);
 }
 
-fn judged(j: Judged) {
+fn judged(rt: HostRuntime, j: Judged) {
     match j {
-        Judged::Frame(kind, n) => of_kind(kind, page_write::raws_of(kind, n)),
-        Judged::Refused(w) => refusal(w),
+        Judged::Frame(kind, n) => of_kind(rt, kind, page_write::raws_of(kind, n)),
+        Judged::Refused(w) => refusal(rt, w),
     }
 }
 
 // By the pages of the older interface: what the frame's message writes again, into a longer buffer; or the refusal.
-fn written_again(m: older_types::Message) {
+fn written_again(rt: HostRuntime, m: older_types::Message) {
     let mut buf = [0x55u8; 10];
     let w = older::write(m, &mut buf);
-    text(b" -> ");
-    bytes(&buf);
-    text(b" ");
-    written(w);
+    text(rt, b" -> ");
+    bytes(rt, &buf);
+    text(rt, b" ");
+    written(rt, w);
 }
 
-fn reading_older(r: older::Reading) {
+fn reading_older(rt: HostRuntime, r: older::Reading) {
     match r {
         older::Reading::Accepted(m) => {
-            of_kind(older_types::kind_of(m), older_take::raws(m));
-            written_again(m);
+            of_kind(rt, older_types::kind_of(m), older_take::raws(m));
+            written_again(rt, m);
         }
-        older::Reading::Refused(w) => refusal(w),
+        older::Reading::Refused(w) => refusal(rt, w),
     }
 }
 
-pub fn read_older(id: u32, extended: bool, payload: &[u8]) {
-    asked(id, payload);
-    reading_older(older::read(id, extended, payload));
-    text(b"\n");
+pub fn read_older(rt: HostRuntime, id: u32, extended: bool, payload: &[u8]) {
+    asked(rt, id, payload);
+    reading_older(rt, older::read(id, extended, payload));
+    text(rt, b"\n");
 }
 
-fn ordered(payload: &[u8], start: u32, raw: i64) {
-    text(b"  change ");
-    bytes(payload);
-    text(b" at ");
-    natural(start as u64);
-    text(b" to ");
-    number(raw);
+fn ordered(rt: HostRuntime, payload: &[u8], start: u32, raw: i64) {
+    text(rt, b"  change ");
+    bytes(rt, payload);
+    text(rt, b" at ");
+    natural(rt, start as u64);
+    text(rt, b" to ");
+    number(rt, raw);
 }
 
-fn changed(payload: &[u8], j: Judged) {
-    text(b" -> ");
-    bytes(payload);
-    text(b" ");
-    judged(j);
-    text(b"\n");
+fn changed(rt: HostRuntime, payload: &[u8], j: Judged) {
+    text(rt, b" -> ");
+    bytes(rt, payload);
+    text(rt, b" ");
+    judged(rt, j);
+    text(rt, b"\n");
 }
 
-pub fn change(id: u32, extended: bool, payload: &mut [u8], start: u32, raw: i64) {
-    ordered(payload, start, raw);
+pub fn change(rt: HostRuntime, id: u32, extended: bool, payload: &mut [u8], start: u32, raw: i64) {
+    ordered(rt, payload, start, raw);
     let j = page_change::change(id, extended, payload, start, raw);
-    changed(payload, j);
+    changed(rt, payload, j);
 }
 
-pub fn change_older(id: u32, extended: bool, payload: &mut [u8], start: u32, raw: i64) {
-    ordered(payload, start, raw);
+pub fn change_older(
+    rt: HostRuntime,
+    id: u32,
+    extended: bool,
+    payload: &mut [u8],
+    start: u32,
+    raw: i64,
+) {
+    ordered(rt, payload, start, raw);
     let j = older::change(id, extended, payload, start, raw);
-    changed(payload, j);
+    changed(rt, payload, j);
 }

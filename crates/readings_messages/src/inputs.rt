@@ -7,117 +7,117 @@ use message_types::{
     SpccInputs,
 };
 
-fn reserved(n: u64) {
-    text(b", reserved ");
-    natural(n);
+fn reserved(rt: HostRuntime, n: u64) {
+    text(rt, b", reserved ");
+    natural(rt, n);
 }
 
 // The degree sign in UTF-8.
-fn degrees(c: i16) {
-    text(b", ");
-    short(c);
-    text(b" \xc2\xb0C");
+fn degrees(rt: HostRuntime, c: i16) {
+    text(rt, b", ");
+    short(rt, c);
+    text(rt, b" \xc2\xb0C");
 }
 
-fn authorisations(m: SequenceControl) {
+fn authorisations(rt: HostRuntime, m: SequenceControl) {
     let a = m.authorisation;
-    labels::permission(a);
-    text(b", CHAdeMO ");
+    labels::permission(rt, a);
+    text(rt, b", CHAdeMO ");
     let b = m.chademo;
-    labels::button(b);
-    text(b", CCS ");
+    labels::button(rt, b);
+    text(rt, b", CCS ");
     let d = m.done;
-    labels::step(d);
-    text(b", ");
+    labels::step(rt, d);
+    text(rt, b", ");
     let v = m.valid;
-    labels::validity(v);
+    labels::validity(rt, v);
 }
 
-pub fn sequence(m: SequenceControl) {
-    authorisations(m);
-    text(b", parameters ");
+pub fn sequence(rt: HostRuntime, m: SequenceControl) {
+    authorisations(rt, m);
+    text(rt, b", parameters ");
     let p = m.parameters;
-    labels::step(p);
-    text(b", stop ");
+    labels::step(rt, p);
+    text(rt, b", stop ");
     let s = m.stop;
-    labels::button(s);
+    labels::button(rt, s);
 }
 
-pub fn outputs(m: SeccOutputs) {
-    text(b"outputs");
-    flag(m.output1);
-    flag(m.output2);
-    flag(m.output3);
-    flag(m.output4);
-    reserved(m.reserved);
+pub fn outputs(rt: HostRuntime, m: SeccOutputs) {
+    text(rt, b"outputs");
+    flag(rt, m.output1);
+    flag(rt, m.output2);
+    flag(rt, m.output3);
+    flag(rt, m.output4);
+    reserved(rt, m.reserved);
 }
 
-fn switches(m: CuiInputs) {
-    text(b"switches");
-    flag(m.switch0);
-    flag(m.switch1);
-    flag(m.switch2);
-    flag(m.switch3);
-    flag(m.switch4);
-    flag(m.switch5);
+fn switches(rt: HostRuntime, m: CuiInputs) {
+    text(rt, b"switches");
+    flag(rt, m.switch0);
+    flag(rt, m.switch1);
+    flag(rt, m.switch2);
+    flag(rt, m.switch3);
+    flag(rt, m.switch4);
+    flag(rt, m.switch5);
 }
 
-pub fn cui(m: CuiInputs) {
-    switches(m);
-    reserved(m.reserved);
-    degrees(m.colibri);
-    degrees(m.cpu);
-    degrees(m.pistol1);
-    degrees(m.pistol2);
+pub fn cui(rt: HostRuntime, m: CuiInputs) {
+    switches(rt, m);
+    reserved(rt, m.reserved);
+    degrees(rt, m.colibri);
+    degrees(rt, m.cpu);
+    degrees(rt, m.pistol1);
+    degrees(rt, m.pistol2);
 }
 
-pub fn secc(m: SeccInputs) {
-    text(b"inputs");
-    flag(m.input1);
-    flag(m.input2);
-    flag(m.input3);
-    flag(m.input4);
-    reserved(m.reserved);
-    degrees(m.cpu);
-    degrees(m.pistol1);
-    degrees(m.pistol2);
+pub fn secc(rt: HostRuntime, m: SeccInputs) {
+    text(rt, b"inputs");
+    flag(rt, m.input1);
+    flag(rt, m.input2);
+    flag(rt, m.input3);
+    flag(rt, m.input4);
+    reserved(rt, m.reserved);
+    degrees(rt, m.cpu);
+    degrees(rt, m.pistol1);
+    degrees(rt, m.pistol2);
 }
 
-fn probes(m: SpccInputs) {
-    degrees(m.cpu0);
-    degrees(m.cpu1);
-    degrees(m.pt1ka);
-    degrees(m.pt1kb);
-    degrees(m.pt1ksc);
-    degrees(m.pt1ksd);
+fn probes(rt: HostRuntime, m: SpccInputs) {
+    degrees(rt, m.cpu0);
+    degrees(rt, m.cpu1);
+    degrees(rt, m.pt1ka);
+    degrees(rt, m.pt1kb);
+    degrees(rt, m.pt1ksc);
+    degrees(rt, m.pt1ksd);
 }
 
-pub fn spcc(m: SpccInputs) {
-    text(b"inputs");
-    flag(m.input1);
-    flag(m.input2);
-    flag(m.input3);
-    flag(m.input4);
-    reserved(m.reserved);
-    probes(m);
+pub fn spcc(rt: HostRuntime, m: SpccInputs) {
+    text(rt, b"inputs");
+    flag(rt, m.input1);
+    flag(rt, m.input2);
+    flag(rt, m.input3);
+    flag(rt, m.input4);
+    reserved(rt, m.reserved);
+    probes(rt, m);
 }
 
-pub fn ccs(m: CcsExtraInformation) {
-    text(b"CP ");
+pub fn ccs(rt: HostRuntime, m: CcsExtraInformation) {
+    text(rt, b"CP ");
     let l = m.state;
-    labels::pilot(l);
-    text(b", ");
-    word_tenths(m.duty);
-    text(b" %");
-    reserved(m.reserved);
+    labels::pilot(rt, l);
+    text(rt, b", ");
+    word_tenths(rt, m.duty);
+    text(rt, b" %");
+    reserved(rt, m.reserved);
 }
 
-pub fn mcs(m: McsExtraInformation) {
-    text(b"CE ");
+pub fn mcs(rt: HostRuntime, m: McsExtraInformation) {
+    text(rt, b"CE ");
     let c = m.ce;
-    labels::ce(c);
-    text(b", ID ");
+    labels::ce(rt, c);
+    text(rt, b", ID ");
     let i = m.id;
-    labels::mating(i);
-    reserved(m.reserved);
+    labels::mating(rt, i);
+    reserved(rt, m.reserved);
 }

@@ -1,5 +1,7 @@
 // Messages in words, for the program readings alone: what a frame is read to, with the label names of 000,
 // and whether the codec's round trips hold of frames of every kind, found by running them.
+#![tactic(auto)]
+
 mod inputs; // inputs.rt: the messages that 001 has alike
 mod labels; // labels.rt: the names of labels and of kinds
 pub mod message; // message.rt: a message's fields in words

@@ -8,215 +8,215 @@ use message_types::{
 };
 use messages::Reading;
 
-fn volts(v: u16) {
-    word_tenths(v);
-    text(b" V, ");
+fn volts(rt: HostRuntime, v: u16) {
+    word_tenths(rt, v);
+    text(rt, b" V, ");
 }
 
-fn amperes(a: i16) {
-    short_tenths(a);
-    text(b" A, ");
+fn amperes(rt: HostRuntime, a: i16) {
+    short_tenths(rt, a);
+    text(rt, b" A, ");
 }
 
-fn most_amperes(a: u16) {
-    word_tenths(a);
-    text(b" A, ");
+fn most_amperes(rt: HostRuntime, a: u16) {
+    word_tenths(rt, a);
+    text(rt, b" A, ");
 }
 
 // The degree sign in UTF-8.
-fn degrees(c: i16) {
-    short(c);
-    text(b" \xc2\xb0C, ");
+fn degrees(rt: HostRuntime, c: i16) {
+    short(rt, c);
+    text(rt, b" \xc2\xb0C, ");
 }
 
-fn status(s: PowerModulesStatus) {
-    volts(s.voltage);
-    amperes(s.current);
-    degrees(s.modules);
-    degrees(s.enclosure);
+fn status(rt: HostRuntime, s: PowerModulesStatus) {
+    volts(rt, s.voltage);
+    amperes(rt, s.current);
+    degrees(rt, s.modules);
+    degrees(rt, s.enclosure);
     let l = s.enable;
-    labels::enable(l);
-    text(b", ");
-    natural(s.insulation as u64);
-    text(b" kOhm");
+    labels::enable(rt, l);
+    text(rt, b", ");
+    natural(rt, s.insulation as u64);
+    text(rt, b" kOhm");
 }
 
-fn parameters(p: DcPowerParameters) {
-    volts(p.voltage);
-    most_amperes(p.charge);
-    most_amperes(p.discharge);
-    short_tenths(p.target);
-    text(b" A");
+fn parameters(rt: HostRuntime, p: DcPowerParameters) {
+    volts(rt, p.voltage);
+    most_amperes(rt, p.charge);
+    most_amperes(rt, p.discharge);
+    short_tenths(rt, p.target);
+    text(rt, b" A");
 }
 
-fn session(s: NewChargeSession) {
+fn session(rt: HostRuntime, s: NewChargeSession) {
     let p = s.protocol;
-    labels::protocol(p);
-    text(b", ");
+    labels::protocol(rt, p);
+    text(rt, b", ");
     let q = s.plug;
-    labels::plug(q);
+    labels::plug(rt, q);
 }
 
-fn setpoints(d: DcPowerControl) {
-    volts(d.target);
-    amperes(d.max);
-    amperes(d.min);
+fn setpoints(rt: HostRuntime, d: DcPowerControl) {
+    volts(rt, d.target);
+    amperes(rt, d.max);
+    amperes(rt, d.min);
 }
 
-fn control(d: DcPowerControl) {
-    setpoints(d);
+fn control(rt: HostRuntime, d: DcPowerControl) {
+    setpoints(rt, d);
     let f = d.function;
-    labels::function(f);
-    text(b", reserved");
-    flag(d.reserved);
-    text(b", ");
+    labels::function(rt, f);
+    text(rt, b", reserved");
+    flag(rt, d.reserved);
+    text(rt, b", ");
     let m = d.mode;
-    labels::mode(m);
-    text(b", ");
+    labels::mode(rt, m);
+    text(rt, b", ");
     let c = d.contactors;
-    labels::contactors(c);
-    text(b", ");
+    labels::contactors(rt, c);
+    text(rt, b", ");
     let l = d.lowering;
-    labels::lowering(l);
+    labels::lowering(rt, l);
 }
 
-fn spaced(b: u8) {
-    text(b" ");
-    natural(b as u64);
+fn spaced(rt: HostRuntime, b: u8) {
+    text(rt, b" ");
+    natural(rt, b as u64);
 }
 
-fn id(m: EvId) {
-    text(b"bytes");
-    spaced(m.byte0);
-    spaced(m.byte1);
-    spaced(m.byte2);
-    spaced(m.byte3);
-    spaced(m.byte4);
-    spaced(m.byte5);
+fn id(rt: HostRuntime, m: EvId) {
+    text(rt, b"bytes");
+    spaced(rt, m.byte0);
+    spaced(rt, m.byte1);
+    spaced(rt, m.byte2);
+    spaced(rt, m.byte3);
+    spaced(rt, m.byte4);
+    spaced(rt, m.byte5);
 }
 
-fn duty(d: u16, pwm: bool) {
-    word_tenths(d);
-    text(b" %, PWM");
-    flag(pwm);
+fn duty(rt: HostRuntime, d: u16, pwm: bool) {
+    word_tenths(rt, d);
+    text(rt, b" %, PWM");
+    flag(rt, pwm);
 }
 
-fn contactors(first: bool, second: bool) {
-    text(b", contactors");
-    flag(first);
-    flag(second);
+fn contactors(rt: HostRuntime, first: bool, second: bool) {
+    text(rt, b", contactors");
+    flag(rt, first);
+    flag(rt, second);
 }
 
-fn safety_control(m: ChargeControl1) {
-    duty(m.duty, m.pwm);
-    contactors(m.contactor1, m.contactor2);
+fn safety_control(rt: HostRuntime, m: ChargeControl1) {
+    duty(rt, m.duty, m.pwm);
+    contactors(rt, m.contactor1, m.contactor2);
 }
 
-fn pilots(m: ChargeState1) {
-    text(b", CP ");
+fn pilots(rt: HostRuntime, m: ChargeState1) {
+    text(rt, b", CP ");
     let c = m.cp;
-    labels::cp(c);
-    text(b", short");
-    flag(m.short);
-    text(b", diode");
-    flag(m.diode);
-    text(b", PP ");
+    labels::cp(rt, c);
+    text(rt, b", short");
+    flag(rt, m.short);
+    text(rt, b", diode");
+    flag(rt, m.diode);
+    text(rt, b", PP ");
     let p = m.pp;
-    labels::pp(p);
+    labels::pp(rt, p);
 }
 
-fn aborts(m: ChargeState1) {
-    text(b", errors");
-    flag(m.error1);
-    flag(m.error2);
-    text(b", stops");
-    flag(m.estop1);
-    flag(m.estop2);
-    flag(m.estop3);
-    text(b", IMD");
-    flag(m.imdabort);
-    flag(m.imdfailure);
+fn aborts(rt: HostRuntime, m: ChargeState1) {
+    text(rt, b", errors");
+    flag(rt, m.error1);
+    flag(rt, m.error2);
+    text(rt, b", stops");
+    flag(rt, m.estop1);
+    flag(rt, m.estop2);
+    flag(rt, m.estop3);
+    text(rt, b", IMD");
+    flag(rt, m.imdabort);
+    flag(rt, m.imdfailure);
 }
 
-fn safety_state(m: ChargeState1) {
-    duty(m.duty, m.pwm);
-    pilots(m);
-    contactors(m.contactor1, m.contactor2);
-    aborts(m);
+fn safety_state(rt: HostRuntime, m: ChargeState1) {
+    duty(rt, m.duty, m.pwm);
+    pilots(rt, m);
+    contactors(rt, m.contactor1, m.contactor2);
+    aborts(rt, m);
 }
 
 // 004's TempSensorNotUsed, or the degrees; then whether charging was stopped and the self-test failed.
-fn probe(raw: i16, stopped: bool, failed: bool) {
+fn probe(rt: HostRuntime, raw: i16, stopped: bool, failed: bool) {
     if raw == 0x1fff {
-        text(b"not used");
+        text(rt, b"not used");
     } else {
-        short_tenths(raw);
-        text(b" \xc2\xb0C");
+        short_tenths(rt, raw);
+        text(rt, b" \xc2\xb0C");
     }
-    flag(stopped);
-    flag(failed);
+    flag(rt, stopped);
+    flag(rt, failed);
 }
 
-fn probes(m: Pt1000State) {
-    probe(m.temperature1, m.stopped1, m.failed1);
-    text(b", ");
-    probe(m.temperature2, m.stopped2, m.failed2);
-    text(b", ");
-    probe(m.temperature3, m.stopped3, m.failed3);
-    text(b", ");
-    probe(m.temperature4, m.stopped4, m.failed4);
+fn probes(rt: HostRuntime, m: Pt1000State) {
+    probe(rt, m.temperature1, m.stopped1, m.failed1);
+    text(rt, b", ");
+    probe(rt, m.temperature2, m.stopped2, m.failed2);
+    text(rt, b", ");
+    probe(rt, m.temperature3, m.stopped3, m.failed3);
+    text(rt, b", ");
+    probe(rt, m.temperature4, m.stopped4, m.failed4);
 }
 
-fn fields(m: Message) {
+fn fields(rt: HostRuntime, m: Message) {
     match m {
-        Message::Status(s) => status(s),
-        Message::Parameters(p) => parameters(p),
+        Message::Status(s) => status(rt, s),
+        Message::Parameters(p) => parameters(rt, p),
         Message::Controller(c) => {
             let l = c.state;
-            labels::state(l);
+            labels::state(rt, l);
         }
-        Message::Session(s) => session(s),
+        Message::Session(s) => session(rt, s),
         Message::Change(c) => {
             let l = c.status;
-            labels::charge(l);
+            labels::charge(rt, l);
         }
-        Message::Control(d) => control(d),
+        Message::Control(d) => control(rt, d),
         Message::Finished(f) => {
             let l = f.state;
-            labels::end(l);
+            labels::end(rt, l);
         }
         Message::Stop(s) => {
             let l = s.origin;
-            labels::origin(l);
+            labels::origin(rt, l);
         }
-        Message::Id(b) => id(b),
-        Message::SafetyControl(c) => safety_control(c),
-        Message::SafetyState(s) => safety_state(s),
-        Message::Probes(p) => probes(p),
-        Message::Sequence(m) => inputs::sequence(m),
-        Message::Outputs(m) => inputs::outputs(m),
-        Message::Battery(m) => vehicle::battery(m),
-        Message::Voltages(m) => vehicle::voltages(m),
-        Message::ChargeLimits(m) => vehicle::limits(m),
-        Message::DischargeLimits(m) => vehicle::limits(m),
-        Message::Energy(m) => vehicle::energy(m),
-        Message::Cui(m) => inputs::cui(m),
-        Message::Secc(m) => inputs::secc(m),
-        Message::Spcc(m) => inputs::spcc(m),
-        Message::Ccs(m) => inputs::ccs(m),
-        Message::Mcs(m) => inputs::mcs(m),
-        Message::Ocpp(m) => vehicle::ocpp(m),
+        Message::Id(b) => id(rt, b),
+        Message::SafetyControl(c) => safety_control(rt, c),
+        Message::SafetyState(s) => safety_state(rt, s),
+        Message::Probes(p) => probes(rt, p),
+        Message::Sequence(m) => inputs::sequence(rt, m),
+        Message::Outputs(m) => inputs::outputs(rt, m),
+        Message::Battery(m) => vehicle::battery(rt, m),
+        Message::Voltages(m) => vehicle::voltages(rt, m),
+        Message::ChargeLimits(m) => vehicle::limits(rt, m),
+        Message::DischargeLimits(m) => vehicle::limits(rt, m),
+        Message::Energy(m) => vehicle::energy(rt, m),
+        Message::Cui(m) => inputs::cui(rt, m),
+        Message::Secc(m) => inputs::secc(rt, m),
+        Message::Spcc(m) => inputs::spcc(rt, m),
+        Message::Ccs(m) => inputs::ccs(rt, m),
+        Message::Mcs(m) => inputs::mcs(rt, m),
+        Message::Ocpp(m) => vehicle::ocpp(rt, m),
     }
 }
 
 // What a frame is read to: its message, or the refusal.
-pub fn reading(r: Reading) {
+pub fn reading(rt: HostRuntime, r: Reading) {
     match r {
         Reading::Accepted(m) => {
-            labels::kind(kind_of(m));
-            text(b": ");
-            fields(m);
+            labels::kind(rt, kind_of(m));
+            text(rt, b": ");
+            fields(rt, m);
         }
-        Reading::Refused(w) => refusal(w),
+        Reading::Refused(w) => refusal(rt, w),
     }
 }

@@ -6,51 +6,51 @@ use message_types::{
     OcppControl,
 };
 
-fn percent(n: u8) {
-    text(b", ");
-    natural(n as u64);
-    text(b" %");
+fn percent(rt: HostRuntime, n: u8) {
+    text(rt, b", ");
+    natural(rt, n as u64);
+    text(rt, b" %");
 }
 
-pub fn battery(m: EvInformationBattery) {
-    natural(m.capacity as u64);
-    text(b" kWh");
-    percent(m.present);
-    percent(m.minimum);
-    percent(m.target);
-    percent(m.maximum);
+pub fn battery(rt: HostRuntime, m: EvInformationBattery) {
+    natural(rt, m.capacity as u64);
+    text(rt, b" kWh");
+    percent(rt, m.present);
+    percent(rt, m.minimum);
+    percent(rt, m.target);
+    percent(rt, m.maximum);
 }
 
-pub fn voltages(m: EvInformationVoltages) {
-    word_tenths(m.minimum);
-    text(b" V, ");
-    word_tenths(m.maximum);
-    text(b" V, ");
-    word_tenths(m.present);
-    text(b" V");
+pub fn voltages(rt: HostRuntime, m: EvInformationVoltages) {
+    word_tenths(rt, m.minimum);
+    text(rt, b" V, ");
+    word_tenths(rt, m.maximum);
+    text(rt, b" V, ");
+    word_tenths(rt, m.present);
+    text(rt, b" V");
 }
 
-pub fn limits(m: EvInformationLimits) {
-    word_tenths(m.mincurrent);
-    text(b" A, ");
-    word_tenths(m.maxcurrent);
-    text(b" A, ");
-    natural(m.minpower as u64);
-    text(b" kW, ");
-    natural(m.maxpower as u64);
-    text(b" kW");
+pub fn limits(rt: HostRuntime, m: EvInformationLimits) {
+    word_tenths(rt, m.mincurrent);
+    text(rt, b" A, ");
+    word_tenths(rt, m.maxcurrent);
+    text(rt, b" A, ");
+    natural(rt, m.minpower as u64);
+    text(rt, b" kW, ");
+    natural(rt, m.maxpower as u64);
+    text(rt, b" kW");
 }
 
-pub fn energy(m: EvInformationEnergy) {
-    short(m.minimum);
-    text(b" kWh, ");
-    short(m.target);
-    text(b" kWh, ");
-    short(m.maximum);
-    text(b" kWh");
+pub fn energy(rt: HostRuntime, m: EvInformationEnergy) {
+    short(rt, m.minimum);
+    text(rt, b" kWh, ");
+    short(rt, m.target);
+    text(rt, b" kWh, ");
+    short(rt, m.maximum);
+    text(rt, b" kWh");
 }
 
-pub fn ocpp(m: OcppControl) {
-    short_tenths(m.target);
-    text(b" A");
+pub fn ocpp(rt: HostRuntime, m: OcppControl) {
+    short_tenths(rt, m.target);
+    text(rt, b" A");
 }

@@ -28,121 +28,134 @@ const CCS: u32 = 0x6b203;
 
 const OCPP: u32 = 0x6b300;
 
-fn insulation() {
-    text(b"E8 under precharge at 500.0 V: insulation raw 25, raw 24; after the session no F9\n");
-    let mut t = set_up(watch::empty(), 0, 4, limits());
-    t = frame(t, 4, 0, SESSION, &[2u8, 1]);
-    t = frame(t, 4, 10, STATUS, &[0u8, 0, 0, 0, 65, 65, 1, 255]);
-    t = frame(t, 4, 20, CONTROL, &[0x88u8, 0x13, 0, 0, 0, 0, 0x04]);
-    t = frame(t, 4, 30, STATUS, &[0x88u8, 0x13, 0, 0, 65, 65, 1, 25]);
-    t = frame(t, 4, 40, STATUS, &[0x88u8, 0x13, 0, 0, 65, 65, 1, 24]);
-    record(t, 0);
-    t = frame(t, 4, 50, FINISHED, &[0u8]);
-    t = frame(t, 4, 60, STATUS, &[0x88u8, 0x13, 0, 0, 65, 65, 1, 24]);
-    record(t, 0);
+fn insulation(rt: HostRuntime) {
+    text(
+        rt,
+        b"E8 under precharge at 500.0 V: insulation raw 25, raw 24; after the session no F9\n",
+    );
+    let mut t = set_up(rt, watch::empty(), 0, 4, limits());
+    t = frame(rt, t, 4, 0, SESSION, &[2u8, 1]);
+    t = frame(rt, t, 4, 10, STATUS, &[0u8, 0, 0, 0, 65, 65, 1, 255]);
+    t = frame(rt, t, 4, 20, CONTROL, &[0x88u8, 0x13, 0, 0, 0, 0, 0x04]);
+    t = frame(rt, t, 4, 30, STATUS, &[0x88u8, 0x13, 0, 0, 65, 65, 1, 25]);
+    t = frame(rt, t, 4, 40, STATUS, &[0x88u8, 0x13, 0, 0, 65, 65, 1, 24]);
+    record(rt, t, 0);
+    t = frame(rt, t, 4, 50, FINISHED, &[0u8]);
+    t = frame(rt, t, 4, 60, STATUS, &[0x88u8, 0x13, 0, 0, 65, 65, 1, 24]);
+    record(rt, t, 0);
 }
 
 // 02, Req 03: the sensor "gave 0 for invalid at 0 V and F9 stayed silent".
-fn sensed(sensor: Sensor) {
-    let mut t = set_up(watch::empty(), 0, 4, limits_with(sensor));
-    t = frame(t, 4, 0, SESSION, &[2u8, 1]);
-    t = frame(t, 4, 10, STATUS, &[0u8, 0, 0, 0, 65, 65, 1, 0]);
-    t = frame(t, 4, 20, CONTROL, &[0x88u8, 0x13, 0, 0, 0, 0, 0x04]);
-    t = frame(t, 4, 30, STATUS, &[0u8, 0, 0, 0, 65, 65, 1, 0]);
-    t = frame(t, 4, 40, STATUS, &[0u8, 0, 0, 0, 65, 65, 1, 1]);
-    t = frame(t, 4, 50, STATUS, &[0x88u8, 0x13, 0, 0, 65, 65, 1, 24]);
-    t = frame(t, 4, 60, STATUS, &[0x88u8, 0x13, 0, 0, 65, 65, 1, 0]);
-    record(t, 0);
+fn sensed(rt: HostRuntime, sensor: Sensor) {
+    let mut t = set_up(rt, watch::empty(), 0, 4, limits_with(sensor));
+    t = frame(rt, t, 4, 0, SESSION, &[2u8, 1]);
+    t = frame(rt, t, 4, 10, STATUS, &[0u8, 0, 0, 0, 65, 65, 1, 0]);
+    t = frame(rt, t, 4, 20, CONTROL, &[0x88u8, 0x13, 0, 0, 0, 0, 0x04]);
+    t = frame(rt, t, 4, 30, STATUS, &[0u8, 0, 0, 0, 65, 65, 1, 0]);
+    t = frame(rt, t, 4, 40, STATUS, &[0u8, 0, 0, 0, 65, 65, 1, 1]);
+    t = frame(rt, t, 4, 50, STATUS, &[0x88u8, 0x13, 0, 0, 65, 65, 1, 24]);
+    t = frame(rt, t, 4, 60, STATUS, &[0x88u8, 0x13, 0, 0, 65, 65, 1, 0]);
+    record(rt, t, 0);
 }
 
-fn sensors() {
+fn sensors(rt: HostRuntime) {
     text(
+        rt,
         b"Req 03 a measuring sensor at 0 V: raw 0 before and under precharge, raw 1; at 500.0 V raw 24, raw 0\n",
     );
-    sensed(Sensor::Measuring);
-    text(b"a yes/no sensor, the same\n");
-    sensed(Sensor::YesNo);
-    text(b"set up again with the other kind\n");
-    let mut t = set_up(watch::empty(), 0, 4, limits_with(Sensor::YesNo));
-    record(t, 0);
-    t = set_up(t, 0, 4, limits());
-    record(t, 0);
-    t = set_up(t, 0, 4, limits_with(Sensor::YesNo));
-    record(t, 0);
+    sensed(rt, Sensor::Measuring);
+    text(rt, b"a yes/no sensor, the same\n");
+    sensed(rt, Sensor::YesNo);
+    text(rt, b"set up again with the other kind\n");
+    let mut t = set_up(rt, watch::empty(), 0, 4, limits_with(Sensor::YesNo));
+    record(rt, t, 0);
+    t = set_up(rt, t, 0, 4, limits());
+    record(rt, t, 0);
+    t = set_up(rt, t, 0, 4, limits_with(Sensor::YesNo));
+    record(rt, t, 0);
 }
 
-fn silences() {
-    text(b"E9 controller status at 1000; the late one has F2 itself\n");
-    let mut t = set_up(watch::empty(), 0, 4, limits());
-    t = frame(t, 4, 1000, CONTROLLER, &[7u8]);
-    t = tick(t, 4, 1200);
-    t = tick(t, 4, 1201);
-    t = frame(t, 4, 1201, CONTROLLER, &[7u8]);
-    t = tick(t, 4, 1202);
+fn silences(rt: HostRuntime) {
     text(
+        rt,
+        b"E9 controller status at 1000; the late one has F2 itself\n",
+    );
+    let mut t = set_up(rt, watch::empty(), 0, 4, limits());
+    t = frame(rt, t, 4, 1000, CONTROLLER, &[7u8]);
+    t = tick(rt, t, 4, 1200);
+    t = tick(rt, t, 4, 1201);
+    t = frame(rt, t, 4, 1201, CONTROLLER, &[7u8]);
+    t = tick(rt, t, 4, 1202);
+    text(
+        rt,
         b"E10 W 500, session opened at 0; repeats of New_Charge_Session do not start the count again\n",
     );
-    let mut u = set_up(watch::empty(), 0, 4, limits());
-    u = frame(u, 4, 0, SESSION, &[2u8, 1]);
-    u = frame(u, 4, 400, SESSION, &[2u8, 1]);
-    u = tick(u, 4, 500);
-    u = frame(u, 4, 501, STATUS, &[0u8, 0, 0, 0, 65, 65, 1, 255]);
-    u = tick(u, 4, 1001);
-    u = tick(u, 4, 1002);
-    record(t, 0);
-    record(u, 0);
+    let mut u = set_up(rt, watch::empty(), 0, 4, limits());
+    u = frame(rt, u, 4, 0, SESSION, &[2u8, 1]);
+    u = frame(rt, u, 4, 400, SESSION, &[2u8, 1]);
+    u = tick(rt, u, 4, 500);
+    u = frame(rt, u, 4, 501, STATUS, &[0u8, 0, 0, 0, 65, 65, 1, 255]);
+    u = tick(rt, u, 4, 1001);
+    u = tick(rt, u, 4, 1002);
+    record(rt, t, 0);
+    record(rt, u, 0);
 }
 
-fn orders() {
+fn orders(rt: HostRuntime) {
     text(
+        rt,
         b"E11 close and power transfer before any session; the same after Allowed, before it in the next session\n",
     );
-    let mut t = set_up(watch::empty(), 0, 4, limits());
-    t = frame(t, 4, 0, CONTROL, &[0x88u8, 0x13, 0, 0, 0, 0, 0x48]);
-    t = frame(t, 4, 1, SESSION, &[2u8, 1]);
-    t = frame(t, 4, 2, STATUS, &[0u8, 0, 0, 0, 65, 65, 1, 255]);
-    t = frame(t, 4, 3, CONTROL, &[0x88u8, 0x13, 0, 0, 0, 0, 0x48]);
-    t = frame(t, 4, 4, FINISHED, &[0u8]);
-    t = frame(t, 4, 5, SESSION, &[2u8, 1]);
-    t = frame(t, 4, 6, CONTROL, &[0x88u8, 0x13, 0, 0, 0, 0, 0x48]);
-    t = frame(t, 4, 7, SESSION, &[3u8, 1]);
-    t = frame(t, 4, 8, FINISHED, &[0u8]);
-    t = frame(t, 4, 9, FINISHED, &[0u8]);
-    record(t, 0);
-    text(b"E13 default 5000, Maximum_Voltage 0, 6000, 4000; targets at the limit and one above\n");
-    let mut u = set_up(watch::empty(), 0, 4, limits());
-    u = frame(u, 4, 0, PARAMETERS, &[0u8, 0, 0, 0, 0, 0, 0, 0]);
-    u = frame(u, 4, 1, CONTROL, &[0x88u8, 0x13, 0, 0, 0, 0, 1]);
-    u = frame(u, 4, 2, CONTROL, &[0x89u8, 0x13, 0, 0, 0, 0, 1]);
-    u = frame(u, 4, 3, PARAMETERS, &[0x70u8, 0x17, 0, 0, 0, 0, 0, 0]);
-    u = frame(u, 4, 4, CONTROL, &[0x88u8, 0x13, 0, 0, 0, 0, 1]);
-    u = frame(u, 4, 5, CONTROL, &[0x89u8, 0x13, 0, 0, 0, 0, 1]);
-    u = frame(u, 4, 6, PARAMETERS, &[0xa0u8, 0x0f, 0, 0, 0, 0, 0, 0]);
-    u = frame(u, 4, 7, CONTROL, &[0xa0u8, 0x0f, 0, 0, 0, 0, 1]);
-    u = frame(u, 4, 8, CONTROL, &[0xa1u8, 0x0f, 0, 0, 0, 0, 1]);
-    record(u, 0);
+    let mut t = set_up(rt, watch::empty(), 0, 4, limits());
+    t = frame(rt, t, 4, 0, CONTROL, &[0x88u8, 0x13, 0, 0, 0, 0, 0x48]);
+    t = frame(rt, t, 4, 1, SESSION, &[2u8, 1]);
+    t = frame(rt, t, 4, 2, STATUS, &[0u8, 0, 0, 0, 65, 65, 1, 255]);
+    t = frame(rt, t, 4, 3, CONTROL, &[0x88u8, 0x13, 0, 0, 0, 0, 0x48]);
+    t = frame(rt, t, 4, 4, FINISHED, &[0u8]);
+    t = frame(rt, t, 4, 5, SESSION, &[2u8, 1]);
+    t = frame(rt, t, 4, 6, CONTROL, &[0x88u8, 0x13, 0, 0, 0, 0, 0x48]);
+    t = frame(rt, t, 4, 7, SESSION, &[3u8, 1]);
+    t = frame(rt, t, 4, 8, FINISHED, &[0u8]);
+    t = frame(rt, t, 4, 9, FINISHED, &[0u8]);
+    record(rt, t, 0);
+    text(
+        rt,
+        b"E13 default 5000, Maximum_Voltage 0, 6000, 4000; targets at the limit and one above\n",
+    );
+    let mut u = set_up(rt, watch::empty(), 0, 4, limits());
+    u = frame(rt, u, 4, 0, PARAMETERS, &[0u8, 0, 0, 0, 0, 0, 0, 0]);
+    u = frame(rt, u, 4, 1, CONTROL, &[0x88u8, 0x13, 0, 0, 0, 0, 1]);
+    u = frame(rt, u, 4, 2, CONTROL, &[0x89u8, 0x13, 0, 0, 0, 0, 1]);
+    u = frame(rt, u, 4, 3, PARAMETERS, &[0x70u8, 0x17, 0, 0, 0, 0, 0, 0]);
+    u = frame(rt, u, 4, 4, CONTROL, &[0x88u8, 0x13, 0, 0, 0, 0, 1]);
+    u = frame(rt, u, 4, 5, CONTROL, &[0x89u8, 0x13, 0, 0, 0, 0, 1]);
+    u = frame(rt, u, 4, 6, PARAMETERS, &[0xa0u8, 0x0f, 0, 0, 0, 0, 0, 0]);
+    u = frame(rt, u, 4, 7, CONTROL, &[0xa0u8, 0x0f, 0, 0, 0, 0, 1]);
+    u = frame(rt, u, 4, 8, CONTROL, &[0xa1u8, 0x0f, 0, 0, 0, 0, 1]);
+    record(rt, u, 0);
 }
 
-fn channels() {
+fn channels(rt: HostRuntime) {
     text(
+        rt,
         b"E12 post 0 on channel 4: post 1 on 4; post 0 on 4 again; refusals 9, 10, 12, 14 and 1\n",
     );
-    let mut t = set_up(watch::empty(), 0, 4, limits());
-    t = tick(t, 4, 100);
-    t = set_up(t, 1, 4, limits());
-    record(t, 1);
-    t = set_up(t, 0, 4, limits());
-    record(t, 0);
-    t = tick(t, 4, 5);
-    t = set_up(t, 16, 5, limits());
-    t = set_up(t, 1, 32, limits());
-    t = set_up(t, 1, 5, lowest(0));
-    t = set_up(t, 1, 5, lowest(1));
-    t = release(t, 0);
-    t = release(t, 0);
-    t = tick(t, 4, 6);
-    t = tick(t, 32, 6);
-    clocks(tick(t, 5, 6));
+    let mut t = set_up(rt, watch::empty(), 0, 4, limits());
+    t = tick(rt, t, 4, 100);
+    t = set_up(rt, t, 1, 4, limits());
+    record(rt, t, 1);
+    t = set_up(rt, t, 0, 4, limits());
+    record(rt, t, 0);
+    t = tick(rt, t, 4, 5);
+    t = set_up(rt, t, 16, 5, limits());
+    t = set_up(rt, t, 1, 32, limits());
+    t = set_up(rt, t, 1, 5, lowest(0));
+    t = set_up(rt, t, 1, 5, lowest(1));
+    t = release(rt, t, 0);
+    t = release(rt, t, 0);
+    t = tick(rt, t, 4, 6);
+    t = tick(rt, t, 32, 6);
+    clocks(rt, tick(rt, t, 5, 6));
 }
 
 // The lowest of each limit, and a voltage.
@@ -158,124 +171,142 @@ fn lowest(voltage: u32) -> rule_limits::Limits {
 }
 
 // Post 0 is free, and post 1 heard channel 5 at 6.
-fn clocks(table: Table) {
+fn clocks(rt: HostRuntime, table: Table) {
     text(
+        rt,
         b"E14 after time 100: 99, 100; one post's clock is its own; an early unknown frame; a refused frame moves nothing\n",
     );
-    let mut t = set_up(table, 0, 4, limits());
-    t = tick(t, 4, 100);
-    t = tick(t, 4, 99);
-    t = tick(t, 4, 100);
-    t = tick(t, 5, 50);
-    t = frame(t, 4, 99, 0x63003, &[0u8]);
-    t = frame(t, 4, 900, 0x63003, &[0u8]);
-    t = frame(t, 4, 900, CONTROLLER, &[14u8]);
-    t = tick(t, 4, 101);
-    record(t, 0);
-    record(t, 1);
+    let mut t = set_up(rt, table, 0, 4, limits());
+    t = tick(rt, t, 4, 100);
+    t = tick(rt, t, 4, 99);
+    t = tick(rt, t, 4, 100);
+    t = tick(rt, t, 5, 50);
+    t = frame(rt, t, 4, 99, 0x63003, &[0u8]);
+    t = frame(rt, t, 4, 900, 0x63003, &[0u8]);
+    t = frame(rt, t, 4, 900, CONTROLLER, &[14u8]);
+    t = tick(rt, t, 4, 101);
+    record(rt, t, 0);
+    record(rt, t, 1);
 }
 
 // 02, Req 04: "These frames on a post's channel are accepted and recorded as three more kinds, and raise only F1 and F2."
-fn safety() {
+fn safety(rt: HostRuntime) {
     text(
+        rt,
         b"Req 04 closed contactors and no session; a late controller; a silent session; refusals 3 and 6\n",
     );
-    let mut t = set_up(watch::empty(), 0, 4, limits());
-    t = standard(t, 4, 0, 6, &[0x82u8, 0x15, 0x03, 0, 0, 0, 0, 0]);
-    t = standard(t, 4, 10, 7, &[0x82u8, 0x15, 0x03, 0x03, 0x03, 0, 0, 0]);
-    t = frame(t, 4, 20, CONTROLLER, &[7u8]);
-    t = standard(t, 4, 220, 7, &[0x82u8, 0x15, 0x03, 0x03, 0x03, 0, 0, 0]);
-    t = standard(t, 4, 221, 7, &[0x82u8, 0x15, 0x03, 0x03, 0x03, 0, 0, 0]);
-    t = frame(t, 4, 300, SESSION, &[2u8, 1]);
-    t = frame(t, 4, 700, CONTROLLER, &[7u8]);
-    t = standard(t, 4, 800, 8, &[0xfeu8, 0x70, 0, 0, 0, 0, 0, 0]);
-    t = standard(t, 4, 801, 8, &[0xfeu8, 0x70, 0, 0, 0, 0, 0, 0]);
-    t = standard(t, 4, 901, 6, &[0x82u8, 0x15, 0x03, 0, 0, 0, 0, 0]);
-    t = standard(t, 4, 902, 9, &[0x82u8, 0x15, 0, 0, 0, 0, 0, 0]);
-    t = frame(t, 4, 902, 7, &[0x82u8, 0x15, 0x03, 0x03, 0x03, 0, 0, 0]);
-    t = standard(t, 4, 902, 7, &[0x82u8, 0x15, 0x03, 0x03, 0x03, 0, 0, 1]);
-    latest(t, 0, 8);
-    latest(t, 0, 9);
-    latest(t, 0, 10);
-    latest(t, 0, 11);
-    record(t, 0);
+    let mut t = set_up(rt, watch::empty(), 0, 4, limits());
+    t = standard(rt, t, 4, 0, 6, &[0x82u8, 0x15, 0x03, 0, 0, 0, 0, 0]);
+    t = standard(rt, t, 4, 10, 7, &[0x82u8, 0x15, 0x03, 0x03, 0x03, 0, 0, 0]);
+    t = frame(rt, t, 4, 20, CONTROLLER, &[7u8]);
+    t = standard(rt, t, 4, 220, 7, &[0x82u8, 0x15, 0x03, 0x03, 0x03, 0, 0, 0]);
+    t = standard(rt, t, 4, 221, 7, &[0x82u8, 0x15, 0x03, 0x03, 0x03, 0, 0, 0]);
+    t = frame(rt, t, 4, 300, SESSION, &[2u8, 1]);
+    t = frame(rt, t, 4, 700, CONTROLLER, &[7u8]);
+    t = standard(rt, t, 4, 800, 8, &[0xfeu8, 0x70, 0, 0, 0, 0, 0, 0]);
+    t = standard(rt, t, 4, 801, 8, &[0xfeu8, 0x70, 0, 0, 0, 0, 0, 0]);
+    t = standard(rt, t, 4, 901, 6, &[0x82u8, 0x15, 0x03, 0, 0, 0, 0, 0]);
+    t = standard(rt, t, 4, 902, 9, &[0x82u8, 0x15, 0, 0, 0, 0, 0, 0]);
+    t = frame(rt, t, 4, 902, 7, &[0x82u8, 0x15, 0x03, 0x03, 0x03, 0, 0, 0]);
+    t = standard(rt, t, 4, 902, 7, &[0x82u8, 0x15, 0x03, 0x03, 0x03, 0, 0, 1]);
+    latest(rt, t, 0, 8);
+    latest(rt, t, 0, 9);
+    latest(rt, t, 0, 10);
+    latest(rt, t, 0, 11);
+    record(rt, t, 0);
 }
 
 // 02, Req 14: "F12 is a DC_Power_Control with insulation test, precharge or power transfer in a session after an Emergency_Stop accepted in it".
-fn stops() {
+fn stops(rt: HostRuntime) {
     text(
+        rt,
         b"Req 14 a stop before the session; power transfer; a stop in it: off, standby, insulation test, precharge, power transfer; the next session\n",
     );
-    let mut t = set_up(watch::empty(), 0, 4, limits());
-    t = frame(t, 4, 0, STOP, &[1u8]);
-    t = frame(t, 4, 1, CONTROL, &[0x88u8, 0x13, 0, 0, 0, 0, 0x08]);
-    t = frame(t, 4, 2, SESSION, &[2u8, 1]);
-    t = frame(t, 4, 3, STATUS, &[0u8, 0, 0, 0, 65, 65, 1, 255]);
-    t = frame(t, 4, 4, CONTROL, &[0x88u8, 0x13, 0, 0, 0, 0, 0x08]);
-    record(t, 0);
-    t = frame(t, 4, 5, STOP, &[1u8]);
-    t = frame(t, 4, 6, CONTROL, &[0x88u8, 0x13, 0, 0, 0, 0, 0x00]);
-    t = frame(t, 4, 7, CONTROL, &[0x88u8, 0x13, 0, 0, 0, 0, 0x01]);
-    t = frame(t, 4, 8, CONTROL, &[0x88u8, 0x13, 0, 0, 0, 0, 0x02]);
-    t = frame(t, 4, 9, CONTROL, &[0x88u8, 0x13, 0, 0, 0, 0, 0x04]);
-    t = frame(t, 4, 10, CONTROL, &[0x88u8, 0x13, 0, 0, 0, 0, 0x08]);
-    t = frame(t, 4, 11, STOP, &[3u8]);
-    record(t, 0);
-    t = frame(t, 4, 12, FINISHED, &[0u8]);
-    t = frame(t, 4, 13, CONTROL, &[0x88u8, 0x13, 0, 0, 0, 0, 0x08]);
-    t = frame(t, 4, 14, SESSION, &[2u8, 1]);
-    t = frame(t, 4, 15, STATUS, &[0u8, 0, 0, 0, 65, 65, 1, 255]);
-    t = frame(t, 4, 16, CONTROL, &[0x88u8, 0x13, 0, 0, 0, 0, 0x08]);
-    record(t, 0);
+    let mut t = set_up(rt, watch::empty(), 0, 4, limits());
+    t = frame(rt, t, 4, 0, STOP, &[1u8]);
+    t = frame(rt, t, 4, 1, CONTROL, &[0x88u8, 0x13, 0, 0, 0, 0, 0x08]);
+    t = frame(rt, t, 4, 2, SESSION, &[2u8, 1]);
+    t = frame(rt, t, 4, 3, STATUS, &[0u8, 0, 0, 0, 65, 65, 1, 255]);
+    t = frame(rt, t, 4, 4, CONTROL, &[0x88u8, 0x13, 0, 0, 0, 0, 0x08]);
+    record(rt, t, 0);
+    t = frame(rt, t, 4, 5, STOP, &[1u8]);
+    t = frame(rt, t, 4, 6, CONTROL, &[0x88u8, 0x13, 0, 0, 0, 0, 0x00]);
+    t = frame(rt, t, 4, 7, CONTROL, &[0x88u8, 0x13, 0, 0, 0, 0, 0x01]);
+    t = frame(rt, t, 4, 8, CONTROL, &[0x88u8, 0x13, 0, 0, 0, 0, 0x02]);
+    t = frame(rt, t, 4, 9, CONTROL, &[0x88u8, 0x13, 0, 0, 0, 0, 0x04]);
+    t = frame(rt, t, 4, 10, CONTROL, &[0x88u8, 0x13, 0, 0, 0, 0, 0x08]);
+    t = frame(rt, t, 4, 11, STOP, &[3u8]);
+    record(rt, t, 0);
+    t = frame(rt, t, 4, 12, FINISHED, &[0u8]);
+    t = frame(rt, t, 4, 13, CONTROL, &[0x88u8, 0x13, 0, 0, 0, 0, 0x08]);
+    t = frame(rt, t, 4, 14, SESSION, &[2u8, 1]);
+    t = frame(rt, t, 4, 15, STATUS, &[0u8, 0, 0, 0, 65, 65, 1, 255]);
+    t = frame(rt, t, 4, 16, CONTROL, &[0x88u8, 0x13, 0, 0, 0, 0, 0x08]);
+    record(rt, t, 0);
 }
 
 // 02, Req 14: the rest of 000's messages are accepted and recorded as thirteen more kinds, and raise only F1 and F2.
-fn rest() {
+fn rest(rt: HostRuntime) {
     text(
+        rt,
         b"Req 14 the rest of 000's: no session; a late controller; a silent session; refusals 3, 4, 5, 6, and 29 on an older post\n",
     );
-    let mut t = set_up(watch::empty(), 0, 4, limits());
-    t = frame(t, 4, 0, SEQUENCE, &[3u8, 5, 1]);
-    t = frame(t, 4, 1, 0x63201, &[0x0fu8, 0, 0, 0, 0, 0, 0, 0]);
-    t = frame(t, 4, 2, 0x6b100, &[0x50u8, 0, 0x2a, 0x0a, 0x50, 0x64]);
-    t = frame(t, 4, 3, 0x6b101, &[0xd0u8, 7, 0x40, 0x1f, 0xa0, 0x0f]);
-    t = frame(t, 4, 4, 0x6b102, &[0x0au8, 0, 0xe8, 3, 1, 0, 0x96, 0]);
-    t = frame(t, 4, 5, 0x6b103, &[0x0au8, 0, 0xe8, 3, 1, 0, 0x96, 0]);
-    t = frame(t, 4, 6, 0x6b104, &[0xffu8, 0xff, 2, 0, 0, 0x80]);
-    t = frame(t, 4, 7, 0x6b200, &[1u8, 0, 0, 0, 0x41, 0x41, 0x41, 0x41]);
-    t = frame(t, 4, 8, 0x6b201, &[1u8, 0, 0, 0, 0, 0x41, 0x41, 0x41]);
-    t = frame(t, 4, 9, SPCC, &[1u8, 0x41, 0x41, 0x41, 0x41, 0, 0x41, 0x41]);
-    t = frame(t, 4, 10, CCS, &[9u8, 0x15, 2, 0, 0, 0, 0, 0]);
-    t = frame(t, 4, 11, 0x6b204, &[1u8, 3, 0, 0, 0, 0, 0, 0]);
-    t = frame(t, 4, 12, OCPP, &[0x83u8, 0xff]);
-    t = frame(t, 4, 20, CONTROLLER, &[7u8]);
-    t = frame(t, 4, 220, SEQUENCE, &[0u8, 0, 0]);
-    t = frame(t, 4, 221, SEQUENCE, &[0u8, 0, 0]);
-    t = frame(t, 4, 221, SESSION, &[2u8, 1]);
-    t = frame(t, 4, 720, CONTROLLER, &[7u8]);
-    t = frame(t, 4, 721, OCPP, &[0u8, 0]);
-    t = frame(t, 4, 722, OCPP, &[0u8, 0]);
-    t = frame(t, 4, 722, SEQUENCE, &[4u8, 0, 0]);
-    t = frame(t, 4, 722, SPCC, &[0u8, 0, 0, 0, 0, 1, 0, 0]);
-    t = frame(t, 4, 722, SEQUENCE, &[0u8, 0]);
-    t = frame(t, 4, 722, CCS, &[1u8, 0, 0, 0, 0, 0, 0, 0]);
-    t = frame(t, 4, 722, 0x63003, &[0u8]);
-    latest(t, 0, message_types::SEQUENCE);
-    latest(t, 0, message_types::ENERGY);
-    latest(t, 0, message_types::OCPP);
-    record(t, 0);
-    t = set_up(t, 1, 5, older_limits());
-    t = frame(t, 5, 0, SEQUENCE, &[0u8, 0, 0]);
-    t = frame(t, 5, 0, OCPP, &[0u8]);
+    let mut t = set_up(rt, watch::empty(), 0, 4, limits());
+    t = frame(rt, t, 4, 0, SEQUENCE, &[3u8, 5, 1]);
+    t = frame(rt, t, 4, 1, 0x63201, &[0x0fu8, 0, 0, 0, 0, 0, 0, 0]);
+    t = frame(rt, t, 4, 2, 0x6b100, &[0x50u8, 0, 0x2a, 0x0a, 0x50, 0x64]);
+    t = frame(rt, t, 4, 3, 0x6b101, &[0xd0u8, 7, 0x40, 0x1f, 0xa0, 0x0f]);
+    t = frame(rt, t, 4, 4, 0x6b102, &[0x0au8, 0, 0xe8, 3, 1, 0, 0x96, 0]);
+    t = frame(rt, t, 4, 5, 0x6b103, &[0x0au8, 0, 0xe8, 3, 1, 0, 0x96, 0]);
+    t = frame(rt, t, 4, 6, 0x6b104, &[0xffu8, 0xff, 2, 0, 0, 0x80]);
+    t = frame(
+        rt,
+        t,
+        4,
+        7,
+        0x6b200,
+        &[1u8, 0, 0, 0, 0x41, 0x41, 0x41, 0x41],
+    );
+    t = frame(rt, t, 4, 8, 0x6b201, &[1u8, 0, 0, 0, 0, 0x41, 0x41, 0x41]);
+    t = frame(
+        rt,
+        t,
+        4,
+        9,
+        SPCC,
+        &[1u8, 0x41, 0x41, 0x41, 0x41, 0, 0x41, 0x41],
+    );
+    t = frame(rt, t, 4, 10, CCS, &[9u8, 0x15, 2, 0, 0, 0, 0, 0]);
+    t = frame(rt, t, 4, 11, 0x6b204, &[1u8, 3, 0, 0, 0, 0, 0, 0]);
+    t = frame(rt, t, 4, 12, OCPP, &[0x83u8, 0xff]);
+    t = frame(rt, t, 4, 20, CONTROLLER, &[7u8]);
+    t = frame(rt, t, 4, 220, SEQUENCE, &[0u8, 0, 0]);
+    t = frame(rt, t, 4, 221, SEQUENCE, &[0u8, 0, 0]);
+    t = frame(rt, t, 4, 221, SESSION, &[2u8, 1]);
+    t = frame(rt, t, 4, 720, CONTROLLER, &[7u8]);
+    t = frame(rt, t, 4, 721, OCPP, &[0u8, 0]);
+    t = frame(rt, t, 4, 722, OCPP, &[0u8, 0]);
+    t = frame(rt, t, 4, 722, SEQUENCE, &[4u8, 0, 0]);
+    t = frame(rt, t, 4, 722, SPCC, &[0u8, 0, 0, 0, 0, 1, 0, 0]);
+    t = frame(rt, t, 4, 722, SEQUENCE, &[0u8, 0]);
+    t = frame(rt, t, 4, 722, CCS, &[1u8, 0, 0, 0, 0, 0, 0, 0]);
+    t = frame(rt, t, 4, 722, 0x63003, &[0u8]);
+    latest(rt, t, 0, message_types::SEQUENCE);
+    latest(rt, t, 0, message_types::ENERGY);
+    latest(rt, t, 0, message_types::OCPP);
+    record(rt, t, 0);
+    t = set_up(rt, t, 1, 5, older_limits());
+    t = frame(rt, t, 5, 0, SEQUENCE, &[0u8, 0, 0]);
+    t = frame(rt, t, 5, 0, OCPP, &[0u8]);
 }
 
-pub fn all() {
-    insulation();
-    sensors();
-    silences();
-    orders();
-    channels();
-    safety();
-    stops();
-    rest();
+pub fn all(rt: HostRuntime) {
+    insulation(rt);
+    sensors(rt);
+    silences(rt);
+    orders(rt);
+    channels(rt);
+    safety(rt);
+    stops(rt);
+    rest(rt);
 }

@@ -8,34 +8,34 @@ use watch::rules::{
 };
 use watch::watch_rules::{Answer, Setting, Table};
 
-fn refused(w: Refusal) {
-    text(b" -> ");
-    refusal(w);
-    text(b"\n");
+fn refused(rt: HostRuntime, w: Refusal) {
+    text(rt, b" -> ");
+    refusal(rt, w);
+    text(rt, b"\n");
 }
 
-fn setting(a: Setting) {
+fn setting(rt: HostRuntime, a: Setting) {
     match a {
-        Setting::Done => text(b" -> A\n"),
-        Setting::Refused(w) => refused(w),
+        Setting::Done => text(rt, b" -> A\n"),
+        Setting::Refused(w) => refused(rt, w),
     }
 }
 
-fn answer(a: Answer) {
+fn answer(rt: HostRuntime, a: Answer) {
     match a {
         Answer::Findings(n) => {
-            text(b" -> A");
-            natural(n as u64);
-            text(b"\n");
+            text(rt, b" -> A");
+            natural(rt, n as u64);
+            text(rt, b"\n");
         }
-        Answer::Refused(w) => refused(w),
+        Answer::Refused(w) => refused(rt, w),
     }
 }
 
-fn at(channel: u32, time: u32) {
-    natural(channel as u64);
-    text(b" at ");
-    natural(time as u64);
+fn at(rt: HostRuntime, channel: u32, time: u32) {
+    natural(rt, channel as u64);
+    text(rt, b" at ");
+    natural(rt, time as u64);
 }
 
 // Default voltage 500.0 V, charge 100.0 A, discharge 50.0 A, W 500 ms.
@@ -62,168 +62,183 @@ pub fn older_limits() -> Limits {
     limits_for(Sensor::Measuring, Interface::Older)
 }
 
-pub fn set_up(t: Table, post: u32, channel: u32, limits: Limits) -> Table {
-    text(b"  set up post ");
-    natural(post as u64);
-    text(b" on ");
-    natural(channel as u64);
+pub fn set_up(rt: HostRuntime, t: Table, post: u32, channel: u32, limits: Limits) -> Table {
+    text(rt, b"  set up post ");
+    natural(rt, post as u64);
+    text(rt, b" on ");
+    natural(rt, channel as u64);
     let r = watch::set_up(t, post, channel, limits);
     let a = r.answer;
-    setting(a);
+    setting(rt, a);
     r.table
 }
 
-pub fn release(t: Table, post: u32) -> Table {
-    text(b"  release post ");
-    natural(post as u64);
+pub fn release(rt: HostRuntime, t: Table, post: u32) -> Table {
+    text(rt, b"  release post ");
+    natural(rt, post as u64);
     let r = watch::release(t, post);
     let a = r.answer;
-    setting(a);
+    setting(rt, a);
     r.table
 }
 
-fn framed(t: Table, channel: u32, time: u32, id: u32, extended: bool, payload: &[u8]) -> Table {
-    at(channel, time);
-    text(b" ");
-    hex(id as u64, 1);
-    text(b" ");
-    bytes(payload);
+fn framed(
+    rt: HostRuntime,
+    t: Table,
+    channel: u32,
+    time: u32,
+    id: u32,
+    extended: bool,
+    payload: &[u8],
+) -> Table {
+    at(rt, channel, time);
+    text(rt, b" ");
+    hex(rt, id as u64, 1);
+    text(rt, b" ");
+    bytes(rt, payload);
     let r = watch::frame(t, channel, time, id, extended, payload);
     let a = r.answer;
-    answer(a);
+    answer(rt, a);
     r.table
 }
 
-pub fn frame(t: Table, channel: u32, time: u32, id: u32, payload: &[u8]) -> Table {
-    text(b"  frame on ");
-    framed(t, channel, time, id, true, payload)
+pub fn frame(rt: HostRuntime, t: Table, channel: u32, time: u32, id: u32, payload: &[u8]) -> Table {
+    text(rt, b"  frame on ");
+    framed(rt, t, channel, time, id, true, payload)
 }
 
-pub fn standard(t: Table, channel: u32, time: u32, id: u32, payload: &[u8]) -> Table {
-    text(b"  standard frame on ");
-    framed(t, channel, time, id, false, payload)
+pub fn standard(
+    rt: HostRuntime,
+    t: Table,
+    channel: u32,
+    time: u32,
+    id: u32,
+    payload: &[u8],
+) -> Table {
+    text(rt, b"  standard frame on ");
+    framed(rt, t, channel, time, id, false, payload)
 }
 
-pub fn tick(t: Table, channel: u32, time: u32) -> Table {
-    text(b"  tick on ");
-    at(channel, time);
+pub fn tick(rt: HostRuntime, t: Table, channel: u32, time: u32) -> Table {
+    text(rt, b"  tick on ");
+    at(rt, channel, time);
     let r = watch::tick(t, channel, time);
     let a = r.answer;
-    answer(a);
+    answer(rt, a);
     r.table
 }
 
-fn last_time(l: LastTime) {
+fn last_time(rt: HostRuntime, l: LastTime) {
     match l {
-        LastTime::Never => text(b"nothing heard, "),
+        LastTime::Never => text(rt, b"nothing heard, "),
         LastTime::At(t) => {
-            text(b"last heard at ");
-            natural(t as u64);
-            text(b", ");
+            text(rt, b"last heard at ");
+            natural(rt, t as u64);
+            text(rt, b", ");
         }
     }
 }
 
-fn sensor(x: Sensor) {
+fn sensor(rt: HostRuntime, x: Sensor) {
     match x {
-        Sensor::Measuring => text(b"measuring, "),
-        Sensor::YesNo => text(b"yes/no, "),
+        Sensor::Measuring => text(rt, b"measuring, "),
+        Sensor::YesNo => text(rt, b"yes/no, "),
     }
 }
 
-fn interface(x: Interface) {
+fn interface(rt: HostRuntime, x: Interface) {
     match x {
-        Interface::Newer => text(b"newer, "),
-        Interface::Older => text(b"older, "),
+        Interface::Newer => text(rt, b"newer, "),
+        Interface::Older => text(rt, b"older, "),
     }
 }
 
-fn session(s: SessionPart, k: [Latest; KEPT]) {
+fn session(rt: HostRuntime, s: SessionPart, k: [Latest; KEPT]) {
     match s {
-        SessionPart::Closed => text(b"no session\n"),
+        SessionPart::Closed => text(rt, b"no session\n"),
         SessionPart::Opened(o) => {
-            text(b"session since ");
-            natural(o.since as u64);
-            text(b", ");
-            natural(o.age as u64);
-            text(b" ms ago\n");
-            kept(k);
+            text(rt, b"session since ");
+            natural(rt, o.since as u64);
+            text(rt, b", ");
+            natural(rt, o.age as u64);
+            text(rt, b" ms ago\n");
+            kept(rt, k);
         }
     }
 }
 
 // What the session keeps.
-fn kept(k: [Latest; KEPT]) {
+fn kept(rt: HostRuntime, k: [Latest; KEPT]) {
     let st = k[STATUS_PLACE];
     let ct = k[CONTROL_PLACE];
     let em = k[STOP_PLACE];
     let status = st.message;
     let control = ct.message;
     let stop = em.message;
-    text(b"    status: ");
-    dated(status);
-    text(b"    control: ");
-    dated(control);
-    text(b"    stop: ");
-    dated(stop);
+    text(rt, b"    status: ");
+    dated(rt, status);
+    text(rt, b"    control: ");
+    dated(rt, control);
+    text(rt, b"    stop: ");
+    dated(rt, stop);
 }
 
-pub fn record(t: Table, post: u32) {
-    text(b"  record of post ");
-    natural(post as u64);
+pub fn record(rt: HostRuntime, t: Table, post: u32) {
+    text(rt, b"  record of post ");
+    natural(rt, post as u64);
     let r = watch::look_up(t, post);
     let a = r.answer;
     match a {
-        Setting::Refused(w) => refused(w),
+        Setting::Refused(w) => refused(rt, w),
         Setting::Done => {
             let shown = r.shown;
-            text(b" -> channel ");
-            natural(shown.channel as u64);
-            text(b", ");
+            text(rt, b" -> channel ");
+            natural(rt, shown.channel as u64);
+            text(rt, b", ");
             let limits = shown.limits;
             let x = limits.sensor;
-            sensor(x);
+            sensor(rt, x);
             let i = limits.interface;
-            interface(i);
+            interface(rt, i);
             let l = shown.last;
-            last_time(l);
+            last_time(rt, l);
             let s = shown.session;
             let k = shown.kept;
-            session(s, k);
+            session(rt, s, k);
         }
     }
 }
 
-fn kind_at(kind: usize, time: u32, age: u32) {
-    text(b"kind ");
-    natural(kind as u64);
-    text(b" at ");
-    natural(time as u64);
-    text(b", ");
-    natural(age as u64);
-    text(b" ms ago\n");
+fn kind_at(rt: HostRuntime, kind: usize, time: u32, age: u32) {
+    text(rt, b"kind ");
+    natural(rt, kind as u64);
+    text(rt, b" at ");
+    natural(rt, time as u64);
+    text(rt, b", ");
+    natural(rt, age as u64);
+    text(rt, b" ms ago\n");
 }
 
-fn dated(d: Dated) {
+fn dated(rt: HostRuntime, d: Dated) {
     match d {
-        Dated::Nothing => text(b"nothing\n"),
-        Dated::At(time, age, m) => kind_at(kind_of(m), time, age),
-        Dated::OlderAt(time, age, m) => kind_at(older_types::kind_of(m), time, age),
+        Dated::Nothing => text(rt, b"nothing\n"),
+        Dated::At(time, age, m) => kind_at(rt, kind_of(m), time, age),
+        Dated::OlderAt(time, age, m) => kind_at(rt, older_types::kind_of(m), time, age),
     }
 }
 
 // What stands at the kind's place.
-pub fn latest(t: Table, post: u32, kind: usize) {
+pub fn latest(rt: HostRuntime, t: Table, post: u32, kind: usize) {
     let place = rule_pages::place_by(kind);
     if PLACES <= place {
         return;
     }
-    text(b"  latest of kind ");
-    natural(kind as u64);
-    text(b" -> ");
+    text(rt, b"  latest of kind ");
+    natural(rt, kind as u64);
+    text(rt, b" -> ");
     let r = watch::look_up(t, post);
     let shown = r.shown;
     let l = shown.latest[place];
     let d = l.message;
-    dated(d);
+    dated(rt, d);
 }
