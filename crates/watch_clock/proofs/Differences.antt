@@ -66,7 +66,8 @@ before_same (e ∷ h) (f ∷ g) t s what apart rest =
     let others : differences (received (e ∷ h)) ≡ differences (received (f ∷ g)) = cc in
     let same : wrapped (received_of s) (time_of f) ≡ wrapped (received_of t) (time_of e) =
     sym (wrapped_from (received_of s) (time_of f)) ∙ sym first ∙ wrapped_from (received_of t) (time_of e) in
-    rw same (on_both (time_of e) (time_of f) (wrapped (received_of t) (time_of e)) (e ∷ h) (f ∷ g) (rest others))
+    ap (λ (w : ℕ). delayed (time_of f + w) (e ∷ h)) same
+    ∙ on_both (time_of e) (time_of f) (wrapped (received_of t) (time_of e)) (e ∷ h) (f ∷ g) (rest others)
 
 pub same_but_later : (h g : History) → Unrolled h → Unrolled g → InStep h g → delayed (latest_time g) h ≡ delayed (latest_time h) g
 same_but_later [] [] un vn step = refl
