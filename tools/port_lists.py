@@ -1,6 +1,6 @@
 #!/usr/bin/env python3
 """port_lists.py [TREE] [--most N] [--dry]: makes the lists of crates.txt short. The kit walks each path from a crate down through these lists, so the paths
-are counted (those from all crates together), and lists are cut until there are at most N of them (500000). A crate that is cut from a list is still
+are counted (those from all crates together), and lists are cut until there are at most N of them (3000000). A crate that is cut from a list is still
 reached through one of the list, which passes it on whole: `pub use low;` in its src/lib.rt, `pub use Rattle.low as low` in its specs/Lib.antt. Then
 `low::x` is `mid::low::x`, and `Rattle.low.specs.M` is `Rattle.mid.specs.low.specs.M`. It begins by undoing what an earlier run did, so it may be run on
 any state of the tree."""
@@ -11,7 +11,7 @@ import subprocess
 import sys
 
 words = sys.argv[1:]
-MOST = 500_000
+MOST = 3_000_000
 DRY = '--dry' in words
 if DRY:
     words.remove('--dry')
@@ -201,6 +201,25 @@ def way(g, c, low, passing):
 
 total, T = paths(g)
 cut = []
+so_far = {}
+
+
+def sizes():
+    """How many modules a crate's facade has, by what it passes on: those of each crate that it passes on stand in it once more."""
+    lows = collections.defaultdict(set)
+    for m, x in so_far:
+        lows[m].add(x)
+    S = {}
+
+    def s(c):
+        if c not in S:
+            S[c] = 1 + sum(s(x) for x in lows[c])
+        return S[c]
+    for c in own:
+        s(c)
+    return S
+
+
 while total > MOST:
     above = collections.defaultdict(set)
     for c in own:
@@ -212,25 +231,41 @@ while total > MOST:
         if c not in U:
             U[c] = 1 + sum(u(y) for y in above[c])
         return U[c]
+    S = sizes()
+    # how often a crate's facade stands in others'
+    again = collections.Counter()
+    for c in own:
+        again[c] += 1
+    for m in reversed(own):
+        for k, x in so_far:
+            if k == m:
+                again[x] += again[m]
     best = None
     for c in own:
         for x in sorted(g[c], key=place.get):
             if T[x] == 1 and named[c][x]:
                 continue
-            score = u(c) * T[x] / (named[c][x] + 4)
-            if best and score <= best[0]:
+            gain = u(c) * T[x]
+            if best and gain / 5 <= best[0]:
                 continue
             g[c].discard(x)
-            found = way(g, c, x, {})
+            found = way(g, c, x, so_far) if named[c][x] else (None, {})
+            if not named[c][x] and not reached(g, c) >= {x}:
+                found = None
             g[c].add(x)
             if found:
-                best = score, c, x
+                cost = sum(S[low] * again[m] for m, low in found[1] if (m, low) not in so_far)
+                score = gain / (named[c][x] + 4 + 10 * cost)
+                if not best or score > best[0]:
+                    best = score, c, x, found[1]
     if not best:
         print('port_lists: nothing more to cut')
         break
     g[best[1]].discard(best[2])
-    cut.append(best[1:])
+    cut.append(best[1:3])
+    so_far.update(best[3])
     total, T = paths(g)
+print(f'port_lists: {sum(sizes().values())} facades, {max(sizes().values())} in one')
 
 # ---- through which crate each is named
 

@@ -9,16 +9,16 @@ use lib.ListN.{length, get_or, set, take, drop}
 use lib.Seq.{set-get_or}
 use borrow.Author.Tests.{lt-ltb, le-ltb}
 use Rattle.log_records.specs.Record.{Rec, tick, frame}
-use Rattle.batch_rules.specs.rules.specs.declared.Head.{Head}
-use Rattle.batch_rules.specs.rules.specs.declared.Slot.{Slot}
-use Rattle.batch_rules.specs.rules.specs.declared.Post.{Post}
-use Rattle.batch_rules.specs.rules.specs.Record.{place_count}
-use Rattle.batch_rules.specs.rules.specs.After.{is_early, is_full_in, after_tick, after_frame, aged_to, with_frame, with_counts, keep_in}
-use Rattle.batch_rules.specs.watch_rules.specs.declared.Table.{Table}
-use Rattle.batch_rules.specs.watch_rules.specs.declared.Heard.{Heard}
-use Rattle.batch_rules.specs.watch_rules.specs.declared.Arrival.{Arrival}
-use Rattle.batch_rules.specs.watch_rules.specs.declared.Arrival.TheVariants.{Tick, Frame, Unread}
-use Rattle.batch_rules.specs.watch_rules.specs.Table.{post_count, is_channel, holds, place_of, some_place, no_head, no_post, post_in, judged_of, heard_of, arrival_for, refused_after}
+use Rattle.rules.specs.declared.Head.{Head}
+use Rattle.rules.specs.declared.Slot.{Slot}
+use Rattle.rules.specs.declared.Post.{Post}
+use Rattle.rules.specs.Record.{place_count}
+use Rattle.rules.specs.After.{is_early, is_full_in, after_tick, after_frame, aged_to, with_frame, with_counts, keep_in}
+use Rattle.watch_rules.specs.declared.Table.{Table}
+use Rattle.watch_rules.specs.declared.Heard.{Heard}
+use Rattle.watch_rules.specs.declared.Arrival.{Arrival}
+use Rattle.watch_rules.specs.declared.Arrival.TheVariants.{Tick, Frame, Unread}
+use Rattle.watch_rules.specs.Table.{post_count, is_channel, holds, place_of, some_place, no_head, no_post, post_in, judged_of, heard_of, arrival_for, refused_after}
 use Rattle.batch_rules.specs.lent_words.specs.declared.Lent.{Lent}
 use Rattle.batch_rules.specs.lent_words.specs.Words.{answer_word}
 use Rattle.batch_rules.specs.lent_step.specs.One.{worded_by, lent_at}

@@ -13,7 +13,7 @@ use Rattle.log_records.specs.Reading.{Log, ends, then, clean, piece, refused, lo
 use Rattle.log_read.specs.declared.Scan.{Scan}
 use Rattle.log_read.specs.declared.Scan.TheVariants as scan
 use Rattle.log_read.specs.Scan.{scan_of}
-use Rattle.batch_rules.specs.watch_rules.specs.declared.Table.{Table}
+use Rattle.watch_rules.specs.declared.Table.{Table}
 use Rattle.batch_rules.specs.lent_words.specs.declared.Lent.{Lent}
 use Rattle.batch_rules.specs.Batch.{most_bytes, is_whole, table_after, why_batch, batch_by, answers_by, batch_of, answers_after}
 

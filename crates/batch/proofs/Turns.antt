@@ -18,12 +18,12 @@ use Rattle.log_records.specs.Record.{Rec, tick, frame}
 use Rattle.log_records.specs.Reading.{rec_of, placed, record_at, found_at, onward, log_of, records_in}
 use Rattle.log_records.proofs.Logs.{turn_end}
 use Rattle.log_read.proofs.Scans.{log_at, unroll}
-use Rattle.batch_rules.specs.rules.specs.declared.Head.{Head}
-use Rattle.batch_rules.specs.rules.specs.declared.Slot.{Slot}
-use Rattle.batch_rules.specs.watch_rules.specs.declared.Table.{Table}
-use Rattle.batch_rules.specs.watch_rules.specs.Table.{post_count, channel_count, no_head, place_named, some_place, refused_after}
+use Rattle.rules.specs.declared.Head.{Head}
+use Rattle.rules.specs.declared.Slot.{Slot}
+use Rattle.watch_rules.specs.declared.Table.{Table}
+use Rattle.watch_rules.specs.Table.{post_count, channel_count, no_head, place_named, some_place, refused_after}
 use Rattle.batch_rules.specs.lent_words.specs.declared.Lent.{Lent}
-use Rattle.batch_rules.specs.watch_rules.specs.declared.Heard.{Heard}
+use Rattle.watch_rules.specs.declared.Heard.{Heard}
 use Rattle.batch_rules.specs.lent_words.specs.Words.{answer_word}
 use Rattle.batch_rules.specs.Batch.{called_with, table_after, words_of, answers_by}
 use Rattle.batch_rules.proofs.Laws.{words_length}

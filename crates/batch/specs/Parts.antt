@@ -3,13 +3,13 @@
 use Rattle.std.specs.Prelude.{List, [], ◌∷◌}
 use Rattle.log_records.specs.Record.{Rec, tick, frame}
 use Rattle.rule_limits.specs.declared.PlainLimits.{PlainLimits}
-use Rattle.batch_rules.specs.rules.specs.declared.Head.{Head}
-use Rattle.batch_rules.specs.rules.specs.declared.Slot.{Slot}
-use Rattle.batch_rules.specs.rules.specs.declared.Post.{Post}
-use Rattle.batch_rules.specs.watch_rules.specs.declared.Arrival.{Arrival}
-use Rattle.batch_rules.specs.watch_rules.specs.declared.Arrival.TheVariants.{Tick}
-use Rattle.batch_rules.specs.watch_rules.specs.declared.Heard.{Heard}
-use Rattle.batch_rules.specs.watch_rules.specs.Table.{arrival_for, heard_of}
+use Rattle.rules.specs.declared.Head.{Head}
+use Rattle.rules.specs.declared.Slot.{Slot}
+use Rattle.rules.specs.declared.Post.{Post}
+use Rattle.watch_rules.specs.declared.Arrival.{Arrival}
+use Rattle.watch_rules.specs.declared.Arrival.TheVariants.{Tick}
+use Rattle.watch_rules.specs.declared.Heard.{Heard}
+use Rattle.watch_rules.specs.Table.{arrival_for, heard_of}
 
 abbrev pub arrival_in : PlainLimits → Rec → Arrival
 arrival_in lim (tick time c) = Tick

@@ -7,18 +7,16 @@ ghost use Rattle.log_records.specs.Reading.{rec_of, log_of, records_in};
 ghost use Rattle.batch_rules.specs.Batch.{table_after, batch_by, answers_by, batch_of, answers_after};
 ghost use Rattle.batch.specs.Parts.{arrival_in, heard_by, joined};
 
-// The crates among these are passed on to those above, which name them through this one.
 use batch_rules::lent_words::{Lent, answer_word};
-use batch_rules::rules::{Head, PLACES, Post, Slot};
-use batch_rules::watch_hear::{arrival_for, hear, refused_after};
-pub use batch_rules::watch_places;
-use batch_rules::watch_places::place_named;
-use batch_rules::watch_rules::{Arrival, CHANNELS, Heard, POSTS, Table};
 use log_read::{Scan, record_at, scan_log};
 use log_records::{Entry, Found};
 use plain_words::refusal_word;
 use refusals::Refusal;
 use rule_limits::PlainLimits;
+use rules::{Head, PLACES, Post, Slot};
+use watch_hear::watch_places::place_named;
+use watch_hear::{arrival_for, hear, refused_after};
+use watch_rules::{Arrival, CHANNELS, Heard, POSTS, Table};
 
 // 02: "up to 4,096 bytes of log records".
 pub const MOST: usize = 4096;

@@ -12,10 +12,10 @@ use Rattle.log_records.specs.Record.{Rec}
 use Rattle.log_records.specs.Record as rec
 use Rattle.log_records.specs.Reading.{log_of, records_in}
 use Rattle.rule_asks.specs.Judgements.{bit}
-use Rattle.lent_runs.specs.rules.specs.Counts.{largest}
-use Rattle.lent_runs.specs.watch_rules.specs.declared.Table.{Table}
-use Rattle.lent_runs.specs.watch_rules.specs.Run.{Request, is_arrival, handed_in, refused_ever, accepted_ever}
-use Rattle.lent_runs.specs.watch_rules.proofs.Handed.{refused_counted, all_handed}
+use Rattle.rules.specs.Counts.{largest}
+use Rattle.watch_rules.specs.declared.Table.{Table}
+use Rattle.watch_rules.specs.Run.{Request, is_arrival, handed_in, refused_ever, accepted_ever}
+use Rattle.watch_rules.proofs.Handed.{refused_counted, all_handed}
 use Rattle.batch_rules.specs.Batch.{request_of, why_batch}
 use Rattle.batch_rules.specs.Runs.{Asked, single, batch, asked_run, with_records, with_batch, flat, handed_by, handed_asked}
 use Rattle.batch_rules.proofs.Flat.{flat_run}

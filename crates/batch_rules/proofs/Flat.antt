@@ -7,8 +7,8 @@ use mathlib.Core.List.{List, [], ◌∷◌}
 use Rattle.refusals.specs.declared.Refusal.{Refusal}
 use Rattle.log_records.specs.Record.{Rec}
 use Rattle.log_records.specs.Reading.{log_of, records_in}
-use Rattle.lent_runs.specs.watch_rules.specs.declared.Table.{Table}
-use Rattle.lent_runs.specs.watch_rules.specs.Run.{Request, run, reply01, accepted}
+use Rattle.watch_rules.specs.declared.Table.{Table}
+use Rattle.watch_rules.specs.Run.{Request, run, reply01, accepted}
 use Rattle.lent_runs.specs.Runs.{lent_by, lent_run, word_of}
 use Rattle.lent_runs.proofs.Lents.{lent_run_lem, lent_answer}
 use Rattle.batch_rules.specs.Batch.{request_of, table_after, words_of, why_batch, batch_by, batch_of}

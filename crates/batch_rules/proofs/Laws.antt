@@ -18,7 +18,7 @@ use Rattle.log_records.specs.declared.Found.TheVariants as found
 use Rattle.log_records.specs.Record.{Rec, AllLoggable, log_bytes}
 use Rattle.log_records.specs.Reading.{Log, found_at, onward, read_from, log_of, whole, records_in}
 use Rattle.log_records.proofs.Logs.{log_reads, records_whole}
-use Rattle.lent_runs.specs.watch_rules.specs.declared.Table.{Table}
+use Rattle.watch_rules.specs.declared.Table.{Table}
 use Rattle.batch_rules.specs.Batch.{called_with, table_after, words_of, most_bytes, is_whole, why_batch, batch_by, answers_by, batch_of, answers_after}
 use Rattle.batch_rules.specs.Cases.{TooLong, Broken, NoRoom, Taken}
 

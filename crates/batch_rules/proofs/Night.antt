@@ -21,19 +21,19 @@ use Rattle.rule_pages.specs.Said.{status_by, limits_by, opening_by, command_by}
 use Rattle.rule_limits.specs.declared.PlainLimits.{PlainLimits}
 use Rattle.rule_limits.specs.Limits.{limits_fit}
 use Rattle.rule_asks.specs.Judgements.{lowers_badly, outside, leaking, bad_insulation, differs}
-use Rattle.lent_runs.specs.rules.specs.History.{since_finished, opening, in_session}
-use Rattle.lent_runs.specs.rules.specs.Times.{earlier_in}
-use Rattle.lent_runs.specs.rules.specs.Rules.{session_status, session_control, session_stop, limit_of, f1, f2, f3, f4, f5, f6, f7, f8, f9, f10, f11, f12, findings01}
-use Rattle.lent_runs.specs.rules.specs.Counts.{largest}
+use Rattle.rules.specs.History.{since_finished, opening, in_session}
+use Rattle.rules.specs.Times.{earlier_in}
+use Rattle.rules.specs.Rules.{session_status, session_control, session_stop, limit_of, f1, f2, f3, f4, f5, f6, f7, f8, f9, f10, f11, f12, findings01}
+use Rattle.rules.specs.Counts.{largest}
 use Rattle.log_numbers.specs.Number.{groups, read_groups}
 use Rattle.log_records.specs.Record.{Rec, AllLoggable, record_bytes, log_bytes}
 use Rattle.log_records.specs.Record as rec
 use Rattle.log_records.specs.Reading.{length_part, identifier_part, channel_part, time_part, record_at, read_from, log_of, records_in}
-use Rattle.lent_runs.specs.watch_rules.specs.declared.Table.{Table}
-use Rattle.lent_runs.specs.watch_rules.specs.Table.{look_up_of}
-use Rattle.lent_runs.specs.watch_rules.specs.Steps.{standing, find_from, holder, other_holds, feed01, set_up01, look_up01, feed_steps, set_up_steps}
-use Rattle.lent_runs.specs.watch_rules.specs.Run.{Request, setUp, frame, tick, run, reply01, accepted, handed_in, refused_ever, accepted_ever}
-use Rattle.lent_runs.specs.watch_rules.proofs.Demand.{every_record}
+use Rattle.watch_rules.specs.declared.Table.{Table}
+use Rattle.watch_rules.specs.Table.{look_up_of}
+use Rattle.watch_rules.specs.Steps.{standing, find_from, holder, other_holds, feed01, set_up01, look_up01, feed_steps, set_up_steps}
+use Rattle.watch_rules.specs.Run.{Request, setUp, frame, tick, run, reply01, accepted, handed_in, refused_ever, accepted_ever}
+use Rattle.watch_rules.proofs.Demand.{every_record}
 use Rattle.lent_runs.specs.Runs.{lent_by, word_of}
 use Rattle.batch_rules.specs.Batch.{is_whole, why_batch, called_with, table_after, words_of, batch_of, answers_after}
 use Rattle.batch_rules.specs.Cases.{Broken}

@@ -6,9 +6,9 @@ use Rattle.refusals.specs.declared.Refusal.TheVariants.{BatchBytes, BatchRecord,
 use Rattle.plain_words.specs.Words.{refusal_word}
 use Rattle.log_records.specs.Record.{Rec, tick, frame}
 use Rattle.log_records.specs.Reading.{Log, ends, then, clean, piece, refused, log_of, records_in}
-use Rattle.lent_runs.specs.watch_rules.specs.declared.Table.{Table}
-use Rattle.lent_runs.specs.watch_rules.specs.Run.{Request}
-use Rattle.lent_runs.specs.watch_rules.specs.Run as request
+use Rattle.watch_rules.specs.declared.Table.{Table}
+use Rattle.watch_rules.specs.Run.{Request}
+use Rattle.watch_rules.specs.Run as request
 use Rattle.lent_runs.specs.lent_words.specs.declared.Lent.{Lent}
 use Rattle.lent_runs.specs.Runs.{lent_by}
 

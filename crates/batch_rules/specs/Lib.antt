@@ -2,8 +2,5 @@ pub mod Batch
 pub mod Cases
 pub mod Runs
 -- crates that are passed on to those above, which name them through this one
-pub use Rattle.lent_runs.specs.rules as rules
-pub use Rattle.lent_runs.specs.watch_rules as watch_rules
 pub use Rattle.lent_runs.specs.lent_words as lent_words
 pub use Rattle.lent_runs.specs.lent_step as lent_step
-pub use Rattle.lent_runs as lent_runs

@@ -6,8 +6,8 @@ use Rattle.refusals.specs.declared.Refusal.{Refusal}
 use Rattle.log_records.specs.Record.{Rec}
 use Rattle.log_records.specs.Reading.{log_of, records_in}
 use Rattle.rule_asks.specs.Judgements.{bit}
-use Rattle.lent_runs.specs.watch_rules.specs.declared.Table.{Table}
-use Rattle.lent_runs.specs.watch_rules.specs.Run.{Request, reply01, accepted, is_arrival}
+use Rattle.watch_rules.specs.declared.Table.{Table}
+use Rattle.watch_rules.specs.Run.{Request, reply01, accepted, is_arrival}
 use Rattle.lent_runs.specs.lent_words.specs.Lent.{start_of}
 use Rattle.lent_runs.specs.Runs.{lent_by, word_of}
 use Rattle.batch_rules.specs.Batch.{request_of, why_batch, batch_of}

@@ -5,4 +5,4 @@
 // proofs/Counted.antt counts what such a run refused (02, Req 08); proofs/Night.antt has all on a night. `batch` and `lent_batch` answer by it.
 
 // The crates among these are passed on to those above, which name them through this one.
-pub use lent_runs::{lent_words, rules, watch_hear, watch_places, watch_rules};
+pub use lent_runs::lent_words;

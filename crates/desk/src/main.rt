@@ -8,11 +8,10 @@ mod word; // word.rt: the word that a line begins with
 mod step; // step.rt: a line and its answer
 
 use desk_buffers::front;
-use desk_record::watch;
-use desk_record::watch_rules::Table;
 use notation_answers::answer;
 use notation_read::script;
 use text_pen::Pen;
+use watch_rules::Table;
 
 // What is kept from one piece of the input to the next: the table, how much of the last line is in the line buffer, whether that line is
 // over its length, and how much of the output buffer is written.

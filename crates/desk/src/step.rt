@@ -3,10 +3,10 @@ use crate::word;
 use crate::word::{Changing, Showing, Telling};
 use desk_batch::desk_table;
 use desk_batch::desk_table::Line;
-use desk_record::watch_rules::Table;
 use notation_answers::answer;
 use page_table::Interface;
 use text_pen::Pen;
+use watch_rules::Table;
 
 pub fn answered(
     rt: HostRuntime,

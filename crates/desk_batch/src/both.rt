@@ -1,10 +1,10 @@
 // A batch, by value or through the entry that changes a lent table in place: the answer word, the table and the answers are the same.
 ghost use Rattle.std.specs.Prelude.{◌≡◌, length};
-ghost use Rattle.desk_table.specs.batch_rules.specs.Batch.{batch_of, answers_after};
+ghost use Rattle.batch.specs.batch_rules.specs.Batch.{batch_of, answers_after};
 
 use desk_table::gateway;
-use desk_table::lent_words::Lent;
-use desk_table::watch_rules::Table;
+use lent_words::Lent;
+use watch_rules::Table;
 
 pub fn batch(lent: bool, t: Table, records: &[u8], answers: &mut [u32]) -> Lent
     ensures { (result ≡ batch_of t records.now (length answers.old))
@@ -13,5 +13,5 @@ pub fn batch(lent: bool, t: Table, records: &[u8], answers: &mut [u32]) -> Lent
     if lent {
         return gateway::lend_batch(t, records, answers);
     }
-    desk_table::batch::feed_batch(t, records, answers)
+    batch::feed_batch(t, records, answers)
 }

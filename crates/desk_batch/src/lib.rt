@@ -7,12 +7,12 @@ mod both; // both.rt: a batch, by value or lent
 use desk_buffers::front;
 pub use desk_table;
 use desk_table::Line;
-use desk_table::watch_rules::Table;
 use notation_answers::answer;
 use notation_read::fields;
 use notation_read::fields::Last;
 use text_bytes::Bytes;
 use text_pen::Pen;
+use watch_rules::Table;
 
 // desk.md: "the answers slice has ROOM places, each filled with 3735928559 before the call".
 const UNTOUCHED: u32 = 3735928559;

@@ -4,8 +4,6 @@
 
 mod fields; // fields.rt: the fields whose values are no raw numbers
 
-// The crates among these are passed on to those above, which name them through this one.
-pub use desk_values;
 use desk_values::message::{MOST, Values, put_fields};
 use desk_values::values::same;
 use older_types::{

@@ -1,8 +1,7 @@
 // A post's record as one line, the table's count of what was refused, and its index: the steps `record`, `refused` and `index`, for the desk alone.
 #![tactic(auto)]
 
-// The crates among these are passed on to those above, which name them through this one.
-use desk_older::desk_values::message;
+use desk_values::message;
 use message_types::labels::{plug_number, protocol_number};
 use message_types::{
     BATTERY, CONTROLLER, CUI, ID, OCPP, Plug, Protocol, SAFETY_CONTROL, SEQUENCE, STATUS,
@@ -15,14 +14,12 @@ use page_table::Interface;
 use rule_limits::Limits;
 use rule_limits::kept::{interface_number, sensor_number};
 use rule_pages::place_by;
-use text_pen::Pen;
-pub use watch;
-use watch::rules::{
+use rules::{
     CONTROL_PLACE, Dated, FINDINGS, KEPT, LastTime, Latest, OpenSession, PLACES, Record,
     STATUS_PLACE, STOP_PLACE, SessionPart,
 };
-pub use watch::watch_rules;
-use watch::watch_rules::{CHANNELS, LookedUp, Setting, Table};
+use text_pen::Pen;
+use watch_rules::{CHANNELS, LookedUp, Setting, Table};
 
 // `TIME+AGE`, behind its name
 fn put_time(out: &mut [u8], pen: Pen, name: &[u8], time: u32, age: u32) -> Pen {

@@ -6,7 +6,7 @@ mod setups; // setups.rt: the set-ups of a replay
 use desk_buffers::front;
 use notation_answers::answer;
 use notation_endings::ending;
-use playing_setups::playing_nights::{Played, Replay};
+use playing_nights::{Played, Replay};
 use refusals::Refusal;
 use setups::Ready;
 use text_bytes::Bytes;

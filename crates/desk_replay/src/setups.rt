@@ -1,7 +1,7 @@
 // The set-ups of a replay, behind its log.
 use notation_setup::setup;
 use notation_setup::setup::Asked;
-use playing_setups::playing_nights::Replay;
+use playing_nights::Replay;
 use rule_limits::PlainLimits;
 
 // A replay with its set-ups; not well where the words are none. A set-up that is refused is told by the replay itself.

@@ -1,11 +1,11 @@
 // A step on the table, by value or through the entry that changes a lent table in place: the answer word and the table are the same.
 ghost use Rattle.std.specs.Prelude.{◌≡◌};
-ghost use Rattle.gateway.specs.lent_words.specs.Lent.{set_up_word, release_word};
-ghost use Rattle.gateway.specs.lent_step.specs.Fed.{frame_word, tick_word};
+ghost use Rattle.lent_step.specs.lent_words.specs.Lent.{set_up_word, release_word};
+ghost use Rattle.lent_step.specs.Fed.{frame_word, tick_word};
 
-use gateway::lent_words::Lent;
-use gateway::watch_rules::Table;
-use gateway::{lent_words, watch};
+use lent_step::lent_words;
+use lent_step::lent_words::Lent;
+use watch_rules::Table;
 
 pub fn set_up(
     lent: bool,

@@ -6,9 +6,7 @@ mod both; // both.rt: a step on the table, by value or lent
 // The crates among these are passed on to those above, which name them through this one.
 use desk_buffers::front;
 pub use gateway;
-use gateway::lent_words::Lent;
-use gateway::watch_rules::Table;
-pub use gateway::{batch, lent_words, watch_rules};
+use lent_step::lent_words::Lent;
 use notation_answers::answer;
 use notation_read::fields::Last;
 use notation_read::heard::Heard;
@@ -16,6 +14,7 @@ use notation_read::{fields, heard};
 use notation_setup::setup;
 use notation_setup::setup::Asked;
 use text_pen::Pen;
+use watch_rules::Table;
 
 // The table after a line, and its answer.
 #[derive(Clone, Copy)]

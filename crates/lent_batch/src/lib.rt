@@ -6,11 +6,9 @@
 ghost use Rattle.std.specs.Prelude.{◌≡◌, length};
 ghost use Rattle.batch.specs.batch_rules.specs.Batch.{batch_of, answers_after};
 
-// The crates among these are passed on to those above, which name them through this one.
-pub use batch;
 use batch::feed_batch;
 use lent_table::lent_words::Lent;
-use lent_table::watch_rules::Table;
+use watch_rules::Table;
 
 #[unsafe(no_mangle)]
 pub extern "C" fn rokemaipu_batch(t: &mut Table, records: &[u8], answers: &mut [u32]) -> u32

@@ -14,7 +14,7 @@ use refusals::Refusal;
 use rule_asks::is_set;
 use rules::COUNTS;
 use watch_look::refused;
-use watch_look::watch_places::is_post;
+use watch_places::is_post;
 use watch_rules::Table;
 
 fn store(cs: [u32; COUNTS], counts: &mut [u32]) -> u32

@@ -10,10 +10,10 @@ ghost use Rattle.lent_heads.specs.lent_step.specs.Fed.{frame_word};
 
 use lent_heads::lent_step::heard_on;
 use lent_heads::lent_words::Lent;
-use lent_heads::rules::PLACES;
-use lent_heads::watch_hear::arrival_for;
-use lent_heads::watch_places::place_named;
-use lent_heads::watch_rules::{CHANNELS, Table};
+use rules::PLACES;
+use watch_hear::arrival_for;
+use watch_hear::watch_places::place_named;
+use watch_hear::watch_rules::{CHANNELS, Table};
 
 #[unsafe(no_mangle)]
 pub extern "C" fn rokemaipu_frame(

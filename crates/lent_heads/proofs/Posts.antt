@@ -12,14 +12,14 @@ use lib.Dec.{T as Holds}
 use lib.ListN.{get_or, set}
 use lib.Seq.{set-get_or}
 use borrow.Author.Tests.{lt-ltb, le-ltb}
-use Rattle.lent_look.specs.rules.specs.declared.Slot.{Slot}
-use Rattle.lent_look.specs.rules.specs.declared.Head.{Head}
-use Rattle.lent_look.specs.rules.specs.declared.Post.{Post}
-use Rattle.lent_look.specs.rules.specs.Record.{place_count}
-use Rattle.lent_look.specs.rules.specs.After.{keep_in, stored}
-use Rattle.lent_look.specs.watch_rules.specs.declared.Table.{Table}
-use Rattle.lent_look.specs.watch_rules.specs.declared.Arrival.{Arrival}
-use Rattle.lent_look.specs.watch_rules.specs.Table.{channel_count, no_post, post_in, place_named, some_place, Arriving}
+use Rattle.rules.specs.declared.Slot.{Slot}
+use Rattle.rules.specs.declared.Head.{Head}
+use Rattle.rules.specs.declared.Post.{Post}
+use Rattle.rules.specs.Record.{place_count}
+use Rattle.rules.specs.After.{keep_in, stored}
+use Rattle.watch_rules.specs.declared.Table.{Table}
+use Rattle.watch_rules.specs.declared.Arrival.{Arrival}
+use Rattle.watch_rules.specs.Table.{channel_count, no_post, post_in, place_named, some_place, Arriving}
 use Rattle.lent_step.specs.lent_words.specs.declared.Lent.{Lent}
 use Rattle.lent_step.specs.One.{heard_on, stored_by, lent_at}
 use Rattle.lent_step.specs.declared.Worded.{Worded}

@@ -2,6 +2,5 @@
 // table's step. Laws alone, without a function, for the proofs of `lent_frame` and `lent_tick`.
 
 // The crates among these are passed on to those above, which name them through this one.
-pub use lent_look::{rules, watch_rules};
 pub use lent_step;
-pub use lent_step::{lent_words, watch_hear, watch_places};
+pub use lent_step::lent_words;

@@ -7,7 +7,6 @@ ghost use Rattle.std.specs.Prelude.{◌≡◌, ◌&&◌, length};
 ghost use Rattle.plain_words.specs.Words.{outcome_word};
 ghost use Rattle.lent_latest.specs.Latest.{of_kind_in, is_shown, has_room, kept_outcome, time_left, bytes_left, latest_word, time_after, frame_after};
 
-// The crates among these are passed on to those above, which name them through this one.
 use message_types::OCPP;
 use plain_words::refusal_word;
 use post_ages::{age, received};
@@ -15,7 +14,6 @@ use refusals::Refusal;
 use rule_asks::is_set;
 use rule_pages::place_by;
 use rules::Slot;
-pub use watch_places;
 use watch_places::is_post;
 use watch_rules::Table;
 

@@ -1,6 +1,2 @@
 // What entries share that look a post up in a lent table: the cases of a look-up.
 // Laws alone, without a function, for the proofs of `lent_numbers`, `lent_counts`, `lent_latest` and `lent_session`.
-
-// The crates among these are passed on to those above, which name them through this one.
-pub use watch_rules;
-pub use watch_rules::rules;

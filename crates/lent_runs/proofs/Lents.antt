@@ -8,12 +8,12 @@ use lib.Dec.{ltb}
 use borrow.Author.Tests.{ltb-true}
 use Rattle.plain_words.specs.Words.{answers, is_accepted, Told}
 use Rattle.plain_words.proofs.WordLaws.{word_tells}
-use Rattle.lent_step.specs.watch_rules.specs.declared.Table.{Table}
-use Rattle.lent_step.specs.watch_rules.specs.declared.Answer.TheVariants.{Findings, Refused}
-use Rattle.lent_step.specs.watch_rules.specs.declared.Setting.TheVariants as setting
-use Rattle.lent_step.specs.watch_rules.specs.Run.{Request, setUp, release, frame, tick, Reply, set, fed, reply, next, run, reply01, accepted, after_refusal, is_refusal}
-use Rattle.lent_step.specs.watch_rules.proofs.Refusing.{refused_table, refused_posts}
-use Rattle.lent_step.specs.watch_rules.proofs.Demand.{every_answer}
+use Rattle.watch_rules.specs.declared.Table.{Table}
+use Rattle.watch_rules.specs.declared.Answer.TheVariants.{Findings, Refused}
+use Rattle.watch_rules.specs.declared.Setting.TheVariants as setting
+use Rattle.watch_rules.specs.Run.{Request, setUp, release, frame, tick, Reply, set, fed, reply, next, run, reply01, accepted, after_refusal, is_refusal}
+use Rattle.watch_rules.proofs.Refusing.{refused_table, refused_posts}
+use Rattle.watch_rules.proofs.Demand.{every_answer}
 use Rattle.lent_step.specs.lent_words.specs.Lent.{start_of, set_up_word, release_word}
 use Rattle.lent_step.specs.Fed.{frame_word, tick_word}
 use Rattle.lent_runs.specs.Runs.{lent_by, lent_run, outcome_of, word_of, most_of}

@@ -14,7 +14,7 @@ use Rattle.page_interfaces.specs.Foreign.{is_foreign, judge_for}
 use Rattle.page_bounds.proofs.Bounds.{SmallBelow, kinds_on, judge_small_on}
 use Rattle.rule_limits.specs.declared.PlainLimits.{PlainLimits}
 use Rattle.rule_limits.specs.Limits.{limits_fit}
-use Rattle.lent_step.specs.rules.specs.declared.Head.{Head}
+use Rattle.watch_rules.specs.rules.specs.declared.Head.{Head}
 use Rattle.message_types.specs.declared.DcPowerControl.{DcPowerControl}
 use Rattle.message_types.specs.declared.PowerModulesStatus.{PowerModulesStatus}
 use Rattle.message_types.specs.declared.NewChargeSession.{NewChargeSession}
@@ -25,17 +25,17 @@ use Rattle.rule_pages.specs.declared.Role.{Role}
 use Rattle.rule_pages.specs.declared.Role.TheVariants.{Other, Status, Limits, Controller, Opening, Command, Finished, Stop}
 use Rattle.rule_pages.specs.Roles.{role_of}
 use Rattle.rule_pages.specs.Said.{status_by, opening_by, command_by}
-use Rattle.lent_step.specs.rules.specs.After.{silent_in, late_after, limit_in, unready_in, stopped_in, carrying_in, any_findings, control_findings, status_findings, opening_findings, finished_findings, findings_by, message_findings, is_full_in, after_tick, after_frame, aged_to, stamp_in, is_early}
-use Rattle.lent_step.specs.watch_rules.specs.declared.Table.{Table}
-use Rattle.lent_step.specs.watch_rules.specs.declared.Answer.{Answer}
-use Rattle.lent_step.specs.watch_rules.specs.declared.Answer.TheVariants.{Findings, Refused}
-use Rattle.lent_step.specs.watch_rules.specs.declared.Settled.{Settled}
-use Rattle.lent_step.specs.watch_rules.specs.declared.Fed.{Fed}
-use Rattle.lent_step.specs.watch_rules.specs.declared.Heard.{Heard}
-use Rattle.lent_step.specs.watch_rules.specs.declared.Arrival.{Arrival}
-use Rattle.lent_step.specs.watch_rules.specs.declared.Arrival.TheVariants.{Tick, Frame, Unread}
-use Rattle.lent_step.specs.watch_rules.specs.Table.{post_count, is_channel, holds, place_of, place_in, post_in, arrival_of, Arriving, framing, ticking, judged_of, heard_of, feed_at, feed_of, is_other, is_post, set_up_of, release_of}
-use Rattle.lent_step.specs.watch_rules.specs.Run.{Request, setUp, release, frame, tick, reply}
+use Rattle.watch_rules.specs.rules.specs.After.{silent_in, late_after, limit_in, unready_in, stopped_in, carrying_in, any_findings, control_findings, status_findings, opening_findings, finished_findings, findings_by, message_findings, is_full_in, after_tick, after_frame, aged_to, stamp_in, is_early}
+use Rattle.watch_rules.specs.declared.Table.{Table}
+use Rattle.watch_rules.specs.declared.Answer.{Answer}
+use Rattle.watch_rules.specs.declared.Answer.TheVariants.{Findings, Refused}
+use Rattle.watch_rules.specs.declared.Settled.{Settled}
+use Rattle.watch_rules.specs.declared.Fed.{Fed}
+use Rattle.watch_rules.specs.declared.Heard.{Heard}
+use Rattle.watch_rules.specs.declared.Arrival.{Arrival}
+use Rattle.watch_rules.specs.declared.Arrival.TheVariants.{Tick, Frame, Unread}
+use Rattle.watch_rules.specs.Table.{post_count, is_channel, holds, place_of, place_in, post_in, arrival_of, Arriving, framing, ticking, judged_of, heard_of, feed_at, feed_of, is_other, is_post, set_up_of, release_of}
+use Rattle.watch_rules.specs.Run.{Request, setUp, release, frame, tick, reply}
 use Rattle.plain_words.specs.Words.{Within}
 use Rattle.plain_words.proofs.WordLaws.{either}
 use Rattle.lent_step.specs.lent_words.specs.Words.{answer_outcome, setting_outcome}

@@ -3,10 +3,10 @@ use Prim.Native.Nat.{◌≤◌}
 use mathlib.Core.Path.{◌≡◌, refl}
 use mathlib.Core.List.{[]}
 use native.Mathlib.Omega.{arith}
-use Rattle.lent_step.specs.watch_rules.specs.declared.Table.{Table}
-use Rattle.lent_step.specs.watch_rules.specs.Table.{place_named, some_place, place_in, one_refused, feed_of}
-use Rattle.lent_step.specs.watch_rules.specs.Steps.{standing, find_from, holder, feed01}
-use Rattle.lent_step.specs.watch_rules.specs.Run.{tick, accepted}
+use Rattle.watch_rules.specs.declared.Table.{Table}
+use Rattle.watch_rules.specs.Table.{place_named, some_place, place_in, one_refused, feed_of}
+use Rattle.watch_rules.specs.Steps.{standing, find_from, holder, feed01}
+use Rattle.watch_rules.specs.Run.{tick, accepted}
 use Rattle.plain_words.specs.Words.{number_in}
 use Rattle.lent_step.specs.lent_words.specs.Lent.{start_of}
 use Rattle.lent_step.specs.Fed.{tick_word}

@@ -1,7 +1,7 @@
 -- Requests through the entries in place, from any memory that was started.
 use Rattle.std.specs.Prelude.{ℕ, List, [], ◌∷◌}
-use Rattle.lent_step.specs.watch_rules.specs.declared.Table.{Table}
-use Rattle.lent_step.specs.watch_rules.specs.Run.{Request, setUp, release, frame, tick, Reply, set, fed}
+use Rattle.watch_rules.specs.declared.Table.{Table}
+use Rattle.watch_rules.specs.Run.{Request, setUp, release, frame, tick, Reply, set, fed}
 use Rattle.lent_step.specs.lent_words.specs.declared.Lent.{Lent}
 use Rattle.plain_words.specs.Words.{Outcome, outcome_word}
 use Rattle.lent_step.specs.lent_words.specs.Words.{answer_outcome, setting_outcome}

@@ -2,4 +2,4 @@
 // so that demand 3 is said of the lent table too. Definitions and laws alone, without a function, for a reader who has `watch_rules` beside it.
 
 // The crates among these are passed on to those above, which name them through this one.
-pub use lent_step::{lent_words, rules, watch_hear, watch_places, watch_rules};
+pub use lent_step::lent_words;

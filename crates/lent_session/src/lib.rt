@@ -8,11 +8,11 @@ ghost use Rattle.rules.specs.After.{kept_count, open_kept};
 ghost use Rattle.lent_session.specs.InSession.{part_word, part_time, part_frame};
 
 use lent_latest::hand_out;
-use lent_latest::watch_places::is_post;
 use plain_words::refusal_word;
 use refusals::Refusal;
 use rule_asks::is_set;
 use rules::{KEPT, Session, Slot};
+use watch_places::is_post;
 use watch_rules::Table;
 
 // 01: "With no session open all of the session's part is none."

@@ -5,10 +5,8 @@
 ghost use Rattle.std.specs.Prelude.{◌≡◌};
 ghost use Rattle.lent_table.specs.lent_words.specs.Lent.{start_of, set_up_word, release_word};
 
-// The crates among these are passed on to those above, which name them through this one.
 use lent_table::lent_words::{Lent, released, settled, started};
-use lent_table::watch_rules::Table;
-pub use lent_table::{lent_words, watch, watch_rules};
+use watch_rules::Table;
 
 #[unsafe(no_mangle)]
 pub extern "C" fn rokemaipu_start(t: &mut Table) -> u32

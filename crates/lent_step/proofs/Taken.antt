@@ -6,15 +6,15 @@ use Prim.Native.Nat.{ℕ}
 use mathlib.Core.Path.{◌≡◌, refl}
 use mathlib.Core.Bool.{Bool, true, false, cond, not, ◌&&◌}
 use lib.Dec.{T as Holds}
-use Rattle.lent_words.specs.rules.specs.declared.Head.{Head}
-use Rattle.lent_words.specs.rules.specs.Record.{place_count}
-use Rattle.lent_words.specs.rules.specs.After.{is_early, is_full_in, after_tick, after_frame}
+use Rattle.rules.specs.declared.Head.{Head}
+use Rattle.rules.specs.Record.{place_count}
+use Rattle.rules.specs.After.{is_early, is_full_in, after_tick, after_frame}
 use Rattle.refusals.specs.declared.Refusal.{Refusal}
 use Rattle.refusals.specs.declared.Refusal.TheVariants.{ChannelFree, Earlier, CountFull}
-use Rattle.lent_words.specs.watch_rules.specs.declared.Heard.{Heard}
-use Rattle.lent_words.specs.watch_rules.specs.declared.Arrival.{Arrival}
-use Rattle.lent_words.specs.watch_rules.specs.declared.Arrival.TheVariants.{Tick, Frame, Unread}
-use Rattle.lent_words.specs.watch_rules.specs.Table.{is_channel, holds, turned_away, heard_by, judged_of, heard_of}
+use Rattle.watch_hear.specs.watch_rules.specs.declared.Heard.{Heard}
+use Rattle.watch_hear.specs.watch_rules.specs.declared.Arrival.{Arrival}
+use Rattle.watch_hear.specs.watch_rules.specs.declared.Arrival.TheVariants.{Tick, Frame, Unread}
+use Rattle.watch_hear.specs.watch_rules.specs.Table.{is_channel, holds, turned_away, heard_by, judged_of, heard_of}
 use Rattle.lent_step.specs.One.{worded_by}
 use Rattle.lent_step.specs.declared.Worded.{Worded}
 

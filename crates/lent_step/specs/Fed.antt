@@ -1,8 +1,8 @@
 -- What a frame and a tick leave of a table: exactly what the by-value operation of `watch` gives, the answer as a word.
 use Rattle.std.specs.Prelude.{ℕ, List, Bool}
-use Rattle.lent_words.specs.watch_rules.specs.declared.Table.{Table}
-use Rattle.lent_words.specs.watch_rules.specs.declared.Fed.{Fed}
-use Rattle.lent_words.specs.watch_rules.specs.Table.{framing, ticking, feed_of}
+use Rattle.watch_hear.specs.watch_rules.specs.declared.Table.{Table}
+use Rattle.watch_hear.specs.watch_rules.specs.declared.Fed.{Fed}
+use Rattle.watch_hear.specs.watch_rules.specs.Table.{framing, ticking, feed_of}
 use Rattle.lent_words.specs.declared.Lent.{Lent}
 use Rattle.lent_words.specs.Words.{answer_word}
 

@@ -4,17 +4,16 @@
 #![tactic(auto)]
 
 ghost use Rattle.std.specs.Prelude.{◌≡◌};
-ghost use Rattle.lent_words.specs.watch_rules.specs.declared.Arrival.TheVariants.{Tick};
+ghost use Rattle.watch_hear.specs.watch_rules.specs.declared.Arrival.TheVariants.{Tick};
 ghost use Rattle.lent_step.specs.One.{is_taken, worded_by, heard_on};
 
 // The crates among these are passed on to those above, which name them through this one.
 pub use lent_words;
 use lent_words::answer_word;
-use lent_words::rules::{Head, Slot};
-use lent_words::watch_hear::{hear, refused_after};
-use lent_words::watch_rules::{Answer, Arrival, Heard};
-pub use lent_words::{rules, watch_hear, watch_places, watch_rules};
 use rule_limits::PlainLimits;
+use rules::{Head, Slot};
+use watch_hear::watch_rules::{Answer, Arrival, Heard};
+use watch_hear::{hear, refused_after};
 
 // What a post heard, with the table's count of refused frames and ticks afterwards, the answer as a word, and whether it was taken.
 // Where it was, the count is as it was; where it was not, the head is, and no slot is filled (`heard-apart`, proofs/Taken.antt).

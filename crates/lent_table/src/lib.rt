@@ -3,4 +3,3 @@
 
 // The crates among these are passed on to those above, which name them through this one.
 pub use lent_words;
-pub use lent_words::{watch, watch_rules};

@@ -7,9 +7,9 @@ ghost use Rattle.lent_heads.specs.lent_step.specs.Fed.{tick_word};
 
 use lent_heads::lent_step::{heard_on, tick_for};
 use lent_heads::lent_words::Lent;
-use lent_heads::rules::PLACES;
-use lent_heads::watch_places::place_named;
-use lent_heads::watch_rules::{CHANNELS, Table};
+use rules::PLACES;
+use watch_places::place_named;
+use watch_places::watch_rules::{CHANNELS, Table};
 
 #[unsafe(no_mangle)]
 pub extern "C" fn rokemaipu_tick(t: &mut Table, channel: u32, time: u32) -> u32

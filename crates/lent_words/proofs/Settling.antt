@@ -1,7 +1,7 @@
 -- What an operation that settles a post gives, its answer as a word: from what the operation ensures.
 use Prim.Native.Nat.{ℕ}
 use mathlib.Core.Path.{◌≡◌, ap, ◌∙◌}
-use Rattle.watch.specs.watch_rules.specs.declared.Settled.{Settled}
+use Rattle.watch_rules.specs.declared.Settled.{Settled}
 use Rattle.lent_words.specs.Words.{setting_word}
 use Rattle.lent_words.specs.Lent.{lent_settled}
 

@@ -1,8 +1,8 @@
 -- What starting, a set-up and a release leave of a table: exactly what the by-value operation of `watch` gives, the answer as a word.
 use Rattle.std.specs.Prelude.{ℕ}
-use Rattle.watch.specs.watch_rules.specs.declared.Table.{Table}
-use Rattle.watch.specs.watch_rules.specs.declared.Settled.{Settled}
-use Rattle.watch.specs.watch_rules.specs.Table.{set_up_of, release_of, empty_table}
+use Rattle.watch_rules.specs.declared.Table.{Table}
+use Rattle.watch_rules.specs.declared.Settled.{Settled}
+use Rattle.watch_rules.specs.Table.{set_up_of, release_of, empty_table}
 use Rattle.lent_words.specs.declared.Lent.{Lent}
 use Rattle.lent_words.specs.Words.{setting_word}
 

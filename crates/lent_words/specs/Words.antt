@@ -1,9 +1,9 @@
 -- The answers of `watch` as one 32-bit word: the findings or 0, or the refusal's word.
 use Rattle.std.specs.Prelude.{ℕ}
-use Rattle.watch.specs.watch_rules.specs.declared.Answer.{Answer}
-use Rattle.watch.specs.watch_rules.specs.declared.Answer.TheVariants as answer
-use Rattle.watch.specs.watch_rules.specs.declared.Setting.{Setting}
-use Rattle.watch.specs.watch_rules.specs.declared.Setting.TheVariants as setting
+use Rattle.watch_rules.specs.declared.Answer.{Answer}
+use Rattle.watch_rules.specs.declared.Answer.TheVariants as answer
+use Rattle.watch_rules.specs.declared.Setting.{Setting}
+use Rattle.watch_rules.specs.declared.Setting.TheVariants as setting
 use Rattle.plain_words.specs.Words.{Outcome, answers, refuses, outcome_word}
 
 abbrev pub answer_outcome : Answer → Outcome

@@ -7,12 +7,9 @@ ghost use Rattle.std.specs.Prelude.{◌≡◌};
 ghost use Rattle.lent_words.specs.Words.{answer_word, setting_word};
 ghost use Rattle.lent_words.specs.Lent.{start_of, set_up_word, release_word};
 
-// The crates among these are passed on to those above, which name them through this one.
 use plain_words::refusal_word;
 use rule_limits::PlainLimits;
-pub use watch;
-use watch::watch_rules::{Answer, Setting, Table};
-pub use watch::{rules, watch_hear, watch_places, watch_rules};
+use watch_rules::{Answer, Setting, Table};
 
 #[derive(Clone, Copy)]
 pub struct Lent {

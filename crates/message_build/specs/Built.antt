@@ -1,10 +1,10 @@
 -- The message of a kind, of its signals' raw numbers and of a payload number.
 use Rattle.std.specs.Prelude.{ℕ, cond, eqb, ℤ}
-use Rattle.message_charger.specs.page_write.specs.Raws as pages
-use Rattle.message_charger.specs.message_types.specs.declared.Message.{Message}
-use Rattle.message_charger.specs.message_types.specs.declared.Message.TheVariants.{Status, Parameters, Controller, Session, Change, Control, Finished, Stop, Id, SafetyControl, SafetyState, Probes, Sequence, Outputs, Battery, Voltages, ChargeLimits, DischargeLimits, Energy, Cui, Secc, Spcc, Ccs, Mcs, Ocpp}
-use Rattle.message_charger.specs.message_types.specs.KindNumbers.{status_kind, parameters_kind, controller_kind, session_kind, change_kind, control_kind, finished_kind, stop_kind, id_kind, safety_control_kind, safety_state_kind, probes_kind, sequence_kind, outputs_kind, battery_kind, voltages_kind, charge_limits_kind, discharge_limits_kind, energy_kind, cui_kind, secc_kind, spcc_kind, ccs_kind, mcs_kind}
-use Rattle.message_charger.specs.message_fields.specs.Fields.{at}
+use Rattle.page_write.specs.Raws as pages
+use Rattle.message_types.specs.declared.Message.{Message}
+use Rattle.message_types.specs.declared.Message.TheVariants.{Status, Parameters, Controller, Session, Change, Control, Finished, Stop, Id, SafetyControl, SafetyState, Probes, Sequence, Outputs, Battery, Voltages, ChargeLimits, DischargeLimits, Energy, Cui, Secc, Spcc, Ccs, Mcs, Ocpp}
+use Rattle.message_types.specs.KindNumbers.{status_kind, parameters_kind, controller_kind, session_kind, change_kind, control_kind, finished_kind, stop_kind, id_kind, safety_control_kind, safety_state_kind, probes_kind, sequence_kind, outputs_kind, battery_kind, voltages_kind, charge_limits_kind, discharge_limits_kind, energy_kind, cui_kind, secc_kind, spcc_kind, ccs_kind, mcs_kind}
+use Rattle.message_fields.specs.Fields.{at}
 use Rattle.message_charger.specs.message_parts.specs.Watched.{status_of, parameters_of, session_of, control_of}
 use Rattle.message_charger.specs.Build.{controller_of, change_of, finished_of, stop_of, id_of}
 use Rattle.message_safety.specs.Build.{safety_control_of, safety_state_of}

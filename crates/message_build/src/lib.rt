@@ -1,15 +1,13 @@
 // A message of its kind's number: of its signals' raw numbers, and of a payload number. For the reader, and for what hands out messages that it keeps by
 // number.
 ghost use Rattle.std.specs.Prelude.{◌≡◌};
-ghost use Rattle.message_charger.specs.message_fields.specs.Fields.{at};
+ghost use Rattle.message_fields.specs.Fields.{at};
 ghost use Rattle.message_build.specs.Built.{built_of, message_of};
 
-// The crates among these are passed on to those above, which name them through this one.
-use message_charger::message_fields::natural;
-use message_charger::message_types::labels::*;
-use message_charger::message_types::*;
-use message_charger::page_write;
-pub use message_charger::{message_parts, message_types};
+use message_charger::message_parts;
+use message_fields::natural;
+use message_types::labels::*;
+use message_types::*;
 
 // The message of a kind; for a number that is no kind, the last one.
 pub fn built(kind: usize, f: [i64; 16]) -> Message

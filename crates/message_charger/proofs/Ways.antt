@@ -1,15 +1,15 @@
 -- The charger's messages, there and back (`Ways` of message_laws): each field and each label at its signal. Assumes nothing.
 use mathlib.Core.Path.{refl}
 use mathlib.Core.List.{[], ◌∷◌}
-use Rattle.message_parts.specs.page_table.specs.Table.{rows, of_kind}
-use Rattle.message_parts.specs.page_write.specs.Raws.{whole_at, wholes_of}
-use Rattle.message_parts.specs.message_fields.specs.Fields.{has_kilohms}
-use Rattle.message_parts.specs.message_fields.proofs.FieldLaws.{bytes, words, shorts, degrees, flags, kilohms_there, kilohms_back, kilohms_even}
-use Rattle.message_parts.specs.message_laws.proofs.Labelled.{signal_at}
-use Rattle.message_parts.specs.message_laws.proofs.Signals.{fits_at, whole_fits, field_back, label_back}
-use Rattle.message_parts.specs.message_laws.proofs.Ways.{Ways, always}
-use Rattle.message_parts.specs.message_types.specs.KindNumbers.{status_kind, parameters_kind, controller_kind, session_kind, change_kind, control_kind, finished_kind, stop_kind, id_kind}
-use Rattle.message_parts.specs.message_types.proofs.Marks.{enable_label, state_label, protocol_label, plug_label, status_label, function_label, mode_label, contactors_label, lowering_label, end_label, origin_label}
+use Rattle.page_table.specs.Table.{rows, of_kind}
+use Rattle.page_write.specs.Raws.{whole_at, wholes_of}
+use Rattle.message_fields.specs.Fields.{has_kilohms}
+use Rattle.message_fields.proofs.FieldLaws.{bytes, words, shorts, degrees, flags, kilohms_there, kilohms_back, kilohms_even}
+use Rattle.message_types.specs.message_laws.proofs.Labelled.{signal_at}
+use Rattle.message_types.specs.message_laws.proofs.Signals.{fits_at, whole_fits, field_back, label_back}
+use Rattle.message_types.specs.message_laws.proofs.Ways.{Ways, always}
+use Rattle.message_types.specs.KindNumbers.{status_kind, parameters_kind, controller_kind, session_kind, change_kind, control_kind, finished_kind, stop_kind, id_kind}
+use Rattle.message_types.proofs.Marks.{enable_label, state_label, protocol_label, plug_label, status_label, function_label, mode_label, contactors_label, lowering_label, end_label, origin_label}
 use Rattle.message_parts.specs.Watched.{status_of, parameters_of, session_of, control_of}
 use Rattle.message_charger.specs.Build.{controller_of, change_of, finished_of, stop_of, id_of}
 use Rattle.message_charger.specs.Take.{status_raws, parameters_raws, state_raws, session_raws, change_raws, control_raws, finished_raws, stop_raws, id_raws}

@@ -1,12 +1,12 @@
 -- The charger's messages of which no rule asks a field, each of its signals' raw numbers in the table's order.
 use Rattle.std.specs.Prelude.{ℕ, ℤ}
-use Rattle.message_parts.specs.message_types.specs.declared.ControllerStatus.{ControllerStatus}
-use Rattle.message_parts.specs.message_types.specs.declared.ChargeStatusChange.{ChargeStatusChange}
-use Rattle.message_parts.specs.message_types.specs.declared.ChargeSessionFinished.{ChargeSessionFinished}
-use Rattle.message_parts.specs.message_types.specs.declared.EmergencyStop.{EmergencyStop}
-use Rattle.message_parts.specs.message_types.specs.declared.EvId.{EvId}
-use Rattle.message_parts.specs.message_types.specs.Labels as label
-use Rattle.message_parts.specs.message_fields.specs.Fields.{natural_of, byte_of}
+use Rattle.message_types.specs.declared.ControllerStatus.{ControllerStatus}
+use Rattle.message_types.specs.declared.ChargeStatusChange.{ChargeStatusChange}
+use Rattle.message_types.specs.declared.ChargeSessionFinished.{ChargeSessionFinished}
+use Rattle.message_types.specs.declared.EmergencyStop.{EmergencyStop}
+use Rattle.message_types.specs.declared.EvId.{EvId}
+use Rattle.message_types.specs.Labels as label
+use Rattle.message_fields.specs.Fields.{natural_of, byte_of}
 
 abbrev pub controller_of : (ℕ → ℤ) → ControllerStatus
 controller_of f = record { state = label.state_of (natural_of (f 0)) }

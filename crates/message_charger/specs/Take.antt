@@ -1,16 +1,16 @@
 -- The raw number of each signal of the charger's messages, in the table's order.
 use Rattle.std.specs.Prelude.{List, [], ◌∷◌, ℤ, pos}
-use Rattle.message_parts.specs.message_types.specs.declared.PowerModulesStatus.{PowerModulesStatus}
-use Rattle.message_parts.specs.message_types.specs.declared.DcPowerParameters.{DcPowerParameters}
-use Rattle.message_parts.specs.message_types.specs.declared.ControllerStatus.{ControllerStatus}
-use Rattle.message_parts.specs.message_types.specs.declared.NewChargeSession.{NewChargeSession}
-use Rattle.message_parts.specs.message_types.specs.declared.ChargeStatusChange.{ChargeStatusChange}
-use Rattle.message_parts.specs.message_types.specs.declared.DcPowerControl.{DcPowerControl}
-use Rattle.message_parts.specs.message_types.specs.declared.ChargeSessionFinished.{ChargeSessionFinished}
-use Rattle.message_parts.specs.message_types.specs.declared.EmergencyStop.{EmergencyStop}
-use Rattle.message_parts.specs.message_types.specs.declared.EvId.{EvId}
-use Rattle.message_parts.specs.message_types.specs.Labels.{enable_number, state_number, protocol_number, plug_number, status_number, function_number, mode_number, contactors_number, lowering_number, end_number, origin_number}
-use Rattle.message_parts.specs.message_fields.specs.Fields.{celsius_raw, kilohms_raw, flag_raw}
+use Rattle.message_types.specs.declared.PowerModulesStatus.{PowerModulesStatus}
+use Rattle.message_types.specs.declared.DcPowerParameters.{DcPowerParameters}
+use Rattle.message_types.specs.declared.ControllerStatus.{ControllerStatus}
+use Rattle.message_types.specs.declared.NewChargeSession.{NewChargeSession}
+use Rattle.message_types.specs.declared.ChargeStatusChange.{ChargeStatusChange}
+use Rattle.message_types.specs.declared.DcPowerControl.{DcPowerControl}
+use Rattle.message_types.specs.declared.ChargeSessionFinished.{ChargeSessionFinished}
+use Rattle.message_types.specs.declared.EmergencyStop.{EmergencyStop}
+use Rattle.message_types.specs.declared.EvId.{EvId}
+use Rattle.message_types.specs.Labels.{enable_number, state_number, protocol_number, plug_number, status_number, function_number, mode_number, contactors_number, lowering_number, end_number, origin_number}
+use Rattle.message_fields.specs.Fields.{celsius_raw, kilohms_raw, flag_raw}
 
 abbrev pub one_raw : ℤ → List ℤ
 one_raw z = z ∷ []

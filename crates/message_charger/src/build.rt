@@ -1,10 +1,10 @@
 // A message of its signals' raw numbers, in the table's order.
 ghost use Rattle.std.specs.Prelude.{◌≡◌};
-ghost use Rattle.message_parts.specs.message_fields.specs.Fields.{at};
+ghost use Rattle.message_fields.specs.Fields.{at};
 ghost use Rattle.message_charger.specs.Build.{id_of};
 
-use message_parts::message_fields::byte;
-use message_parts::message_types::EvId;
+use message_fields::byte;
+use message_types::EvId;
 
 pub fn ev_id(f: [i64; 16]) -> EvId
     ensures { result ≡ id_of (at f) }

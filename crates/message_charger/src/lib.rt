@@ -6,4 +6,3 @@ pub mod take; // take.rt: the raw numbers of a message
 
 // The crates among these are passed on to those above, which name them through this one.
 pub use message_parts;
-pub use message_parts::{message_fields, message_types, page_write};

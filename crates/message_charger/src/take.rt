@@ -1,14 +1,12 @@
 // The raw numbers of each message's signals, in the table's order.
 ghost use Rattle.std.specs.Prelude.{◌≡◌};
-ghost use Rattle.message_parts.specs.page_write.specs.Raws.{pad};
-ghost use Rattle.message_parts.specs.page_table.specs.Table.{signal_count};
+ghost use Rattle.page_write.specs.Raws.{pad};
+ghost use Rattle.page_table.specs.Table.{signal_count};
 ghost use Rattle.message_charger.specs.Take.{status_raws, parameters_raws, state_raws, session_raws, change_raws, control_raws, finished_raws, stop_raws, id_raws, one_raw};
 
-use message_parts::message_fields::{
-    byte_raw, celsius_raw, flag_raw, kilohms_raw, short_raw, word_raw,
-};
-use message_parts::message_types::labels::*;
-use message_parts::message_types::{
+use message_fields::{byte_raw, celsius_raw, flag_raw, kilohms_raw, short_raw, word_raw};
+use message_types::labels::*;
+use message_types::{
     ChargeSessionFinished, ChargeStatusChange, ControllerStatus, DcPowerControl, DcPowerParameters,
     EmergencyStop, EvId, NewChargeSession, PowerModulesStatus,
 };

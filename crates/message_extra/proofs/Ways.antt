@@ -2,10 +2,10 @@
 -- each field and each label at its signal. Assumes nothing.
 use mathlib.Core.Path.{refl}
 use mathlib.Core.List.{[], ◌∷◌}
-use Rattle.message_types.specs.page_table.specs.Table.{rows, of_kind}
-use Rattle.message_types.specs.page_write.specs.Raws.{wholes_of}
-use Rattle.message_types.specs.message_fields.proofs.FieldLaws.{degrees, flags, words}
-use Rattle.message_types.specs.message_fields.proofs.Wides.{wides}
+use Rattle.page_write.specs.page_table.specs.Table.{rows, of_kind}
+use Rattle.page_write.specs.Raws.{wholes_of}
+use Rattle.message_fields.proofs.FieldLaws.{degrees, flags, words}
+use Rattle.message_fields.proofs.Wides.{wides}
 use Rattle.message_types.specs.message_laws.proofs.Signals.{fits_at, field_back, label_back}
 use Rattle.message_types.specs.message_laws.proofs.Ways.{Ways, always}
 use Rattle.message_types.specs.KindNumbers.{spcc_kind, ccs_kind, mcs_kind}

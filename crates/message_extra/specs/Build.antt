@@ -4,7 +4,7 @@ use Rattle.message_types.specs.declared.SpccInputs.{SpccInputs}
 use Rattle.message_types.specs.declared.CcsExtraInformation.{CcsExtraInformation}
 use Rattle.message_types.specs.declared.McsExtraInformation.{McsExtraInformation}
 use Rattle.message_types.specs.Labels as label
-use Rattle.message_types.specs.message_fields.specs.Fields.{celsius_of, flag_of, natural_of, word_of}
+use Rattle.message_fields.specs.Fields.{celsius_of, flag_of, natural_of, word_of}
 
 abbrev pub spcc_of : (ℕ → ℤ) → SpccInputs
 spcc_of f =

@@ -4,7 +4,7 @@ use Rattle.message_types.specs.declared.SpccInputs.{SpccInputs}
 use Rattle.message_types.specs.declared.CcsExtraInformation.{CcsExtraInformation}
 use Rattle.message_types.specs.declared.McsExtraInformation.{McsExtraInformation}
 use Rattle.message_types.specs.Labels as label
-use Rattle.message_types.specs.message_fields.specs.Fields.{celsius_raw, flag_raw, wide_raw}
+use Rattle.message_fields.specs.Fields.{celsius_raw, flag_raw, wide_raw}
 
 abbrev pub spcc_raws : SpccInputs → List ℤ
 spcc_raws m =

@@ -1,10 +1,10 @@
 // A message of its signals' raw numbers, in the table's order.
 ghost use Rattle.std.specs.Prelude.{◌≡◌};
-ghost use Rattle.message_types.specs.message_fields.specs.Fields.{at};
+ghost use Rattle.message_fields.specs.Fields.{at};
 ghost use Rattle.message_extra.specs.Build.{spcc_of, ccs_of, mcs_of};
 
+use message_fields::{celsius, flag, natural, word};
 use message_types::labels::*;
-use message_types::message_fields::{celsius, flag, natural, word};
 use message_types::{CcsExtraInformation, McsExtraInformation, SpccInputs};
 
 pub fn spcc(f: [i64; 16]) -> SpccInputs

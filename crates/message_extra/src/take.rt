@@ -1,11 +1,11 @@
 // The raw numbers of each message's signals, in the table's order.
 ghost use Rattle.std.specs.Prelude.{◌≡◌};
-ghost use Rattle.message_types.specs.page_write.specs.Raws.{pad};
-ghost use Rattle.message_types.specs.page_table.specs.Table.{signal_count};
+ghost use Rattle.page_write.specs.Raws.{pad};
+ghost use Rattle.page_write.specs.page_table.specs.Table.{signal_count};
 ghost use Rattle.message_extra.specs.Take.{spcc_raws, ccs_raws, mcs_raws};
 
+use message_fields::{byte_raw, celsius_raw, flag_raw, wide_raw, word_raw};
 use message_types::labels::*;
-use message_types::message_fields::{byte_raw, celsius_raw, flag_raw, wide_raw, word_raw};
 use message_types::{CcsExtraInformation, McsExtraInformation, SpccInputs};
 
 pub fn spcc_raws(m: SpccInputs) -> [i64; 16]

@@ -2,7 +2,7 @@
 use Rattle.std.specs.Prelude.{ℕ, ℤ}
 use Rattle.message_types.specs.declared.CuiInputs.{CuiInputs}
 use Rattle.message_types.specs.declared.SeccInputs.{SeccInputs}
-use Rattle.message_types.specs.message_fields.specs.Fields.{celsius_of, flag_of, natural_of}
+use Rattle.message_fields.specs.Fields.{celsius_of, flag_of, natural_of}
 
 abbrev pub cui_of : (ℕ → ℤ) → CuiInputs
 cui_of f =

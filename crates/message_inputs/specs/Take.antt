@@ -2,7 +2,7 @@
 use Rattle.std.specs.Prelude.{List, [], ◌∷◌, ℤ}
 use Rattle.message_types.specs.declared.CuiInputs.{CuiInputs}
 use Rattle.message_types.specs.declared.SeccInputs.{SeccInputs}
-use Rattle.message_types.specs.message_fields.specs.Fields.{celsius_raw, flag_raw, wide_raw}
+use Rattle.message_fields.specs.Fields.{celsius_raw, flag_raw, wide_raw}
 
 abbrev pub cui_raws : CuiInputs → List ℤ
 cui_raws m =

@@ -1,9 +1,9 @@
 // A message of its signals' raw numbers, in the table's order.
 ghost use Rattle.std.specs.Prelude.{◌≡◌};
-ghost use Rattle.message_types.specs.message_fields.specs.Fields.{at};
+ghost use Rattle.message_fields.specs.Fields.{at};
 ghost use Rattle.message_inputs.specs.Build.{cui_of, secc_of};
 
-use message_types::message_fields::{celsius, flag, natural};
+use message_fields::{celsius, flag, natural};
 use message_types::{CuiInputs, SeccInputs};
 
 pub fn cui(f: [i64; 16]) -> CuiInputs

@@ -1,10 +1,10 @@
 // The raw numbers of each message's signals, in the table's order.
 ghost use Rattle.std.specs.Prelude.{◌≡◌};
-ghost use Rattle.message_types.specs.page_write.specs.Raws.{pad};
-ghost use Rattle.message_types.specs.page_table.specs.Table.{signal_count};
+ghost use Rattle.page_write.specs.Raws.{pad};
+ghost use Rattle.page_write.specs.page_table.specs.Table.{signal_count};
 ghost use Rattle.message_inputs.specs.Take.{cui_raws, secc_raws};
 
-use message_types::message_fields::{celsius_raw, flag_raw, wide_raw};
+use message_fields::{celsius_raw, flag_raw, wide_raw};
 use message_types::{CuiInputs, SeccInputs};
 
 pub fn cui_raws(m: CuiInputs) -> [i64; 16]

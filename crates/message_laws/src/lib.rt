@@ -1,6 +1,2 @@
 // What holds of messages of any type over the table of the pages: a label or a field at its signal, a kind's numbers there and back, and reading and writing of
 // them all. Laws, and no function, for the crates that prove the ways of their messages.
-
-// The crates among these are passed on to those above, which name them through this one.
-pub use message_fields;
-pub use page_change::page_write;

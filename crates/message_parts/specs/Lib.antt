@@ -1,8 +1,2 @@
 pub mod Watched
 pub mod Parts
--- crates that are passed on to those above, which name them through this one
-pub use Rattle.message_types.specs.page_table as page_table
-pub use Rattle.message_types.specs.page_write as page_write
-pub use Rattle.message_types.specs.message_fields as message_fields
-pub use Rattle.message_types.specs.message_laws as message_laws
-pub use Rattle.message_types as message_types

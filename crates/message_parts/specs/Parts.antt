@@ -1,12 +1,12 @@
 -- The kinds that the session watch names, and the fields of a payload number of each.
 use Rattle.std.specs.Prelude.{ℕ}
-use Rattle.message_types.specs.page_write.specs.Raws.{raws_of}
+use Rattle.page_write.specs.Raws.{raws_of}
 use Rattle.message_types.specs.declared.PowerModulesStatus.{PowerModulesStatus}
 use Rattle.message_types.specs.declared.DcPowerParameters.{DcPowerParameters}
 use Rattle.message_types.specs.declared.NewChargeSession.{NewChargeSession}
 use Rattle.message_types.specs.declared.DcPowerControl.{DcPowerControl}
 pub use Rattle.message_types.specs.KindNumbers.{status_kind, parameters_kind, controller_kind, session_kind, control_kind, finished_kind}
-use Rattle.message_types.specs.message_fields.specs.Fields.{at}
+use Rattle.message_fields.specs.Fields.{at}
 use Rattle.message_parts.specs.Watched.{status_of, parameters_of, session_of, control_of}
 
 unfoldable pub status_in : ℕ → PowerModulesStatus

@@ -5,7 +5,7 @@ use Rattle.message_types.specs.declared.DcPowerParameters.{DcPowerParameters}
 use Rattle.message_types.specs.declared.NewChargeSession.{NewChargeSession}
 use Rattle.message_types.specs.declared.DcPowerControl.{DcPowerControl}
 use Rattle.message_types.specs.Labels as label
-use Rattle.message_types.specs.message_fields.specs.Fields.{natural_of, word_of, short_of, celsius_of, kilohms_of, flag_of}
+use Rattle.message_fields.specs.Fields.{natural_of, word_of, short_of, celsius_of, kilohms_of, flag_of}
 
 abbrev pub status_of : (ℕ → ℤ) → PowerModulesStatus
 status_of f =

@@ -1,15 +1,12 @@
 // The four messages whose fields the session watch's rules ask, of their signals' raw numbers and straight of a payload number. For the rules,
 // which ask no other field, and for the reader of all messages.
 ghost use Rattle.std.specs.Prelude.{◌≡◌};
-ghost use Rattle.message_types.specs.message_fields.specs.Fields.{at};
+ghost use Rattle.message_fields.specs.Fields.{at};
 ghost use Rattle.message_parts.specs.Watched.{status_of, parameters_of, session_of, control_of};
 ghost use Rattle.message_parts.specs.Parts.{status_in, parameters_in, session_in, control_in};
 
-// The crates among these are passed on to those above, which name them through this one.
-pub use message_types;
+use message_fields::{celsius, flag, kilohms, natural, short, word};
 use message_types::labels::*;
-use message_types::message_fields::{celsius, flag, kilohms, natural, short, word};
-pub use message_types::{message_fields, page_write};
 use message_types::{
     CONTROL, DcPowerControl, DcPowerParameters, NewChargeSession, PARAMETERS, PowerModulesStatus,
     SESSION, STATUS,

@@ -1,7 +1,7 @@
 -- PT1000State of document 004 of its signals' raw numbers, in the table's order.
 use Rattle.std.specs.Prelude.{ℕ, ℤ}
 use Rattle.message_types.specs.declared.Pt1000State.{Pt1000State}
-use Rattle.message_types.specs.message_fields.specs.Fields.{short_of, flag_of}
+use Rattle.message_fields.specs.Fields.{short_of, flag_of}
 
 abbrev pub probes_of : (ℕ → ℤ) → Pt1000State
 probes_of f =

@@ -1,7 +1,7 @@
 -- The raw number of each signal of PT1000State of document 004, in the table's order.
 use Rattle.std.specs.Prelude.{List, [], ◌∷◌, ℤ}
 use Rattle.message_types.specs.declared.Pt1000State.{Pt1000State}
-use Rattle.message_types.specs.message_fields.specs.Fields.{flag_raw}
+use Rattle.message_fields.specs.Fields.{flag_raw}
 
 abbrev pub probes_raws : Pt1000State → List ℤ
 probes_raws m =

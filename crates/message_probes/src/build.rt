@@ -1,10 +1,10 @@
 // A message of its signals' raw numbers, in the table's order.
 ghost use Rattle.std.specs.Prelude.{◌≡◌};
-ghost use Rattle.message_types.specs.message_fields.specs.Fields.{at};
+ghost use Rattle.message_fields.specs.Fields.{at};
 ghost use Rattle.message_probes.specs.Build.{probes_of};
 
+use message_fields::{flag, short};
 use message_types::Pt1000State;
-use message_types::message_fields::{flag, short};
 
 pub fn probes(f: [i64; 16]) -> Pt1000State
     ensures { result ≡ probes_of (at f) }

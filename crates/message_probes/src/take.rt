@@ -1,11 +1,11 @@
 // The raw numbers of each message's signals, in the table's order.
 ghost use Rattle.std.specs.Prelude.{◌≡◌};
-ghost use Rattle.message_types.specs.page_write.specs.Raws.{pad};
-ghost use Rattle.message_types.specs.page_table.specs.Table.{signal_count};
+ghost use Rattle.page_write.specs.Raws.{pad};
+ghost use Rattle.page_write.specs.page_table.specs.Table.{signal_count};
 ghost use Rattle.message_probes.specs.Take.{probes_raws};
 
+use message_fields::{flag_raw, short_raw};
 use message_types::Pt1000State;
-use message_types::message_fields::{flag_raw, short_raw};
 
 pub fn probes_raws(m: Pt1000State) -> [i64; 16]
     ensures { result ≡ pad signal_count (probes_raws m) }

@@ -1,9 +1,9 @@
 -- ChargeControl1 and ChargeState1 of document 004, there and back (`Ways` of message_laws): each field and each label at its signal. Assumes nothing.
 use mathlib.Core.Path.{refl}
 use mathlib.Core.List.{[], ◌∷◌}
-use Rattle.message_types.specs.page_table.specs.Table.{rows, of_kind}
-use Rattle.message_types.specs.page_write.specs.Raws.{wholes_of}
-use Rattle.message_types.specs.message_fields.proofs.FieldLaws.{duties, flags}
+use Rattle.page_write.specs.page_table.specs.Table.{rows, of_kind}
+use Rattle.page_write.specs.Raws.{wholes_of}
+use Rattle.message_fields.proofs.FieldLaws.{duties, flags}
 use Rattle.message_types.specs.message_laws.proofs.Signals.{fits_at, field_back, label_back}
 use Rattle.message_types.specs.message_laws.proofs.Ways.{Ways, always}
 use Rattle.message_types.specs.KindNumbers.{safety_control_kind, safety_state_kind}

@@ -3,7 +3,7 @@ use Rattle.std.specs.Prelude.{ℕ, ℤ}
 use Rattle.message_types.specs.declared.ChargeControl1.{ChargeControl1}
 use Rattle.message_types.specs.declared.ChargeState1.{ChargeState1}
 use Rattle.message_types.specs.Labels as label
-use Rattle.message_types.specs.message_fields.specs.Fields.{natural_of, duty_of, flag_of}
+use Rattle.message_fields.specs.Fields.{natural_of, duty_of, flag_of}
 
 abbrev pub safety_control_of : (ℕ → ℤ) → ChargeControl1
 safety_control_of f =

@@ -3,7 +3,7 @@ use Rattle.std.specs.Prelude.{List, [], ◌∷◌, ℤ, pos}
 use Rattle.message_types.specs.declared.ChargeControl1.{ChargeControl1}
 use Rattle.message_types.specs.declared.ChargeState1.{ChargeState1}
 use Rattle.message_types.specs.Labels.{cp_number, pp_number}
-use Rattle.message_types.specs.message_fields.specs.Fields.{flag_raw}
+use Rattle.message_fields.specs.Fields.{flag_raw}
 
 abbrev pub safety_control_raws : ChargeControl1 → List ℤ
 safety_control_raws m = pos m.duty ∷ flag_raw m.pwm ∷ flag_raw m.contactor1 ∷ flag_raw m.contactor2 ∷ []

@@ -1,10 +1,10 @@
 // A message of its signals' raw numbers, in the table's order.
 ghost use Rattle.std.specs.Prelude.{◌≡◌};
-ghost use Rattle.message_types.specs.message_fields.specs.Fields.{at};
+ghost use Rattle.message_fields.specs.Fields.{at};
 ghost use Rattle.message_safety.specs.Build.{safety_control_of, safety_state_of};
 
+use message_fields::{duty, flag, natural};
 use message_types::labels::*;
-use message_types::message_fields::{duty, flag, natural};
 use message_types::{ChargeControl1, ChargeState1};
 
 pub fn safety_control(f: [i64; 16]) -> ChargeControl1

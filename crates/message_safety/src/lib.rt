@@ -3,6 +3,3 @@
 
 pub mod build; // build.rt: a message of its raw numbers
 pub mod take; // take.rt: the raw numbers of a message
-
-// The crates among these are passed on to those above, which name them through this one.
-pub use message_types::page_write;

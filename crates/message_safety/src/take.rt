@@ -1,11 +1,11 @@
 // The raw numbers of each message's signals, in the table's order.
 ghost use Rattle.std.specs.Prelude.{◌≡◌};
-ghost use Rattle.message_types.specs.page_write.specs.Raws.{pad};
-ghost use Rattle.message_types.specs.page_table.specs.Table.{signal_count};
+ghost use Rattle.page_write.specs.Raws.{pad};
+ghost use Rattle.page_write.specs.page_table.specs.Table.{signal_count};
 ghost use Rattle.message_safety.specs.Take.{safety_control_raws, safety_state_raws};
 
+use message_fields::{byte_raw, flag_raw, word_raw};
 use message_types::labels::*;
-use message_types::message_fields::{byte_raw, flag_raw, word_raw};
 use message_types::{ChargeControl1, ChargeState1};
 
 pub fn safety_control_raws(m: ChargeControl1) -> [i64; 16]

@@ -3,7 +3,7 @@ use Rattle.std.specs.Prelude.{ℕ, ℤ}
 use Rattle.message_types.specs.declared.SequenceControl.{SequenceControl}
 use Rattle.message_types.specs.declared.SeccOutputs.{SeccOutputs}
 use Rattle.message_types.specs.Labels as label
-use Rattle.message_types.specs.message_fields.specs.Fields.{flag_of, natural_of}
+use Rattle.message_fields.specs.Fields.{flag_of, natural_of}
 
 abbrev pub sequence_of : (ℕ → ℤ) → SequenceControl
 sequence_of f =

@@ -3,7 +3,7 @@ use Rattle.std.specs.Prelude.{List, [], ◌∷◌, ℤ, pos}
 use Rattle.message_types.specs.declared.SequenceControl.{SequenceControl}
 use Rattle.message_types.specs.declared.SeccOutputs.{SeccOutputs}
 use Rattle.message_types.specs.Labels as label
-use Rattle.message_types.specs.message_fields.specs.Fields.{flag_raw, wide_raw}
+use Rattle.message_fields.specs.Fields.{flag_raw, wide_raw}
 
 abbrev pub sequence_raws : SequenceControl → List ℤ
 sequence_raws m =

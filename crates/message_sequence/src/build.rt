@@ -1,10 +1,10 @@
 // A message of its signals' raw numbers, in the table's order.
 ghost use Rattle.std.specs.Prelude.{◌≡◌};
-ghost use Rattle.message_types.specs.message_fields.specs.Fields.{at};
+ghost use Rattle.message_fields.specs.Fields.{at};
 ghost use Rattle.message_sequence.specs.Build.{sequence_of, outputs_of};
 
+use message_fields::{flag, natural};
 use message_types::labels::*;
-use message_types::message_fields::{flag, natural};
 use message_types::{SeccOutputs, SequenceControl};
 
 pub fn sequence(f: [i64; 16]) -> SequenceControl

@@ -1,11 +1,11 @@
 // The raw numbers of each message's signals, in the table's order.
 ghost use Rattle.std.specs.Prelude.{◌≡◌};
-ghost use Rattle.message_types.specs.page_write.specs.Raws.{pad};
-ghost use Rattle.message_types.specs.page_table.specs.Table.{signal_count};
+ghost use Rattle.page_write.specs.Raws.{pad};
+ghost use Rattle.page_write.specs.page_table.specs.Table.{signal_count};
 ghost use Rattle.message_sequence.specs.Take.{sequence_raws, outputs_raws};
 
+use message_fields::{byte_raw, flag_raw, wide_raw};
 use message_types::labels::*;
-use message_types::message_fields::{byte_raw, flag_raw, wide_raw};
 use message_types::{SeccOutputs, SequenceControl};
 
 pub fn sequence_raws(m: SequenceControl) -> [i64; 16]

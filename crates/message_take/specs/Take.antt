@@ -1,9 +1,9 @@
 -- The raw numbers of a message of any kind.
 use Rattle.std.specs.Prelude.{Bool, true, List, ℤ}
-use Rattle.message_charger.specs.page_write.specs.Raws.{pad}
-use Rattle.message_charger.specs.page_table.specs.Table.{signal_count}
-use Rattle.message_charger.specs.message_types.specs.declared.Message.{Message}
-use Rattle.message_charger.specs.message_types.specs.declared.Message.TheVariants.{Status, Parameters, Controller, Session, Change, Control, Finished, Stop, Id, SafetyControl, SafetyState, Probes, Sequence, Outputs, Battery, Voltages, ChargeLimits, DischargeLimits, Energy, Cui, Secc, Spcc, Ccs, Mcs, Ocpp}
+use Rattle.page_write.specs.Raws.{pad}
+use Rattle.page_table.specs.Table.{signal_count}
+use Rattle.message_types.specs.declared.Message.{Message}
+use Rattle.message_types.specs.declared.Message.TheVariants.{Status, Parameters, Controller, Session, Change, Control, Finished, Stop, Id, SafetyControl, SafetyState, Probes, Sequence, Outputs, Battery, Voltages, ChargeLimits, DischargeLimits, Energy, Cui, Secc, Spcc, Ccs, Mcs, Ocpp}
 use Rattle.message_fields.specs.Fields.{has_kilohms}
 use Rattle.message_charger.specs.Take.{status_raws, parameters_raws, state_raws, session_raws, change_raws, control_raws, finished_raws, stop_raws, id_raws}
 use Rattle.message_safety.specs.Take.{safety_control_raws, safety_state_raws}

@@ -1,10 +1,10 @@
 // The raw numbers of a message of any kind, and whether each of its values has one. For the writer.
 ghost use Rattle.std.specs.Prelude.{◌≡◌};
-ghost use Rattle.message_charger.specs.page_write.specs.Raws.{pad};
-ghost use Rattle.message_charger.specs.page_table.specs.Table.{signal_count};
+ghost use Rattle.page_write.specs.Raws.{pad};
+ghost use Rattle.page_table.specs.Table.{signal_count};
 ghost use Rattle.message_take.specs.Take.{raws_of, has_raws};
 
-use message_charger::message_types::Message;
+use message_types::Message;
 
 pub fn raws(m: Message) -> [i64; 16]
     ensures { result ≡ pad signal_count (raws_of m) }

@@ -7,9 +7,6 @@ pub mod labels; // labels.rt: labels and their numbers
 
 // ---- labels: "a label is a named case of its own type"
 
-// The crates among these are passed on to those above, which name them through this one.
-pub use message_laws::{message_fields, page_write};
-
 #[derive(Clone, Copy)]
 pub enum SystemEnable {
     NotAllowed,

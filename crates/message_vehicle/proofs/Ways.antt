@@ -1,9 +1,9 @@
 -- The messages of document 000 about the vehicle and OCPP_Control, there and back (`Ways` of message_laws): each field at its signal. Assumes nothing.
 use mathlib.Core.Path.{refl}
 use mathlib.Core.List.{[], ◌∷◌}
-use Rattle.message_types.specs.page_table.specs.Table.{rows, of_kind}
-use Rattle.message_types.specs.page_write.specs.Raws.{wholes_of}
-use Rattle.message_types.specs.message_fields.proofs.FieldLaws.{bytes, words, shorts}
+use Rattle.page_table.specs.Table.{rows, of_kind}
+use Rattle.page_write.specs.Raws.{wholes_of}
+use Rattle.message_fields.proofs.FieldLaws.{bytes, words, shorts}
 use Rattle.message_types.specs.message_laws.proofs.Signals.{fits_at, field_back}
 use Rattle.message_types.specs.message_laws.proofs.Alike.{alike}
 use Rattle.message_types.specs.message_laws.proofs.Ways.{Ways, always}

@@ -5,7 +5,7 @@ use Rattle.message_types.specs.declared.EvInformationVoltages.{EvInformationVolt
 use Rattle.message_types.specs.declared.EvInformationLimits.{EvInformationLimits}
 use Rattle.message_types.specs.declared.EvInformationEnergy.{EvInformationEnergy}
 use Rattle.message_types.specs.declared.OcppControl.{OcppControl}
-use Rattle.message_types.specs.message_fields.specs.Fields.{byte_of, word_of, short_of}
+use Rattle.message_fields.specs.Fields.{byte_of, word_of, short_of}
 
 abbrev pub battery_of : (ℕ → ℤ) → EvInformationBattery
 battery_of f = record { capacity = word_of (f 0); present = byte_of (f 1); minimum = byte_of (f 2); target = byte_of (f 3); maximum = byte_of (f 4) }

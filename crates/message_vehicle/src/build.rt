@@ -1,9 +1,9 @@
 // A message of its signals' raw numbers, in the table's order.
 ghost use Rattle.std.specs.Prelude.{◌≡◌};
-ghost use Rattle.message_types.specs.message_fields.specs.Fields.{at};
+ghost use Rattle.message_fields.specs.Fields.{at};
 ghost use Rattle.message_vehicle.specs.Build.{battery_of, voltages_of, limits_of, energy_of, ocpp_of};
 
-use message_types::message_fields::{byte, short, word};
+use message_fields::{byte, short, word};
 use message_types::{
     EvInformationBattery, EvInformationEnergy, EvInformationLimits, EvInformationVoltages,
     OcppControl,

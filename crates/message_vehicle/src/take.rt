@@ -1,10 +1,10 @@
 // The raw numbers of each message's signals, in the table's order.
 ghost use Rattle.std.specs.Prelude.{◌≡◌};
-ghost use Rattle.message_types.specs.page_write.specs.Raws.{pad};
-ghost use Rattle.message_types.specs.page_table.specs.Table.{signal_count};
+ghost use Rattle.page_write.specs.Raws.{pad};
+ghost use Rattle.page_table.specs.Table.{signal_count};
 ghost use Rattle.message_vehicle.specs.Take.{battery_raws, voltages_raws, limits_raws, energy_raws, ocpp_raws};
 
-use message_types::message_fields::{byte_raw, short_raw, word_raw};
+use message_fields::{byte_raw, short_raw, word_raw};
 use message_types::{
     EvInformationBattery, EvInformationEnergy, EvInformationLimits, EvInformationVoltages,
     OcppControl,

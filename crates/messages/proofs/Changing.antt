@@ -10,9 +10,9 @@ use Rattle.payload.specs.Payload.{Bytes}
 use Rattle.page_table.specs.Table.{no_row, rows_of}
 use Rattle.page_read.specs.declared.Judged.{Judged}
 use Rattle.page_read.specs.declared.Judged.TheVariants.{Frame}
-use Rattle.message_types.specs.page_change.specs.Change.{change_of, bytes_after}
-use Rattle.message_types.specs.page_change.proofs.Changes.{newer_change}
-use Rattle.message_types.specs.message_laws.proofs.Typed as laws
+use Rattle.page_change.specs.Change.{change_of, bytes_after}
+use Rattle.page_change.proofs.Changes.{newer_change}
+use Rattle.message_laws.proofs.Typed as laws
 use Rattle.message_types.specs.declared.Message.{Message}
 use Rattle.message_types.specs.KindNumbers.{kind_of}
 use Rattle.messages.specs.declared.Reading.TheVariants.{Accepted}

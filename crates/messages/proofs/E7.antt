@@ -15,7 +15,7 @@ use Rattle.page_table.specs.Table.{rows, no_row, of_kind, rows_of, first_at, cov
 use Rattle.page_read.specs.declared.Judged.TheVariants.{Frame}
 use Rattle.page_read.specs.Judge.{unlabelled, stray_below, judged_number, judge_of}
 use Rattle.page_write.specs.Raws as pages
-use Rattle.message_types.specs.page_change.specs.Change.{change_of, bytes_after}
+use Rattle.page_change.specs.Change.{change_of, bytes_after}
 use Rattle.message_types.specs.declared.Message.{Message}
 use Rattle.message_types.specs.declared.Message.TheVariants.{Status}
 use Rattle.message_build.specs.Built.{built_of, message_of}

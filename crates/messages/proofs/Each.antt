@@ -16,22 +16,22 @@ use Rattle.page_table.specs.Table.{rows, of_kind, rows_of, identifier_of, extend
 use Rattle.page_read.specs.Judge.{unlabelled}
 use Rattle.page_write.specs.Raws.{wholes_of, all_take}
 use Rattle.message_fields.specs.Fields.{at}
-use Rattle.message_types.specs.message_laws.specs.Fits.{all_fit}
-use Rattle.message_types.specs.message_laws.proofs.Fitting.{labels_at}
-use Rattle.message_types.specs.message_laws.proofs.Codec as codecs
-use Rattle.message_types.specs.message_laws.proofs.Upto.{From, done, ◌⨾◌, upto}
+use Rattle.message_laws.specs.Fits.{all_fit}
+use Rattle.message_laws.proofs.Fitting.{labels_at}
+use Rattle.message_laws.proofs.Codec as codecs
+use Rattle.message_laws.proofs.Upto.{From, done, ◌⨾◌, upto}
 use Rattle.message_types.specs.declared.Message.{Message}
 use Rattle.message_types.specs.declared.Message.TheVariants.{Status, Parameters, Controller, Session, Change, Control, Finished, Stop, Id, SafetyControl, SafetyState, Probes, Sequence, Outputs, Battery, Voltages, ChargeLimits, DischargeLimits, Energy, Cui, Secc, Spcc, Ccs, Mcs, Ocpp}
 use Rattle.message_types.specs.KindNumbers.{status_kind, parameters_kind, controller_kind, session_kind, change_kind, control_kind, finished_kind, stop_kind, id_kind, safety_control_kind, safety_state_kind, probes_kind, sequence_kind, outputs_kind, battery_kind, voltages_kind, charge_limits_kind, discharge_limits_kind, energy_kind, cui_kind, secc_kind, spcc_kind, ccs_kind, mcs_kind, ocpp_kind, kind_count, message_count, kind_of}
 use Rattle.message_build.specs.Built.{built_of, message_of}
 use Rattle.message_take.specs.Take.{raws_of, has_raws}
-use Rattle.message_build.specs.message_charger.proofs.Ways.{status_ways, parameters_ways, controller_ways, session_ways, change_ways, control_ways, finished_ways, stop_ways, id_ways}
-use Rattle.message_build.specs.message_safety.proofs.Ways.{safety_control_ways, safety_state_ways}
-use Rattle.message_build.specs.message_probes.proofs.Ways.{probes_ways}
-use Rattle.message_build.specs.message_inputs.proofs.Ways.{cui_ways, secc_ways}
-use Rattle.message_build.specs.message_extra.proofs.Ways.{spcc_ways, ccs_ways, mcs_ways}
-use Rattle.message_build.specs.message_sequence.proofs.Ways.{sequence_ways, outputs_ways}
-use Rattle.message_build.specs.message_vehicle.proofs.Ways.{battery_ways, voltages_ways, charge_limits_ways, discharge_limits_ways, energy_ways, ocpp_ways}
+use Rattle.message_charger.proofs.Ways.{status_ways, parameters_ways, controller_ways, session_ways, change_ways, control_ways, finished_ways, stop_ways, id_ways}
+use Rattle.message_safety.proofs.Ways.{safety_control_ways, safety_state_ways}
+use Rattle.message_probes.proofs.Ways.{probes_ways}
+use Rattle.message_inputs.proofs.Ways.{cui_ways, secc_ways}
+use Rattle.message_extra.proofs.Ways.{spcc_ways, ccs_ways, mcs_ways}
+use Rattle.message_sequence.proofs.Ways.{sequence_ways, outputs_ways}
+use Rattle.message_vehicle.proofs.Ways.{battery_ways, voltages_ways, charge_limits_ways, discharge_limits_ways, energy_ways, ocpp_ways}
 
 -- ---- the table has each kind
 

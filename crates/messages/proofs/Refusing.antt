@@ -20,7 +20,7 @@ use Rattle.page_read.specs.Refusing as reading
 use Rattle.page_write.specs.Refusing.{Gives}
 use Rattle.page_write.proofs.Trips.{by_at, not_by}
 use Rattle.page_write.proofs.Refusing.{seven, eight}
-use Rattle.message_types.specs.message_laws.specs.Fits.{row_fits, all_fit}
+use Rattle.message_laws.specs.Fits.{row_fits, all_fit}
 use Rattle.message_types.specs.declared.Message.{Message}
 use Rattle.message_types.specs.KindNumbers.{kind_of}
 use Rattle.message_take.specs.Take.{raws_of, has_raws}

@@ -27,7 +27,7 @@ use Rattle.messages.specs.Write.{write_of, buffer_after}
 use Rattle.messages.specs.Writable.{writable, form_of, answer_of}
 use Rattle.messages.specs.Trips.{WrittenAs}
 use Rattle.messages.proofs.Each.{one_form, own_kind, codec}
-use Rattle.message_types.specs.message_laws.proofs.Typed as laws
+use Rattle.message_laws.proofs.Typed as laws
 
 -- ---- reading
 

@@ -8,7 +8,7 @@ use Rattle.page_write.specs.declared.Written.TheVariants as written
 use Rattle.page_table.specs.Table.{rows, of_kind, first_at, covered, identifier_of, length_of, big_of}
 use Rattle.page_read.specs.Judge.{unlabelled, offender, stray_below, judged_number, judge_of}
 use Rattle.page_write.specs.Raws as pages
-use Rattle.message_types.specs.page_change.specs.Change.{change_of, bytes_after}
+use Rattle.page_change.specs.Change.{change_of, bytes_after}
 use Rattle.signal.specs.Signal.{get_bits, put_bits}
 use Rattle.payload.specs.Payload.{le_number, le_bytes, be_number, be_bytes, stored_in}
 use Rattle.signal.specs.Twos.{to_signed, of_signed}

@@ -3,7 +3,7 @@ use Rattle.std.specs.Prelude.{ℕ, ◌<◌, ◌≡◌, true, false, ◌⊎◌, L
 use Rattle.refusals.specs.declared.Refusal.{Refusal}
 use Rattle.refusals.specs.Refusals.{number_of}
 use Rattle.page_table.specs.Table.{no_row, rows_of, length_of}
-use Rattle.message_types.specs.message_laws.specs.Fits.{row_fits}
+use Rattle.message_laws.specs.Fits.{row_fits}
 use Rattle.message_types.specs.declared.Message.{Message}
 use Rattle.message_types.specs.KindNumbers.{kind_of}
 use Rattle.message_take.specs.Take.{raws_of, has_raws}

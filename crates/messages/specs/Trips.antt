@@ -1,6 +1,6 @@
 -- Bytes and the message that they are: as it is written, and with one signal changed.
 use Rattle.std.specs.Prelude.{ℕ, Bool, List, ℤ}
-use Rattle.message_types.specs.message_laws.specs.Trips as laws
+use Rattle.message_laws.specs.Trips as laws
 use Rattle.message_types.specs.declared.Message.{Message}
 use Rattle.message_types.specs.KindNumbers.{kind_of}
 use Rattle.message_take.specs.Take.{raws_of, has_raws}

@@ -4,7 +4,7 @@ use Rattle.payload.specs.Payload.{bytes_of}
 use Rattle.page_table.specs.Table.{rows_of, extended_of, length_of, big_of}
 use Rattle.page_write.specs.declared.Written.{Written}
 use Rattle.page_write.specs.Raws.{packed_on, written_by}
-use Rattle.message_types.specs.message_laws.specs.Fits.{all_fit}
+use Rattle.message_laws.specs.Fits.{all_fit}
 use Rattle.message_types.specs.declared.Message.{Message}
 use Rattle.message_types.specs.KindNumbers.{kind_of}
 use Rattle.message_take.specs.Take.{raws_of, has_raws}

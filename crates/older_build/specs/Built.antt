@@ -1,10 +1,10 @@
 -- The message of a kind of the older interface, of its signals' raw numbers and of a payload number.
 use Rattle.std.specs.Prelude.{ℕ, cond, eqb, ℤ}
-use Rattle.message_safety.specs.page_write.specs.Raws as pages
-use Rattle.older_power.specs.older_types.specs.declared.Message.{Message}
-use Rattle.older_power.specs.older_types.specs.declared.Message.TheVariants.{SafetyControl, SafetyState, Probes, Status, Limits, Sequence, Outputs, Session, Insulation, Precharge, Change, Charging, Stop, Finished, Controller, Cui, Secc, Id, Spcc, Ccs, Mcs}
-use Rattle.older_power.specs.older_types.specs.KindNumbers.{safety_control_kind, safety_state_kind, probes_kind, status_kind, limits_kind, sequence_kind, outputs_kind, session_kind, insulation_kind, precharge_kind, change_kind, charging_kind, stop_kind, finished_kind, controller_kind, cui_kind, secc_kind, id_kind, spcc_kind, ccs_kind}
-use Rattle.message_safety.specs.message_fields.specs.Fields.{at}
+use Rattle.page_write.specs.Raws as pages
+use Rattle.older_types.specs.declared.Message.{Message}
+use Rattle.older_types.specs.declared.Message.TheVariants.{SafetyControl, SafetyState, Probes, Status, Limits, Sequence, Outputs, Session, Insulation, Precharge, Change, Charging, Stop, Finished, Controller, Cui, Secc, Id, Spcc, Ccs, Mcs}
+use Rattle.older_types.specs.KindNumbers.{safety_control_kind, safety_state_kind, probes_kind, status_kind, limits_kind, sequence_kind, outputs_kind, session_kind, insulation_kind, precharge_kind, change_kind, charging_kind, stop_kind, finished_kind, controller_kind, cui_kind, secc_kind, id_kind, spcc_kind, ccs_kind}
+use Rattle.message_fields.specs.Fields.{at}
 use Rattle.message_safety.specs.Build.{safety_control_of, safety_state_of}
 use Rattle.message_probes.specs.Build.{probes_of}
 use Rattle.message_inputs.specs.Build.{cui_of, secc_of}

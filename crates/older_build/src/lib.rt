@@ -1,12 +1,9 @@
 // A message of the older interface of its kind's number: of its signals' raw numbers, and of a payload number. For the reader.
 ghost use Rattle.std.specs.Prelude.{◌≡◌};
-ghost use Rattle.message_safety.specs.message_fields.specs.Fields.{at};
+ghost use Rattle.message_fields.specs.Fields.{at};
 ghost use Rattle.older_build.specs.Built.{built_of, message_of};
 
-// The crates among these are passed on to those above, which name them through this one.
-use message_safety::page_write;
-pub use older_power::older_types;
-use older_power::older_types::*;
+use older_types::*;
 
 // The message of a kind; for a number that is no kind of the interface, the last one.
 pub fn built(kind: usize, f: [i64; 16]) -> Message

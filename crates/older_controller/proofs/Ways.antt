@@ -2,9 +2,9 @@
 -- and each label at its signal. Assumes nothing.
 use mathlib.Core.Path.{refl}
 use mathlib.Core.List.{[], ◌∷◌}
-use Rattle.older_types.specs.page_table.specs.Table.{rows, of_kind}
-use Rattle.older_types.specs.page_write.specs.Raws.{wholes_of}
-use Rattle.older_types.specs.message_fields.proofs.FieldLaws.{bytes}
+use Rattle.page_table.specs.Table.{rows, of_kind}
+use Rattle.page_write.specs.Raws.{wholes_of}
+use Rattle.message_fields.proofs.FieldLaws.{bytes}
 use Rattle.older_types.specs.message_laws.proofs.Signals.{fits_at, field_back, label_back}
 use Rattle.older_types.specs.message_laws.proofs.Ways.{Ways, always}
 use Rattle.older_types.specs.KindNumbers.{stop_kind, finished_kind, controller_kind, id_kind}

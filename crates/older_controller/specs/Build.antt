@@ -6,7 +6,7 @@ use Rattle.older_types.specs.declared.ChargeSessionFinished.{ChargeSessionFinish
 use Rattle.older_types.specs.declared.ControllerStatus.{ControllerStatus}
 use Rattle.older_types.specs.declared.EvId.{EvId}
 use Rattle.older_types.specs.message_types.specs.Labels as label
-use Rattle.older_types.specs.message_fields.specs.Fields.{byte_of, natural_of}
+use Rattle.message_fields.specs.Fields.{byte_of, natural_of}
 
 abbrev pub stop_of : (ℕ → ℤ) → EmergencyStop
 stop_of f =

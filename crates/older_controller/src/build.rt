@@ -1,9 +1,9 @@
 // A message of its signals' raw numbers, in the table's order.
 ghost use Rattle.std.specs.Prelude.{◌≡◌};
-ghost use Rattle.older_types.specs.message_fields.specs.Fields.{at};
+ghost use Rattle.message_fields.specs.Fields.{at};
 ghost use Rattle.older_controller.specs.Build.{stop_of, finished_of, controller_of, id_of};
 
-use older_types::message_fields::{byte, natural};
+use message_fields::{byte, natural};
 use older_types::message_types::labels::*;
 use older_types::{ChargeSessionFinished, ControllerStatus, EmergencyStop, EvId};
 

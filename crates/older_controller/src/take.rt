@@ -1,10 +1,10 @@
 // The raw numbers of each message's signals, in the table's order.
 ghost use Rattle.std.specs.Prelude.{◌≡◌};
-ghost use Rattle.older_types.specs.page_write.specs.Raws.{pad};
-ghost use Rattle.older_types.specs.page_table.specs.Table.{signal_count};
+ghost use Rattle.page_write.specs.Raws.{pad};
+ghost use Rattle.page_table.specs.Table.{signal_count};
 ghost use Rattle.older_controller.specs.Take.{stop_raws, finished_raws, controller_raws, id_raws};
 
-use older_types::message_fields::byte_raw;
+use message_fields::byte_raw;
 use older_types::message_types::labels::*;
 use older_types::{ChargeSessionFinished, ControllerStatus, EmergencyStop, EvId};
 

@@ -2,9 +2,6 @@
 ghost use Rattle.std.specs.Prelude.{◌≡◌};
 ghost use Rattle.older_fields.specs.Forms.{capacity_of, capacity_raw};
 
-// The crates among these are passed on to those above, which name them through this one.
-pub use message_fields;
-
 // Document 001, Battery_Capacity: twice the raw number in kWh.
 pub fn capacity(z: i64) -> u16
     ensures { result ≡ capacity_of z }

@@ -2,14 +2,14 @@
 -- label at its signal. Assumes nothing.
 use mathlib.Core.Path.{refl}
 use mathlib.Core.List.{[], ◌∷◌}
-use Rattle.older_types.specs.page_table.specs.Table.{rows, of_kind}
-use Rattle.older_types.specs.page_write.specs.Raws.{whole_at, wholes_of}
-use Rattle.older_fields.specs.message_fields.proofs.FieldLaws.{bytes, degrees, shorts, words, kilohms_there, kilohms_back, kilohms_even}
-use Rattle.older_fields.specs.message_fields.proofs.Wides.{wides}
+use Rattle.page_table.specs.Table.{rows, of_kind}
+use Rattle.page_write.specs.Raws.{whole_at, wholes_of}
+use Rattle.message_fields.proofs.FieldLaws.{bytes, degrees, shorts, words, kilohms_there, kilohms_back, kilohms_even}
+use Rattle.message_fields.proofs.Wides.{wides}
 use Rattle.older_types.specs.message_laws.proofs.Signals.{fits_at, whole_fits, field_back, label_back}
 use Rattle.older_types.specs.message_laws.proofs.Ways.{Ways, always}
 use Rattle.older_types.specs.message_laws.proofs.Labelled.{signal_at}
-use Rattle.older_fields.specs.message_fields.specs.Fields.{has_kilohms}
+use Rattle.message_fields.specs.Fields.{has_kilohms}
 use Rattle.older_fields.specs.Forms.{has_capacity}
 use Rattle.older_types.specs.declared.PowerModulesStatus.{PowerModulesStatus}
 use Rattle.older_types.specs.declared.NewChargeSession.{NewChargeSession}

@@ -8,7 +8,7 @@ use Rattle.older_types.specs.declared.PrechargeTarget.{PrechargeTarget}
 use Rattle.older_types.specs.declared.ChargeStatusChange.{ChargeStatusChange}
 use Rattle.older_types.specs.declared.ChargingLoop.{ChargingLoop}
 use Rattle.older_types.specs.message_types.specs.Labels as label
-use Rattle.older_fields.specs.message_fields.specs.Fields.{byte_of, celsius_of, kilohms_of, natural_of, short_of, word_of}
+use Rattle.message_fields.specs.Fields.{byte_of, celsius_of, kilohms_of, natural_of, short_of, word_of}
 use Rattle.older_fields.specs.Forms.{capacity_of}
 
 abbrev pub status_of : (ℕ → ℤ) → PowerModulesStatus

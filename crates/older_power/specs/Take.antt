@@ -9,7 +9,7 @@ use Rattle.older_types.specs.declared.PrechargeTarget.{PrechargeTarget}
 use Rattle.older_types.specs.declared.ChargeStatusChange.{ChargeStatusChange}
 use Rattle.older_types.specs.declared.ChargingLoop.{ChargingLoop}
 use Rattle.older_types.specs.message_types.specs.Labels as label
-use Rattle.older_fields.specs.message_fields.specs.Fields.{celsius_raw, kilohms_raw, wide_raw}
+use Rattle.message_fields.specs.Fields.{celsius_raw, kilohms_raw, wide_raw}
 use Rattle.older_fields.specs.Forms.{capacity_raw}
 
 abbrev pub status_raws : PowerModulesStatus → List ℤ

@@ -1,10 +1,10 @@
 // A message of its signals' raw numbers, in the table's order.
 ghost use Rattle.std.specs.Prelude.{◌≡◌};
-ghost use Rattle.older_fields.specs.message_fields.specs.Fields.{at};
+ghost use Rattle.message_fields.specs.Fields.{at};
 ghost use Rattle.older_power.specs.Build.{status_of, limits_of, session_of, insulation_of, precharge_of, change_of, charging_of};
 
+use message_fields::{byte, celsius, kilohms, natural, short, word};
 use older_fields::capacity;
-use older_fields::message_fields::{byte, celsius, kilohms, natural, short, word};
 use older_types::message_types::labels::*;
 use older_types::{
     ChargeStatusChange, ChargingLoop, InsulationTest, NewChargeSession, PowerModulesLimits,

@@ -1,13 +1,11 @@
 // The raw numbers of each message's signals, in the table's order.
 ghost use Rattle.std.specs.Prelude.{◌≡◌};
-ghost use Rattle.older_types.specs.page_write.specs.Raws.{pad};
-ghost use Rattle.older_types.specs.page_table.specs.Table.{signal_count};
+ghost use Rattle.page_write.specs.Raws.{pad};
+ghost use Rattle.page_table.specs.Table.{signal_count};
 ghost use Rattle.older_power.specs.Take.{status_raws, limits_raws, session_raws, insulation_raws, precharge_raws, change_raws, charging_raws};
 
+use message_fields::{byte_raw, celsius_raw, kilohms_raw, short_raw, wide_raw, word_raw};
 use older_fields::capacity_raw;
-use older_fields::message_fields::{
-    byte_raw, celsius_raw, kilohms_raw, short_raw, wide_raw, word_raw,
-};
 use older_types::message_types::labels::*;
 use older_types::{
     ChargeStatusChange, ChargingLoop, InsulationTest, NewChargeSession, PowerModulesLimits,

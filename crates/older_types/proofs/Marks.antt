@@ -1,6 +1,6 @@
 -- Each label type against its signals of document 001 (`Label` of message_laws): by its law at 000's signal, since the signals list the same. Assumes nothing.
 use mathlib.Core.Path.{refl}
-use Rattle.message_types.specs.page_table.specs.Table.{rows, of_kind}
+use Rattle.page_table.specs.Table.{rows, of_kind}
 use Rattle.message_types.specs.message_laws.proofs.Labelled.{signal_at, Label, same_label}
 use Rattle.message_types.specs.Labels as label
 use Rattle.message_types.proofs.Marks as marks

@@ -2,7 +2,7 @@
 use Rattle.std.specs.Prelude.{ℕ}
 use Rattle.older_types.specs.declared.Message.{Message}
 use Rattle.older_types.specs.declared.Message.TheVariants.{SafetyControl, SafetyState, Probes, Status, Limits, Sequence, Outputs, Session, Insulation, Precharge, Change, Charging, Stop, Finished, Controller, Cui, Secc, Id, Spcc, Ccs, Mcs}
-pub use Rattle.message_types.specs.page_table.specs.Messages.{message_count}
+pub use Rattle.page_table.specs.Messages.{message_count}
 pub use Rattle.message_types.specs.KindNumbers.{safety_control_kind, safety_state_kind, probes_kind}
 
 abbrev pub status_kind : ℕ

@@ -5,7 +5,6 @@ ghost use Rattle.older_types.specs.KindNumbers.{kind_of};
 
 // The crates among these are passed on to those above, which name them through this one.
 pub use message_types;
-pub use message_types::message_fields;
 use message_types::{
     CcsExtraInformation, ChargeControl1, ChargeState1, ChargeStatus, ControllerState, CuiInputs,
     McsExtraInformation, Plug, Protocol, Pt1000State, SeccInputs, SeccOutputs, SequenceControl,

@@ -13,13 +13,13 @@ use native.Mathlib.Omega.{arith}
 use lib.IntN.{ℤ}
 use lib.ListN.{length, get_or, set}
 use Rattle.signal.specs.Signal.{get_bits, put_bits, covers}
-use Rattle.page_write.specs.payload.specs.Payload.{number_of, bytes_of, bit_at, Bytes}
-use Rattle.page_write.specs.payload.specs.Order as order
+use Rattle.payload.specs.Payload.{number_of, bytes_of, bit_at, Bytes}
+use Rattle.payload.specs.Order as order
 use Rattle.signal.specs.Raw.{fits_in, bits_in, value_in}
 use Rattle.signal.proofs.Laws.{get_put_apart, bit_kept, put_lt}
 use Rattle.signal.proofs.RawLaws.{bits_lt}
-use Rattle.page_write.specs.payload.proofs.Orders.{number_bound, length_of_lem, number_of_lem}
-use Rattle.page_write.specs.payload.proofs.Written.{written_bit, written_kept}
+use Rattle.payload.proofs.Orders.{number_bound, length_of_lem, number_of_lem}
+use Rattle.payload.proofs.Written.{written_bit, written_kept}
 use Rattle.page_write.specs.page_table.specs.declared.Interface.{Interface}
 use Rattle.page_write.specs.page_table.specs.declared.Interface.TheVariants.{Newer}
 use Rattle.page_write.specs.page_table.specs.declared.Row.{Row}

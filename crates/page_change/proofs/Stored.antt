@@ -9,8 +9,8 @@ use lib.ListN.{length, get_or}
 use mir.Val.{to_z, of_z, SFits}
 use mir.Syntax.{w64}
 use Rattle.signal.specs.Signal.{put_bits}
-use Rattle.page_write.specs.payload.specs.Payload.{number_of}
-use Rattle.page_write.specs.payload.specs.Order as order
+use Rattle.payload.specs.Payload.{number_of}
+use Rattle.payload.specs.Order as order
 use Rattle.signal.specs.Raw.{bits_in, bits_of}
 use Rattle.signal.proofs.RawLaws.{bits_lt}
 use Rattle.page_write.specs.page_table.specs.declared.Interface.{Interface}

@@ -11,9 +11,9 @@ use Rattle.signal.specs.Signal.{get_bits, put_bits}
 use Rattle.signal.specs.Raw.{fits_in, bits_in}
 use Rattle.signal.specs.Twos.{of_signed}
 use Rattle.signal.proofs.Laws.{put_put}
-use Rattle.page_write.specs.payload.specs.Payload.{le_number, le_bytes, number_of, bytes_of, bit_at, Bytes}
-use Rattle.page_write.specs.payload.proofs.Orders.{are_of}
-use Rattle.page_write.specs.payload.proofs.WholeBytes.{whole_stored}
+use Rattle.payload.specs.Payload.{le_number, le_bytes, number_of, bytes_of, bit_at, Bytes}
+use Rattle.payload.proofs.Orders.{are_of}
+use Rattle.payload.proofs.WholeBytes.{whole_stored}
 use Rattle.page_write.specs.page_table.specs.declared.Interface.TheVariants.{Newer}
 use Rattle.page_write.specs.page_table.specs.declared.Row.{Row}
 use Rattle.page_write.specs.page_table.specs.Table.{rows, of_kind, first_at, row_at, rows_of, big_of, covered, takes}

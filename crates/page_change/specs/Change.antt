@@ -1,6 +1,6 @@
 -- What changing a signal answers, and the lent bytes afterwards.
 use Rattle.std.specs.Prelude.{ℕ, Bool, cond, List, length, get_or, ℤ}
-use Rattle.page_write.specs.payload.specs.Payload.{bytes_of}
+use Rattle.payload.specs.Payload.{bytes_of}
 use Rattle.signal.specs.Raw.{fits_in, bits_in}
 use Rattle.page_write.specs.page_table.specs.declared.Interface.{Interface}
 use Rattle.page_write.specs.page_table.specs.declared.Row.{Row}

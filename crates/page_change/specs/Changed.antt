@@ -1,6 +1,6 @@
 -- What an accepted change passed.
 use Rattle.std.specs.Prelude.{ℕ, ◌≡◌, Bool, true, List, ℤ}
-use Rattle.page_write.specs.payload.specs.Payload.{number_of}
+use Rattle.payload.specs.Payload.{number_of}
 use Rattle.signal.specs.Raw.{fits_in, bits_in}
 use Rattle.page_write.specs.page_table.specs.declared.Interface.{Interface}
 use Rattle.page_write.specs.page_table.specs.declared.Row.{Row}

@@ -4,8 +4,6 @@ ghost use Rattle.std.specs.Prelude.{◌≡◌};
 ghost use Rattle.page_write.specs.page_table.specs.Table.{Fine};
 ghost use Rattle.page_change.specs.Change.{changed_row, change_on, change_of, bytes_after};
 
-// The crates among these are passed on to those above, which name them through this one.
-pub use page_write;
 use page_write::page_read::{Judged, judge_on, start_bit};
 use page_write::page_rows::{label_holds, row_to_change};
 use page_write::page_search::signal_at;

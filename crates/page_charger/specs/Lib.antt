@@ -1,4 +1,3 @@
 pub mod Past
 -- crates that are passed on to those above, which name them through this one
-pub use Rattle.page_table.specs.payload as payload
 pub use Rattle.page_table as page_table

@@ -8,7 +8,6 @@ ghost use Rattle.page_charger.specs.Past.{past};
 // The crates among these are passed on to those above, which name them through this one.
 pub use page_table;
 use page_table::Line;
-pub use page_table::payload;
 
 pub const END: usize = 30;
 

@@ -3,9 +3,9 @@
 ghost use Rattle.std.specs.Prelude.{◌≡◌};
 ghost use Rattle.page_interfaces.specs.Foreign.{is_foreign, judge_for};
 
-use page_read::page_rows::is_on;
-use page_read::page_search::with_id;
 use page_read::{Judged, judge_from};
+use page_rows::is_on;
+use page_search::with_id;
 use page_table::{FoundMessage, Interface};
 use refusals::Refusal;
 

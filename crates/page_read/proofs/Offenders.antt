@@ -9,7 +9,7 @@ use Prim.Native.Nat.{ℕ, suc, ◌*◌, ◌^◌, ◌<◌, ◌≤◌, min}
 use native.Mathlib.Omega.{arith}
 use lib.Dec.{eqb}
 use lib.ListN.{length}
-use Rattle.page_search.specs.payload.specs.Payload.{number_of}
+use Rattle.payload.specs.Payload.{number_of}
 use Rattle.page_search.specs.page_table.specs.declared.Interface.{Interface}
 use Rattle.page_search.specs.page_table.specs.declared.Row.{Row}
 use Rattle.page_read.specs.declared.Offence.{Offence}

@@ -12,7 +12,7 @@ use borrow.Author.Tests.{eqb-true, eqb-false, ltb-true, ltb-false}
 use Rattle.refusals.specs.declared.Refusal.{Refusal}
 use Rattle.refusals.specs.declared.Refusal.TheVariants.{UnknownIdentifier, TooShort, TooLong, NoLabel, UncoveredBit}
 use Rattle.refusals.specs.Refusals as refusals
-use Rattle.page_search.specs.payload.specs.Payload.{number_of, Bytes}
+use Rattle.payload.specs.Payload.{number_of, Bytes}
 use Rattle.page_search.specs.page_table.specs.declared.Interface.{Interface}
 use Rattle.page_search.specs.page_table.specs.declared.Row.{Row}
 use Rattle.page_search.specs.page_table.specs.declared.Found.{Found}

@@ -7,9 +7,9 @@ use mathlib.Core.List.{List}
 use native.Mathlib.Omega.{arith}
 use Prim.Native.Nat.{ℕ, ◌*◌, ◌^◌, ◌<◌, ◌≤◌}
 use lib.ListN.{length, drop, take}
-use Rattle.page_search.specs.payload.specs.Payload.{number_of, Bytes}
-use Rattle.page_search.specs.payload.proofs.Orders.{number_bound}
-use Rattle.page_search.specs.payload.proofs.Stored.{number_in}
+use Rattle.payload.specs.Payload.{number_of, Bytes}
+use Rattle.payload.proofs.Orders.{number_bound}
+use Rattle.payload.proofs.Stored.{number_in}
 use Rattle.refusals.specs.declared.Refusal.{Refusal}
 use Rattle.page_search.specs.page_table.specs.declared.Interface.{Interface}
 use Rattle.page_search.specs.page_table.specs.declared.Found.{Found}

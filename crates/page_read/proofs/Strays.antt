@@ -8,10 +8,10 @@ use Prim.Native.Nat.{ℕ, ◌*◌, ◌<◌, ◌≤◌}
 use native.Mathlib.Omega.{arith}
 use lib.ListN.{length}
 use Rattle.signal.specs.Signal.{get_bits}
-use Rattle.page_search.specs.payload.specs.Payload.{number_of, bit_at, Bytes}
-use Rattle.page_search.specs.payload.specs.Order.{place}
+use Rattle.payload.specs.Payload.{number_of, bit_at, Bytes}
+use Rattle.payload.specs.Order.{place}
 use Rattle.signal.proofs.Complement.{half_of}
-use Rattle.page_search.specs.payload.proofs.Words.{place_lt, place_place, bit_of_lem, bit_past}
+use Rattle.payload.proofs.Words.{place_lt, place_place, bit_of_lem, bit_past}
 use Rattle.page_search.specs.page_table.specs.declared.Interface.{Interface}
 use Rattle.page_search.specs.page_table.specs.declared.Row.{Row}
 use Rattle.page_read.specs.declared.Judged.TheVariants.{Frame, Refused}

@@ -9,9 +9,9 @@ use native.Mathlib.Omega.{arith}
 use lib.ListN.{length}
 use Rattle.refusals.specs.declared.Refusal.TheVariants.{NoLabel, UncoveredBit}
 use Rattle.signal.specs.Signal.{get_bits}
-use Rattle.page_search.specs.payload.specs.Payload.{le_number, be_number, le_bytes, number_of, bit_at, Bytes}
-use Rattle.page_search.specs.payload.specs.Order.{walk, place}
-use Rattle.page_search.specs.payload.proofs.Orders.{are_of}
+use Rattle.payload.specs.Payload.{le_number, be_number, le_bytes, number_of, bit_at, Bytes}
+use Rattle.payload.specs.Order.{walk, place}
+use Rattle.payload.proofs.Orders.{are_of}
 use Rattle.page_search.specs.page_table.specs.declared.Interface.TheVariants.{Newer}
 use Rattle.page_search.specs.page_table.specs.Table.{rows, of_kind, first_at, row_at, rows_of, length_of, big_of, bits_at, covered}
 use Rattle.page_search.specs.page_table.specs.Listed.{Among}

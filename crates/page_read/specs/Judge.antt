@@ -1,7 +1,7 @@
 -- What reading a frame answers: 01, "Reading gives 3 to 6", the lowest that applies.
 use Rattle.std.specs.Prelude.{ℕ, zero, suc, ◌*◌, min, Bool, false, cond, not, ◌&&◌, ◌||◌, List, [], ◌∷◌, eqb, ltb, length, get_or}
 use Rattle.signal.specs.Signal.{get_bits}
-use Rattle.page_search.specs.payload.specs.Payload.{number_of}
+use Rattle.payload.specs.Payload.{number_of}
 use Rattle.page_search.specs.page_table.specs.declared.Interface.{Interface}
 use Rattle.page_search.specs.page_table.specs.declared.Interface.TheVariants.{Newer}
 use Rattle.page_search.specs.page_table.specs.declared.Row.{Row}

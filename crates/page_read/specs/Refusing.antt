@@ -2,7 +2,7 @@
 use Rattle.std.specs.Prelude.{ℕ, ◌*◌, ◌≤◌, ◌<◌, ◌≡◌, Bool, true, List, length}
 use Rattle.refusals.specs.declared.Refusal.{Refusal}
 use Rattle.refusals.specs.Refusals as refusals
-use Rattle.page_search.specs.payload.specs.Payload.{number_of, bit_at}
+use Rattle.payload.specs.Payload.{number_of, bit_at}
 use Rattle.page_search.specs.page_table.specs.declared.Interface.{Interface}
 use Rattle.page_search.specs.page_table.specs.declared.Row.{Row}
 use Rattle.page_search.specs.page_table.specs.Messages.{message_of}

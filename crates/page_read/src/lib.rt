@@ -8,7 +8,8 @@ pub use page_search;
 use page_search::page_rows::is_on;
 use page_search::page_table::{FoundMessage, Interface};
 use page_search::with_id;
-pub use page_search::{page_rows, page_table, payload};
+pub use page_search::{page_rows, page_table};
+pub use payload;
 use refusals::Refusal;
 
 mod labels; // labels.rt: 5 of a message that has no bit without a signal

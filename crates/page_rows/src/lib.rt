@@ -6,8 +6,8 @@ ghost use Rattle.page_charger.specs.page_table.specs.Layout.{row_of};
 ghost use Rattle.page_charger.specs.page_table.specs.Table.{identifier_of, length_of, extended_of, big_of, takes};
 
 // The crates among these are passed on to those above, which name them through this one.
+pub use page_charger::page_table;
 use page_charger::page_table::{Interface, KIND_COUNT, Line, REST_KIND, Row, SAFETY_KIND};
-pub use page_charger::{page_table, payload};
 
 mod contents; // contents.rt: the messages, and where the rows of each begin
 mod safety; // safety.rt: the rows of document 004

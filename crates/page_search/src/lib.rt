@@ -7,4 +7,4 @@ mod by_kind; // by_kind.rt: the searches by kind and start
 pub use by_id::{message_on, with_id};
 pub use by_kind::{first_of_kind, signal_at};
 pub use page_rows;
-pub use page_rows::{page_table, payload};
+pub use page_rows::page_table;

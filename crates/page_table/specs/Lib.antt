@@ -8,5 +8,3 @@ pub mod Table
 pub mod Listed
 pub mod Interfaces
 pub mod Rules
--- crates that are passed on to those above, which name them through this one
-pub use Rattle.payload as payload

@@ -1,9 +1,6 @@
 // The maker's pages as one table: its rows and messages, the search by identifier, kind and start, and the rules that it keeps to, with their laws: definitions
 // and no function. Read with the maker's documents beside it; what is read, written or changed goes by this table, and every crate above may name it.
 
-// The crates among these are passed on to those above, which name them through this one.
-pub use payload;
-
 // 01: "a row holds message, start, width, signedness and labels or none". The message is its kind, its identifier and that identifier's form, its length
 // in bytes and its byte order (`big`: byte 0 is highest, and a start names the highest bit). `low` is the signal's lowest bit in the payload
 // number, which follows from the rest: worked out beforehand, and held to it by the proofs of `line_at`. Bit n of labels says that the raw

@@ -4,6 +4,5 @@ pub mod Trips
 pub mod Refusing
 pub mod Steps
 -- crates that are passed on to those above, which name them through this one
-pub use Rattle.page_read.specs.payload as payload
 pub use Rattle.page_read.specs.page_table as page_table
 pub use Rattle.page_read as page_read

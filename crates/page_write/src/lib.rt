@@ -8,7 +8,8 @@ pub use page_read;
 use page_read::page_rows::{identifier_of, is_big, length_of};
 use page_read::page_search::first_of_kind;
 use page_read::page_table::Found;
-pub use page_read::{page_rows, page_search, page_table, payload};
+use page_read::payload;
+pub use page_read::{page_rows, page_search, page_table};
 use refusals::Refusal;
 use signals::pack;
 

@@ -6,7 +6,7 @@ use Rattle.log_records.specs.Record.{Rec}
 use Rattle.log_records.specs.Reading.{log_of, records_in}
 use Rattle.watch_rules.specs.declared.Table.{Table}
 use Rattle.watch_rules.specs.Table.{place_of}
-use Rattle.batch.specs.lent_words.specs.declared.Lent.{Lent}
+use Rattle.lent_runs.specs.lent_words.specs.declared.Lent.{Lent}
 use Rattle.batch.specs.batch_rules.specs.Batch.{table_after, words_of, why_batch, batch_by, answers_by as wordsBy, batch_of, answers_after}
 use Rattle.batch.specs.batch_rules.specs.Cases.{Taken}
 use Rattle.batch.specs.batch_rules.proofs.Laws.{by_why, few_records, accepted_word, accepted_batch, accepted_answers, answers_length}
@@ -16,7 +16,7 @@ use Rattle.text_pen.specs.declared.Pen.{Pen}
 use Rattle.text_pen.proofs.Laws.{whole_text}
 use Rattle.notation_answers.specs.Answers.{Wrote}
 use Rattle.notation_answers.proofs.Ink.{like}
-use Rattle.playing_nights.specs.playing_line.specs.Lines.{laid, new_pen}
+use Rattle.playing_line.specs.Lines.{laid, new_pen}
 use Rattle.playing_nights.specs.declared.Course.{Course}
 use Rattle.playing_nights.specs.declared.Course.TheVariants as course
 use Rattle.playing_nights.specs.declared.Replay.{Replay}

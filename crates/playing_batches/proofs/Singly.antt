@@ -11,16 +11,16 @@ use Rattle.watch_rules.specs.declared.Answer.{Answer}
 use Rattle.watch_rules.specs.declared.Answer.TheVariants as answer
 use Rattle.watch_rules.specs.Table.{post_count, is_channel, holds, place_of, place_in, post_in, Arriving, feed_at, feed_of}
 use Rattle.watch_rules.specs.Run as request
-use Rattle.batch.specs.lent_words.specs.Words.{answer_outcome, answer_word}
-use Rattle.batch.specs.lent_runs.proofs.Lents.{lent_next, lent_word}
-use Rattle.batch.specs.lent_runs.proofs.Small.{reply_within}
+use Rattle.lent_runs.specs.lent_words.specs.Words.{answer_outcome, answer_word}
+use Rattle.lent_runs.proofs.Lents.{lent_next, lent_word}
+use Rattle.lent_runs.proofs.Small.{reply_within}
 use Rattle.batch.specs.batch_rules.specs.Batch.{called_with, words_of}
 use Rattle.batch.proofs.Joined.{place_set, heard_holds}
 use Rattle.text_numbers.specs.Ascii.{space}
 use Rattle.text_numbers.specs.Numbers.{numeral}
 use Rattle.text_pen.specs.Pens.{text_of}
-use Rattle.playing_nights.specs.playing_line.specs.Lines.{line_room, refused_words, line_of, InWords}
-use Rattle.playing_nights.specs.playing_line.proofs.Lengths.{line_short}
+use Rattle.playing_line.specs.Lines.{line_room, refused_words, line_of, InWords}
+use Rattle.playing_line.proofs.Lengths.{line_short}
 use Rattle.playing_answers.specs.Texts.{start_text, refused_text, found_text, answer_text, post_text, word_line}
 use Rattle.playing_nights.specs.declared.Replay.{Replay}
 use Rattle.playing_nights.specs.Fed.{channel_of, arrival_in, time_of, fed_with, line_for}

@@ -14,7 +14,7 @@ use Rattle.text_pen.specs.Pens.{moved_by, inked_by}
 use Rattle.text_pen.specs.declared.Pen.{Pen}
 use Rattle.notation_answers.specs.Answers.{Wrote}
 use Rattle.notation_answers.proofs.Ink.{then}
-use Rattle.playing_nights.specs.playing_line.specs.Lines.{new_pen}
+use Rattle.playing_line.specs.Lines.{new_pen}
 use Rattle.playing_answers.specs.Texts.{word_line}
 use Rattle.playing_nights.specs.Call.{next_count}
 use Rattle.playing_nights.proofs.Entries.{channel_of_lem}

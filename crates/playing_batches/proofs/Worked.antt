@@ -16,7 +16,7 @@ use Rattle.watch_rules.specs.declared.Answer.TheVariants.{Findings}
 use Rattle.watch_rules.specs.Table.{post_count, empty_table, place_of, place_named, some_place, place_in, heard_of, feed_at, feed_of, is_other, set_up_of}
 use Rattle.rule_limits.specs.Limits.{limits_fit}
 use Rattle.batch.specs.batch_rules.specs.Batch.{is_whole, why_batch}
-use Rattle.playing_nights.specs.playing_line.specs.Lines.{line_room, refused_words, line_of}
+use Rattle.playing_line.specs.Lines.{line_room, refused_words, line_of}
 use Rattle.playing_answers.specs.Texts.{word_line}
 use Rattle.playing_nights.specs.declared.Replay.{Replay}
 use Rattle.playing_nights.specs.Fed.{fed_with, lines_from}

@@ -9,7 +9,7 @@ use Rattle.text_pen.specs.Pens.{text_of}
 use Rattle.log_records.specs.Record.{Rec}
 use Rattle.log_records.specs.Reading.{log_of, records_in}
 use Rattle.batch.specs.batch_rules.specs.Batch.{words_of, why_batch}
-use Rattle.playing_nights.specs.playing_line.specs.Lines.{laid}
+use Rattle.playing_line.specs.Lines.{laid}
 use Rattle.playing_nights.specs.declared.Course.{Course}
 use Rattle.playing_nights.specs.declared.Course.TheVariants as course
 use Rattle.playing_nights.specs.declared.Replay.{Replay}

@@ -4,13 +4,12 @@ ghost use Rattle.std.specs.Prelude.{◌≡◌, ◌≤◌, length};
 ghost use Rattle.log_records.specs.Reading.{log_of, records_in};
 ghost use Rattle.watch_rules.specs.Table.{post_count};
 ghost use Rattle.notation_answers.specs.Answers.{Wrote};
-ghost use Rattle.playing_nights.specs.playing_line.specs.Lines.{new_pen};
+ghost use Rattle.playing_line.specs.Lines.{new_pen};
 ghost use Rattle.batch.specs.batch_rules.specs.Batch.{why_batch};
 ghost use Rattle.playing_batches.specs.Batched.{room_for, why_of, batched_by, answers_by, lines_by, batched_of, answers_of, lines_of};
 ghost use Rattle.playing_batches.specs.Words.{word_lines};
 
 use batch::feed_batch;
-use batch::watch_places::place;
 use log_read::record_at;
 use log_records::Found;
 use playing_answers::put_line;
@@ -18,6 +17,7 @@ use playing_nights::{Course, Replay};
 use refusals::Refusal;
 use std::num::wrapping_add_u64;
 use text_pen::Pen;
+use watch_places::place;
 use watch_rules::Table;
 
 // What a batch answers: so many records, whose lines have so many bytes; the refusal of the set-up that ended the replay; or the number of the refusal, 8 or

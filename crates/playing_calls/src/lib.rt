@@ -2,15 +2,14 @@
 // program that plays a log. The public function takes any input.
 ghost use Rattle.std.specs.Prelude.{◌≡◌, ◌<◌, ◌≤◌, length};
 ghost use Rattle.log_records.specs.Reading.{rec_of, found_at};
-ghost use Rattle.playing_nights.specs.playing_line.specs.Lines.{line_room, line_of, laid};
+ghost use Rattle.playing_line.specs.Lines.{line_room, line_of, laid};
 ghost use Rattle.playing_nights.specs.Fed.{fed_with};
 ghost use Rattle.playing_nights.specs.Call.{line_call, on_found, next_by, buffer_by, next_line, buffer_after, Within};
 
 use log_records::{Entry, Found};
-use playing_nights::{Course, Next, Played, Replay, playing_line};
+use playing_nights::{Course, Next, Played, Replay};
 use std::num::wrapping_add_u64;
-use watch::watch_places;
-use watch::watch_rules::{Answer, Fed, Table};
+use watch_places::watch_rules::{Answer, Fed, Table};
 
 // 02: "a line buffer under 40 bytes gets 8 first".
 pub const LINE: usize = 40;

@@ -5,10 +5,8 @@ ghost use Rattle.text_numbers.specs.Numbers.{numeral};
 ghost use Rattle.notation_answers.specs.Answers.{Wrote};
 ghost use Rattle.playing_line.specs.Lines.{unheld, post_words, refused_words, answer_words, line_words, InWords, new_pen};
 
-// The crates among these are passed on to those above, which name them through this one.
 use refusals::Refusal;
 use text_pen::Pen;
-pub use watch_rules;
 use watch_rules::Answer;
 
 fn is_unheld(a: Answer) -> bool

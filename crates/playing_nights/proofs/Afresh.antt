@@ -5,15 +5,15 @@ use mathlib.Core.List.{List, [], ◌∷◌}
 use lib.ListN.{length}
 use Rattle.log_records.specs.Record.{Rec}
 use Rattle.log_records.specs.Reading.{Log, log_of, records_in}
-use Rattle.playing_line.specs.watch_rules.specs.declared.Table.{Table}
-use Rattle.playing_line.specs.watch_rules.specs.declared.Answer.{Answer}
-use Rattle.playing_line.specs.watch_rules.specs.declared.Setting.{Setting}
-use Rattle.playing_line.specs.watch_rules.specs.declared.Setting.TheVariants as setting
-use Rattle.playing_line.specs.watch_rules.specs.Table.{place_of, empty_table, set_up_of}
-use Rattle.playing_line.specs.watch_rules.specs.Steps.{Steps, feed_steps, set_up_steps, Kept}
-use Rattle.playing_line.specs.watch_rules.proofs.Placed.{place_look}
-use Rattle.playing_line.specs.rules.specs.declared.Post.{Post}
-use Rattle.playing_line.specs.watch_rules.proofs.Right.{feed_right, set_up_right, empty_kept}
+use Rattle.watch_rules.specs.declared.Table.{Table}
+use Rattle.watch_rules.specs.declared.Answer.{Answer}
+use Rattle.watch_rules.specs.declared.Setting.{Setting}
+use Rattle.watch_rules.specs.declared.Setting.TheVariants as setting
+use Rattle.watch_rules.specs.Table.{place_of, empty_table, set_up_of}
+use Rattle.watch_rules.specs.Steps.{Steps, feed_steps, set_up_steps, Kept}
+use Rattle.watch_rules.proofs.Placed.{place_look}
+use Rattle.rules.specs.declared.Post.{Post}
+use Rattle.watch_rules.proofs.Right.{feed_right, set_up_right, empty_kept}
 use Rattle.playing_line.specs.Lines.{line_room, line_of}
 use Rattle.playing_nights.specs.Fed.{time_of, channel_of, arrival_in, fed_with, line_for, lines_from, line01, lines01_from}
 use Rattle.playing_nights.specs.Night.{Wanted, Ready, ready, stopped, on_setting, prepared_from, prepared01, ending_of, night_of, night01, stop, run_of}

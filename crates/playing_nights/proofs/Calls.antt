@@ -14,7 +14,7 @@ use Rattle.log_records.specs.declared.Found.{Found}
 use Rattle.log_records.specs.declared.Found.TheVariants as found
 use Rattle.log_records.specs.Reading.{rec_of, found_at}
 use Rattle.playing_nights.specs.declared.Course.{Course}
-use Rattle.playing_line.specs.watch_rules.specs.declared.Answer.TheVariants.{Findings}
+use Rattle.watch_rules.specs.declared.Answer.TheVariants.{Findings}
 use Rattle.playing_nights.specs.declared.Course.TheVariants.{SetUps, Records, Refused}
 use Rattle.playing_nights.specs.declared.Replay.{Replay}
 use Rattle.playing_nights.specs.declared.Preparing.TheVariants.{Late}

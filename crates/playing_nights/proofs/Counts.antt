@@ -8,7 +8,7 @@ use lib.Dec.{leb, eqb}
 use lib.ListN.{length, take, get_or}
 use Rattle.log_records.specs.Record.{Rec, record_bytes}
 use Rattle.log_records.specs.Reading.{Ending, Log, ends, then, clean, piece, wholly, records_in}
-use Rattle.playing_line.specs.watch_rules.specs.declared.Table.{Table}
+use Rattle.watch_rules.specs.declared.Table.{Table}
 use Rattle.playing_nights.specs.Fed.{fed_with, fed_all, line_for, lines_from}
 
 pub as_many : (xs : List Rec) (t : Table) (n : ℕ) → length (lines_from t n xs) ≡ length xs

@@ -10,8 +10,8 @@ use borrow.Author.Tests.{leb-true, le-ltb}
 use Rattle.log_records.specs.declared.Entry.{Entry}
 use Rattle.log_records.specs.Record.{tick, frame}
 use Rattle.log_records.specs.Reading.{payload_of, rec_of}
-use Rattle.playing_line.specs.watch_rules.specs.declared.Table.{Table}
-use Rattle.playing_line.specs.watch_rules.specs.Table.{framing, ticking, feed_of}
+use Rattle.watch_rules.specs.declared.Table.{Table}
+use Rattle.watch_rules.specs.Table.{framing, ticking, feed_of}
 use Rattle.playing_nights.specs.Fed.{fed_with, channel_of}
 use Rattle.playing_nights.specs.Call.{Within}
 

@@ -14,10 +14,10 @@ use Rattle.log_records.specs.declared.Found.TheVariants as found
 use Rattle.log_records.specs.Record.{Rec, AllLoggable, log_bytes}
 use Rattle.log_records.specs.Reading.{rec_of, found_at, Log, onward, read_from, log_of, wholly, records_in}
 use Rattle.log_records.proofs.Logs.{log_cut}
-use Rattle.playing_line.specs.watch_rules.specs.declared.Table.{Table}
-use Rattle.playing_line.specs.watch_rules.specs.declared.Setting.{Setting}
-use Rattle.playing_line.specs.watch_rules.specs.declared.Setting.TheVariants as setting
-use Rattle.playing_line.specs.watch_rules.specs.Table.{empty_table, set_up_of}
+use Rattle.watch_rules.specs.declared.Table.{Table}
+use Rattle.watch_rules.specs.declared.Setting.{Setting}
+use Rattle.watch_rules.specs.declared.Setting.TheVariants as setting
+use Rattle.watch_rules.specs.Table.{empty_table, set_up_of}
 use Rattle.playing_nights.specs.declared.Course.{Course}
 use Rattle.playing_nights.specs.declared.Course.TheVariants.{SetUps, Records, Refused}
 use Rattle.playing_nights.specs.declared.Replay.{Replay}

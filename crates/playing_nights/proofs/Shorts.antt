@@ -18,25 +18,25 @@ use Rattle.page_read.specs.Judge.{unlabelled, offends, offender, stray_below, ju
 use Rattle.page_interfaces.specs.Foreign.{is_foreign, judge_for}
 use Rattle.rule_limits.specs.declared.PlainLimits.{PlainLimits}
 use Rattle.rule_limits.specs.Sensor.{interface_of}
-use Rattle.playing_line.specs.rules.specs.History.{Event, History, frame, tick}
-use Rattle.playing_line.specs.rules.specs.Times.{stamp_of, earlier_in}
+use Rattle.rules.specs.History.{Event, History, frame, tick}
+use Rattle.rules.specs.Times.{stamp_of, earlier_in}
 use Rattle.rule_asks.specs.Judgements.{bit}
-use Rattle.playing_line.specs.rules.specs.Counts.{is_full}
-use Rattle.playing_line.specs.rules.specs.Rules.{f1, f2, f3, f4, f5, f6, f7, f8, f9, f10, f11, f12, findings01}
+use Rattle.rules.specs.Counts.{is_full}
+use Rattle.rules.specs.Rules.{f1, f2, f3, f4, f5, f6, f7, f8, f9, f10, f11, f12, findings01}
 use Rattle.log_records.specs.declared.Found.{Found as Seen}
 use Rattle.log_records.specs.declared.Found.TheVariants as found
 use Rattle.log_records.specs.Record.{Rec}
 use Rattle.log_records.specs.Record as rec
 use Rattle.log_records.specs.Reading.{found_at, onward, read_from, log_of, records_in}
-use Rattle.playing_line.specs.watch_rules.specs.declared.Answer.TheVariants.{Refused}
-use Rattle.playing_line.specs.watch_rules.specs.declared.Arrival.{Arrival}
-use Rattle.playing_line.specs.watch_rules.specs.declared.Arrival.TheVariants.{Tick, Frame, Unread}
-use Rattle.playing_line.specs.watch_rules.specs.Table.{post_count, is_channel, arrival_of, Arriving}
-use Rattle.playing_line.specs.watch_rules.specs.Steps.{Steps, Standing, free, held, standing, holder, found01, answer_in, feed01, feed_steps}
+use Rattle.watch_rules.specs.declared.Answer.TheVariants.{Refused}
+use Rattle.watch_rules.specs.declared.Arrival.{Arrival}
+use Rattle.watch_rules.specs.declared.Arrival.TheVariants.{Tick, Frame, Unread}
+use Rattle.watch_rules.specs.Table.{post_count, is_channel, arrival_of, Arriving}
+use Rattle.watch_rules.specs.Steps.{Steps, Standing, free, held, standing, holder, found01, answer_in, feed01, feed_steps}
 use Rattle.playing_line.specs.Lines.{line_room, InWords, AllShort}
 use Rattle.playing_nights.specs.Fed.{time_of, channel_of, arrival_in, lines01_from}
 use Rattle.playing_nights.specs.Night.{Wanted, Ready, ready, stopped, prepared01, night01, run_of}
-use Rattle.playing_line.specs.watch_rules.proofs.Standings.{holder_most}
+use Rattle.watch_rules.proofs.Standings.{holder_most}
 use Rattle.playing_line.proofs.Lengths.{line_short}
 use Rattle.playing_nights.proofs.Afresh.{night_01}
 

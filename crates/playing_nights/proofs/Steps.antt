@@ -7,10 +7,10 @@ use borrow.Author.Tests.{lt-ltb, le-ltb}
 use Rattle.rule_limits.specs.declared.PlainLimits.{PlainLimits}
 use Rattle.log_records.specs.declared.Entry.{Entry}
 use Rattle.log_records.specs.Reading.{rec_of, found_at}
-use Rattle.playing_line.specs.watch_rules.specs.declared.Fed.{Fed}
-use Rattle.playing_line.specs.watch_rules.specs.declared.Setting.{Setting}
-use Rattle.playing_line.specs.watch_rules.specs.declared.Settled.{Settled}
-use Rattle.playing_line.specs.watch_rules.specs.Table.{place_of, set_up_of}
+use Rattle.watch_rules.specs.declared.Fed.{Fed}
+use Rattle.watch_rules.specs.declared.Setting.{Setting}
+use Rattle.watch_rules.specs.declared.Settled.{Settled}
+use Rattle.watch_rules.specs.Table.{place_of, set_up_of}
 use Rattle.playing_nights.specs.declared.Course.{Course}
 use Rattle.playing_nights.specs.declared.Course.TheVariants.{Records}
 use Rattle.playing_nights.specs.declared.Replay.{Replay}

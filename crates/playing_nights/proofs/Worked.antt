@@ -8,15 +8,15 @@ use mathlib.Core.Bool.{false}
 use Prim.Native.Nat.{ℕ, zero, suc, ◌<◌, ◌≤◌}
 use native.Mathlib.Omega.{arith}
 use lib.ListN.{length, take, drop, replicate}
-use Rattle.playing_line.specs.rules.specs.After.{stamp_in, aged_to, silent_in, late_after, any_findings, with_counts, after_tick}
+use Rattle.rules.specs.After.{stamp_in, aged_to, silent_in, late_after, any_findings, with_counts, after_tick}
 use Rattle.log_numbers.specs.Number.{groups, read_groups}
 use Rattle.log_records.specs.Record.{Rec, tick, AllLoggable, record_bytes, log_bytes}
 use Rattle.log_records.specs.Reading.{length_part, identifier_part, channel_part, time_part, record_at, log_of, wholly}
 use Rattle.text_numbers.specs.Numbers.{glyph_of, digits_in, numeral}
 use Rattle.text_pen.specs.Pens.{text_of}
-use Rattle.playing_line.specs.watch_rules.specs.Run.{Request, setUp, run, accepted}
-use Rattle.playing_line.specs.watch_rules.proofs.Demand.{run_kept}
-use Rattle.playing_line.specs.watch_rules.specs.Table.{empty_table, place_of, place_named, some_place, place_in, heard_of, feed_at, feed_of, is_other, set_up_of}
+use Rattle.watch_rules.specs.Run.{Request, setUp, run, accepted}
+use Rattle.watch_rules.proofs.Demand.{run_kept}
+use Rattle.watch_rules.specs.Table.{empty_table, place_of, place_named, some_place, place_in, heard_of, feed_at, feed_of, is_other, set_up_of}
 use Rattle.rule_limits.specs.declared.PlainLimits.{PlainLimits}
 use Rattle.rule_limits.specs.Limits.{limits_fit}
 use Rattle.playing_nights.specs.declared.Replay.{Replay}

@@ -6,12 +6,12 @@ use Rattle.log_records.specs.declared.Entry.{Entry}
 use Rattle.log_records.specs.declared.Found.{Found}
 use Rattle.log_records.specs.declared.Found.TheVariants as found
 use Rattle.log_records.specs.Reading.{rec_of, found_at}
-use Rattle.playing_line.specs.watch_rules.specs.declared.Answer.{Answer}
-use Rattle.playing_line.specs.watch_rules.specs.declared.Answer.TheVariants.{Findings}
-use Rattle.playing_line.specs.watch_rules.specs.declared.Setting.{Setting}
-use Rattle.playing_line.specs.watch_rules.specs.declared.Setting.TheVariants as setting
-use Rattle.playing_line.specs.watch_rules.specs.declared.Settled.{Settled}
-use Rattle.playing_line.specs.watch_rules.specs.Table.{empty_table, set_up_of}
+use Rattle.watch_rules.specs.declared.Answer.{Answer}
+use Rattle.watch_rules.specs.declared.Answer.TheVariants.{Findings}
+use Rattle.watch_rules.specs.declared.Setting.{Setting}
+use Rattle.watch_rules.specs.declared.Setting.TheVariants as setting
+use Rattle.watch_rules.specs.declared.Settled.{Settled}
+use Rattle.watch_rules.specs.Table.{empty_table, set_up_of}
 use Rattle.playing_nights.specs.declared.Course.{Course}
 use Rattle.playing_nights.specs.declared.Course.TheVariants.{SetUps, Records, Refused}
 use Rattle.playing_nights.specs.declared.Replay.{Replay}

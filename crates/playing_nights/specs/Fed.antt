@@ -1,10 +1,10 @@
 -- The records of a log fed singly to the watch, and their lines. 02, Req 05: "Its lines must be those of the records fed singly".
 use Rattle.std.specs.Prelude.{ℕ, ◌+◌, List, [], ◌∷◌}
 use Rattle.log_records.specs.Record.{Rec, tick, frame}
-use Rattle.playing_line.specs.watch_rules.specs.declared.Table.{Table}
-use Rattle.playing_line.specs.watch_rules.specs.declared.Fed.{Fed}
-use Rattle.playing_line.specs.watch_rules.specs.Table.{place_of, Arriving, framing, ticking, feed_of}
-use Rattle.playing_line.specs.watch_rules.specs.Steps.{Steps, holder, feed01, feed_steps}
+use Rattle.watch_rules.specs.declared.Table.{Table}
+use Rattle.watch_rules.specs.declared.Fed.{Fed}
+use Rattle.watch_rules.specs.Table.{place_of, Arriving, framing, ticking, feed_of}
+use Rattle.watch_rules.specs.Steps.{Steps, holder, feed01, feed_steps}
 use Rattle.playing_line.specs.Lines.{line_of}
 
 -- ---- what a record brings to the watch

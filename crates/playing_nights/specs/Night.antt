@@ -3,11 +3,11 @@ use Rattle.std.specs.Prelude.{ℕ, zero, suc, List, [], ◌∷◌, length, take}
 use Rattle.refusals.specs.declared.Refusal.{Refusal}
 use Rattle.rule_limits.specs.declared.PlainLimits.{PlainLimits}
 use Rattle.log_records.specs.Reading.{Log, ends, then, clean, piece, refused, records_in}
-use Rattle.playing_line.specs.watch_rules.specs.declared.Table.{Table}
-use Rattle.playing_line.specs.watch_rules.specs.declared.Setting.{Setting}
-use Rattle.playing_line.specs.watch_rules.specs.declared.Setting.TheVariants as setting
-use Rattle.playing_line.specs.watch_rules.specs.Table.{set_up_of}
-use Rattle.playing_line.specs.watch_rules.specs.Steps.{Steps, set_up01, set_up_steps}
+use Rattle.watch_rules.specs.declared.Table.{Table}
+use Rattle.watch_rules.specs.declared.Setting.{Setting}
+use Rattle.watch_rules.specs.declared.Setting.TheVariants as setting
+use Rattle.watch_rules.specs.Table.{set_up_of}
+use Rattle.watch_rules.specs.Steps.{Steps, set_up01, set_up_steps}
 use Rattle.playing_nights.specs.declared.Replay.{Replay}
 use Rattle.playing_nights.specs.declared.Played.{Played}
 use Rattle.playing_nights.specs.declared.Played.TheVariants.{Line, End, Cut, Bad, SetUp, Short}

@@ -2,16 +2,16 @@
 use Rattle.std.specs.Prelude.{◌≡◌, refl, List, [], ◌∷◌, ◌++◌, map, ℕ, replicate}
 use Rattle.refusals.specs.declared.Refusal.TheVariants.{ChannelFree, Earlier, NoLabel, LogChannel, NoSuchPost, ChannelTaken}
 use Rattle.rule_limits.specs.declared.PlainLimits.{PlainLimits}
-use Rattle.playing_line.specs.rules.specs.After.{stamp_in, aged_to, silent_in, late_after, any_findings, with_counts, after_tick}
+use Rattle.rules.specs.After.{stamp_in, aged_to, silent_in, late_after, any_findings, with_counts, after_tick}
 use Rattle.log_numbers.specs.Number.{read_groups}
 use Rattle.page_table.specs.Table.{rows, first_at}
 use Rattle.page_interfaces.specs.Foreign.{is_foreign, judge_for}
 use Rattle.log_records.specs.Reading.{length_part, identifier_part, channel_part, time_part, record_at}
 use Rattle.text_numbers.specs.Numbers.{glyph_of, digits_in, numeral}
 use Rattle.text_pen.specs.Pens.{text_of}
-use Rattle.playing_line.specs.watch_rules.specs.declared.Answer.{Answer}
-use Rattle.playing_line.specs.watch_rules.specs.declared.Answer.TheVariants.{Findings, Refused}
-use Rattle.playing_line.specs.watch_rules.specs.Table.{place_of, place_named, some_place, place_in, heard_of, feed_at, feed_of, is_other, set_up_of}
+use Rattle.watch_rules.specs.declared.Answer.{Answer}
+use Rattle.watch_rules.specs.declared.Answer.TheVariants.{Findings, Refused}
+use Rattle.watch_rules.specs.Table.{place_of, place_named, some_place, place_in, heard_of, feed_at, feed_of, is_other, set_up_of}
 use Rattle.rule_limits.specs.Limits.{limits_fit}
 use Rattle.playing_nights.specs.declared.Played.TheVariants.{End, Cut, Bad, SetUp, Short}
 use Rattle.playing_line.specs.Lines.{line_room, refused_words, line_of}

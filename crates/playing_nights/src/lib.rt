@@ -1,10 +1,7 @@
 // What a replay of a night is (02, Req 05), without functions: one set-up and one call, whole nights, nights over pieces of a log, and the laws that hold them
 // to the records fed singly and to 01's rules. Whoever checks a replay against 02 reads this crate; playing_setups and playing_calls answer by it.
-// The crates among these are passed on to those above, which name them through this one.
-pub use playing_line;
-pub use playing_line::watch_rules;
-use playing_line::watch_rules::{Answer, Table};
 use refusals::Refusal;
+use watch_rules::{Answer, Table};
 
 // What a replay stands at: its set-ups may still come; records were fed; or a set-up was refused, which ended it.
 #[derive(Clone, Copy)]

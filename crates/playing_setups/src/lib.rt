@@ -1,14 +1,12 @@
 // A replay's start (02, Req 05): the table is set up from a short list of posts, before the first record. For every program that plays a log. Every public
 // function takes any input.
 ghost use Rattle.std.specs.Prelude.{◌≡◌};
-ghost use Rattle.watch.specs.watch_rules.specs.Table.{set_up_of};
+ghost use Rattle.watch_rules.specs.Table.{set_up_of};
 ghost use Rattle.playing_nights.specs.Call.{fresh, prepared_by, set_up_in};
 
-// The crates among these are passed on to those above, which name them through this one.
-pub use playing_nights;
 use playing_nights::{Course, Prepared, Preparing, Replay};
 use rule_limits::PlainLimits;
-use watch::watch_rules::Setting;
+use watch_rules::Setting;
 
 // No post is set up, and no record was fed.
 pub fn start() -> Replay

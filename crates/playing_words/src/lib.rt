@@ -4,10 +4,10 @@ ghost use Rattle.std.specs.Prelude.{length, ◌≡◌, ◌≤◌};
 ghost use Rattle.playing_words.specs.Plain.{course_of, course_word, refusal_at, replay_of, plain_of, prepared_word, start_by, set_up_by, told_by, next_left, line_by, line_left, next_after};
 
 use plain_words::refusal_word;
-use playing_nights::watch_rules::Table;
 use playing_nights::{Course, Next, Played, Preparing, Replay};
 use refusals::Refusal;
 use rule_limits::PlainLimits;
+use watch_rules::Table;
 
 // A replay as plain numbers: its table, the records fed so far, and its course: 0 where set-ups may come, 1 where records were fed, the word of the refusal
 // where a set-up was refused. Zeroed memory is a replay that was just started.

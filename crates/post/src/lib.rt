@@ -9,11 +9,11 @@ ghost use Rattle.post_times.specs.rules.specs.After.{after_tick, after_frame, ne
 mod step; // step.rt: a head after one event more
 
 // The crates among these are passed on to those above, which name them through this one.
+use post_findings::rule_pages::place_by;
 pub use post_times;
-use post_times::rule_limits::PlainLimits;
-use post_times::rule_pages::place_by;
+pub use post_times::rules;
 use post_times::rules::{AfterEvent, COUNTS, Head, PLACES, Post};
-pub use post_times::{rule_asks, rules};
+use rule_limits::PlainLimits;
 
 // A post that nothing was heard of.
 fn new_post(used: u32, channel: u32, limits: PlainLimits) -> Post

@@ -3,9 +3,9 @@ ghost use Rattle.std.specs.Prelude.{◌≡◌, ◌<◌};
 ghost use Rattle.post_times.specs.rules.specs.Record.{unknown, slot_at, closed_session};
 ghost use Rattle.post_times.specs.rules.specs.After.{kept_count, kept_put, opened_by, aged_to, with_frame, with_counts};
 
-use post_times::rule_asks::is_set;
-use post_times::rule_pages::{Role, role_of};
+use post_findings::rule_pages::{Role, role_of};
 use post_times::rules::{CONTROL_PLACE, Head, KEPT, STATUS_PLACE, STOP_PLACE, Session, Slot};
+use rule_asks::is_set;
 
 pub fn no_slot() -> Slot
     ensures { result ≡ unknown }

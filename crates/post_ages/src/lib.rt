@@ -2,10 +2,6 @@
 ghost use Rattle.std.specs.Prelude.{◌≡◌};
 ghost use Rattle.rules.specs.Times.{received_of, age_of};
 
-// The crates among these are passed on to those above, which name them through this one.
-pub use rules;
-pub use rules::{message_build, message_parts, older_build, rule_asks};
-
 // A kept time as it was received.
 pub fn received(time: u64) -> u32
     ensures { result ≡ received_of time }

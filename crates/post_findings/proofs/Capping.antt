@@ -2,10 +2,10 @@
 use Prim.Native.Nat.{ℕ}
 use mathlib.Core.Path.{◌≡◌}
 use mathlib.Core.Bool.{true}
-use Rattle.rules.specs.message_types.specs.declared.DcPowerParameters.{DcPowerParameters}
-use Rattle.rules.specs.rule_pages.specs.Said.{limits_by}
+use Rattle.message_types.specs.declared.DcPowerParameters.{DcPowerParameters}
+use Rattle.rule_pages.specs.Said.{limits_by}
 use Rattle.rules.specs.declared.Slot.{Slot}
-use Rattle.rules.specs.rule_limits.specs.Limits.{capped}
+use Rattle.rule_limits.specs.Limits.{capped}
 use Rattle.rules.specs.Record.{is_set}
 use Rattle.rules.specs.After.{limit_in}
 

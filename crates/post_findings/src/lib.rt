@@ -2,12 +2,14 @@
 ghost use Rattle.std.specs.Prelude.{◌≡◌, ◌≤◌};
 ghost use Rattle.rules.specs.After.{unready_after, unready_in, stopped_in, carrying_after, carrying_in, limit_in, control_findings, status_findings, opening_findings, finished_findings, message_findings};
 
-use rules::message_types::{DcPowerControl, NewChargeSession, PowerModulesStatus};
-use rules::rule_asks::*;
-use rules::rule_limits::cap;
-use rules::rule_limits::kept::sensor_of;
-use rules::rule_pages::{Role, command_by, limits_by, opening_by, role_of, status_by};
-use rules::{CONTROL_PLACE, Head, STATUS_PLACE, STOP_PLACE, Session, Slot, message_parts};
+// The crates among these are passed on to those above, which name them through this one.
+use message_types::{DcPowerControl, NewChargeSession, PowerModulesStatus};
+use rule_asks::*;
+use rule_limits::cap;
+use rule_limits::kept::sensor_of;
+pub use rule_pages;
+use rule_pages::{Role, command_by, limits_by, opening_by, role_of, status_by};
+use rules::{CONTROL_PLACE, Head, STATUS_PLACE, STOP_PLACE, Session, Slot};
 
 // ---- limits
 

@@ -7,8 +7,8 @@ use mathlib.Core.Bool.{Bool, true, false, cond}
 use borrow.Author.Tests.{lt-ltb, le-ltb, ltb-true, ltb-false}
 use lib.Dec.{ltb}
 use lib.ListN.{set}
-use Rattle.post_ages.specs.rules.specs.History.{count_from}
-use Rattle.post_ages.specs.rules.proofs.Counted.{count_same, count_set}
+use Rattle.rules.specs.History.{count_from}
+use Rattle.rules.proofs.Counted.{count_same, count_set}
 
 -- below k what is to stand there, from k on what stood there before
 abbrev pub filled_to : {A : Type 0} → (ℕ → A) → A → ℕ → ℕ → A

@@ -1,17 +1,17 @@
 // The record that a post hands out: messages instead of payload numbers. For whoever looks a post up.
 ghost use Rattle.std.specs.Prelude.{get_or, map, ◌≡◌, ◌+◌};
-ghost use Rattle.post_ages.specs.rules.specs.History.{count_from};
-ghost use Rattle.post_ages.specs.rules.specs.Record.{place_count, dated_at, unknown};
-ghost use Rattle.post_ages.specs.rules.specs.Right.{RecordRight};
-ghost use Rattle.post_ages.specs.rules.specs.After.{dated_in, part_in, kept_latest, last_in, finding_count, post_record};
+ghost use Rattle.rules.specs.History.{count_from};
+ghost use Rattle.rules.specs.Record.{place_count, dated_at, unknown};
+ghost use Rattle.rules.specs.Right.{RecordRight};
+ghost use Rattle.rules.specs.After.{dated_in, part_in, kept_latest, last_in, finding_count, post_record};
 
-use post_ages::rule_asks::is_set;
-use post_ages::rules::{
-    CONTROL_PLACE, COUNTS, Dated, FINDINGS, Head, KEPT, LastTime, Latest, OpenSession, PLACES,
-    Post, Record, STATUS_PLACE, STOP_PLACE, Session, SessionPart, Slot,
-};
-use post_ages::{age, message_build, message_parts, older_build, received};
+use post_ages::{age, received};
+use rule_asks::is_set;
 use rule_limits::kept::limits_in;
+use rules::{
+    CONTROL_PLACE, COUNTS, Dated, FINDINGS, Head, KEPT, LastTime, Latest, OpenSession, PLACES,
+    Post, Record, STATUS_PLACE, STOP_PLACE, Session, SessionPart, Slot, older_build,
+};
 
 // A frame by its message: of documents 000 and 004, or of 001.
 fn dated_at(time: u32, ms: u32, kind: usize, raw: u64) -> Dated

@@ -6,9 +6,8 @@ ghost use Rattle.rules.specs.Times.{wrapped, earlier, elapsed};
 ghost use Rattle.rules.specs.After.{stamp_in, is_early, later_of, silent_in, late_after, any_findings};
 
 // The crates among these are passed on to those above, which name them through this one.
+use rule_asks::{flag, is_set};
 pub use rules;
-use rules::rule_asks::{flag, is_set};
-pub use rules::{rule_asks, rule_limits, rule_pages};
 use rules::{Head, STATUS_PLACE, Session, Slot};
 
 // ---- the questions about times, each in one place

@@ -1,7 +1,7 @@
 // 02, Req 11 through the watch: an older post beside a newer one, from both sides.
 use crate::steps::{frame, latest, limits, older_limits, record, set_up, standard, tick};
 use readings_messages::show::text;
-use watch::watch_rules::Table;
+use watch_rules::Table;
 
 const STATUS: u32 = 0x60010;
 

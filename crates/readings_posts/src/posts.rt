@@ -4,7 +4,7 @@ use crate::steps::{
 };
 use readings_messages::show::text;
 use rule_limits::{Interface, Sensor};
-use watch::watch_rules::Table;
+use watch_rules::Table;
 
 const STATUS: u32 = 0x63000;
 

@@ -3,10 +3,10 @@ use message_types::kind_of;
 use readings_messages::show::{bytes, hex, natural, refusal, text};
 use refusals::Refusal;
 use rule_limits::{Interface, Limits, Sensor};
-use watch::rules::{
+use rules::{
     CONTROL_PLACE, Dated, KEPT, LastTime, Latest, PLACES, STATUS_PLACE, STOP_PLACE, SessionPart,
 };
-use watch::watch_rules::{Answer, Setting, Table};
+use watch_rules::{Answer, Setting, Table};
 
 fn refused(rt: HostRuntime, w: Refusal) {
     text(rt, b" -> ");

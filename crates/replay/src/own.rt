@@ -1,7 +1,7 @@
 // The table's own counts (02, Req 08), of all posts together, in a lent slice: what was accepted in place 0, and finding k in place k.
-use playing_nights::watch_rules::{POSTS, Table};
 use rules::COUNTS;
 use std::num::wrapping_add_u64;
+use watch_rules::{POSTS, Table};
 
 fn add(sums: &mut [u64], k: usize, n: u32) {
     if k < sums.len() {

@@ -3,12 +3,10 @@ ghost use Rattle.std.specs.Prelude.{◌≡◌, ◌&&◌, not, ◌≤◌};
 ghost use Rattle.rule_asks.specs.Judgements.{is_allowed, is_close, is_powered, is_carrying, is_off, is_standby, is_lowering, lowers_badly, outside, leaking, bad_insulation, differs, is_set, bit};
 ghost use Rattle.message_types.specs.Labels.{protocol_number, plug_number};
 
-// The crates among these are passed on to those above, which name them through this one.
 use message_types::{
     DcPowerControl, LowerOutput, NewChargeSession, OutputContactors, PowerFunction,
     PowerModulesStatus, SystemEnable,
 };
-pub use rule_limits;
 use rule_limits::Sensor;
 
 pub fn allowed(x: SystemEnable) -> bool

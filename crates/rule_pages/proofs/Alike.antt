@@ -3,11 +3,11 @@ use Prim.Native.Nat.{ℕ}
 use mathlib.Core.Path.{◌≡◌, refl}
 use mathlib.Core.Bool.{Bool, true, false, cond}
 use lib.Dec.{eqb}
-use Rattle.message_parts.specs.page_table.specs.Table.{rows, rows_of, of_kind}
-use Rattle.message_parts.specs.page_write.specs.Raws.{wholes_of, pad, raws_of}
-use Rattle.message_parts.specs.message_fields.specs.Fields.{at}
+use Rattle.page_table.specs.Table.{rows, rows_of, of_kind}
+use Rattle.page_write.specs.Raws.{wholes_of, pad, raws_of}
+use Rattle.message_fields.specs.Fields.{at}
 use Rattle.message_parts.specs.Parts.{status_in, session_in}
-use Rattle.older_power.specs.older_types.specs.KindNumbers as older
+use Rattle.older_types.specs.KindNumbers as older
 use Rattle.older_power.specs.Build as page
 use Rattle.rule_pages.specs.Said.{same_status, status_by, protocol_and_plug, opening_by}
 

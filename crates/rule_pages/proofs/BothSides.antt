@@ -3,11 +3,11 @@ use Prim.Native.Nat.{ℕ}
 use mathlib.Core.Path.{◌≡◌, refl}
 use Rattle.signal.specs.Signal.{get_bits}
 use Rattle.signal.specs.Twos.{to_signed}
-use Rattle.message_parts.specs.page_table.specs.Table.{rows, of_kind}
-use Rattle.message_parts.specs.page_write.specs.Raws.{wholes_of, pad, raws_of}
-use Rattle.message_parts.specs.message_types.specs.declared.PowerFunction.TheVariants.{InsulationTest, Precharge, PowerTransfer}
-use Rattle.message_parts.specs.message_types.specs.KindNumbers as newer
-use Rattle.older_power.specs.older_types.specs.KindNumbers as older
+use Rattle.page_table.specs.Table.{rows, of_kind}
+use Rattle.page_write.specs.Raws.{wholes_of, pad, raws_of}
+use Rattle.older_types.specs.message_types.specs.declared.PowerFunction.TheVariants.{InsulationTest, Precharge, PowerTransfer}
+use Rattle.older_types.specs.message_types.specs.KindNumbers as newer
+use Rattle.older_types.specs.KindNumbers as older
 use Rattle.rule_pages.specs.declared.Role.TheVariants.{Other, Status, Limits, Controller, Opening, Command, Finished, Stop}
 use Rattle.rule_pages.specs.Roles.{role_of}
 use Rattle.rule_pages.specs.Said.{limits_in, limits_by, command_by}

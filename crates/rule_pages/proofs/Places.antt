@@ -5,9 +5,9 @@ use mathlib.Core.Path.{◌≡◌}
 use mathlib.Core.Logic.{◌⊎◌, inl, inr}
 use borrow.Author.Tests.{lt-ltb, le-ltb}
 use Rattle.signal.proofs.Complement.{half_of}
-use Rattle.message_parts.specs.page_table.specs.Messages.{message_count}
-use Rattle.message_parts.specs.message_types.specs.KindNumbers.{safety_control_kind, sequence_kind}
-use Rattle.older_power.specs.older_types.specs.KindNumbers as older
+use Rattle.page_table.specs.Messages.{message_count}
+use Rattle.older_types.specs.message_types.specs.KindNumbers.{safety_control_kind, sequence_kind}
+use Rattle.older_types.specs.KindNumbers as older
 use Rattle.rule_pages.specs.Places.{place_count, place_by}
 
 -- of 000's base messages and 004, of 001's first nine, of its other nine, and of the rest of 000's

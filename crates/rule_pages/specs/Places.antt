@@ -1,8 +1,8 @@
 -- Where a post keeps the latest frame of a kind: a post has the kinds of one interface, so that a kind of 001 has a place that a kind of 000 has on another
 -- post, and those of 004 have places of their own.
 use Rattle.std.specs.Prelude.{ℕ, ◌+◌, ◌-◌, cond, ltb}
-use Rattle.message_parts.specs.message_types.specs.KindNumbers.{safety_control_kind, sequence_kind}
-use Rattle.older_power.specs.older_types.specs.KindNumbers as older
+use Rattle.older_types.specs.message_types.specs.KindNumbers.{safety_control_kind, sequence_kind}
+use Rattle.older_types.specs.KindNumbers as older
 
 abbrev pub place_count : ℕ
 place_count = 25

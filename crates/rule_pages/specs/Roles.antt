@@ -1,8 +1,8 @@
 -- Which question of 01's rules a frame answers, by its kind: a page of 000, and the page of 001 that stands for it (02, Req 11).
 -- A kind is of one interface alone, so that it tells by whose pages the frame was read.
 use Rattle.std.specs.Prelude.{ℕ, cond, eqb}
-use Rattle.message_parts.specs.message_types.specs.KindNumbers as newer
-use Rattle.older_power.specs.older_types.specs.KindNumbers as older
+use Rattle.older_types.specs.message_types.specs.KindNumbers as newer
+use Rattle.older_types.specs.KindNumbers as older
 use Rattle.rule_pages.specs.declared.Role.{Role}
 use Rattle.rule_pages.specs.declared.Role.TheVariants.{Other, Status, Limits, Controller, Opening, Command, Finished, Stop}
 

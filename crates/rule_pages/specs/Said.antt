@@ -1,21 +1,21 @@
 -- What a frame that answers a question of 01's rules says, in the words of 000: of a frame of 001, by the pages of 001 (02, Req 11).
 use Rattle.std.specs.Prelude.{ℕ, false, cond, eqb, pos}
-use Rattle.message_parts.specs.page_write.specs.Raws.{raws_of}
-use Rattle.message_parts.specs.message_fields.specs.Fields.{at, word_of}
-use Rattle.message_parts.specs.message_types.specs.declared.PowerModulesStatus.{PowerModulesStatus}
-use Rattle.message_parts.specs.message_types.specs.declared.DcPowerParameters.{DcPowerParameters}
-use Rattle.message_parts.specs.message_types.specs.declared.NewChargeSession.{NewChargeSession}
-use Rattle.message_parts.specs.message_types.specs.declared.DcPowerControl.{DcPowerControl}
-use Rattle.message_parts.specs.message_types.specs.declared.PowerFunction.{PowerFunction}
-use Rattle.message_parts.specs.message_types.specs.declared.PowerFunction.TheVariants.{InsulationTest, Precharge, PowerTransfer}
-use Rattle.message_parts.specs.message_types.specs.declared.SetpointsMode.TheVariants.{TargetMode}
-use Rattle.message_parts.specs.message_types.specs.declared.OutputContactors.TheVariants.{Open}
-use Rattle.message_parts.specs.message_types.specs.declared.LowerOutput.TheVariants.{NoLowering}
+use Rattle.page_write.specs.Raws.{raws_of}
+use Rattle.message_fields.specs.Fields.{at, word_of}
+use Rattle.older_types.specs.message_types.specs.declared.PowerModulesStatus.{PowerModulesStatus}
+use Rattle.older_types.specs.message_types.specs.declared.DcPowerParameters.{DcPowerParameters}
+use Rattle.older_types.specs.message_types.specs.declared.NewChargeSession.{NewChargeSession}
+use Rattle.older_types.specs.message_types.specs.declared.DcPowerControl.{DcPowerControl}
+use Rattle.older_types.specs.message_types.specs.declared.PowerFunction.{PowerFunction}
+use Rattle.older_types.specs.message_types.specs.declared.PowerFunction.TheVariants.{InsulationTest, Precharge, PowerTransfer}
+use Rattle.older_types.specs.message_types.specs.declared.SetpointsMode.TheVariants.{TargetMode}
+use Rattle.older_types.specs.message_types.specs.declared.OutputContactors.TheVariants.{Open}
+use Rattle.older_types.specs.message_types.specs.declared.LowerOutput.TheVariants.{NoLowering}
 use Rattle.message_parts.specs.Parts.{status_in, parameters_in, session_in, control_in}
-use Rattle.older_power.specs.older_types.specs.declared.PowerModulesStatus as older_status
-use Rattle.older_power.specs.older_types.specs.declared.NewChargeSession as older_session
-use Rattle.older_power.specs.older_types.specs.declared.PowerModulesLimits.{PowerModulesLimits}
-use Rattle.older_power.specs.older_types.specs.KindNumbers as older
+use Rattle.older_types.specs.declared.PowerModulesStatus as older_status
+use Rattle.older_types.specs.declared.NewChargeSession as older_session
+use Rattle.older_types.specs.declared.PowerModulesLimits.{PowerModulesLimits}
+use Rattle.older_types.specs.KindNumbers as older
 use Rattle.older_power.specs.Build as page
 
 -- ---- Power_Modules_Status, field by field

@@ -1,20 +1,18 @@
 // What a frame is to 01's rules, whichever interface's pages it is read by (02, Req 11): which of their questions it answers, what it then says in the words of
 // 000, and where a post keeps the latest of its kind. So that each rule is one text for posts of either interface. For the rules and the post's step.
 ghost use Rattle.std.specs.Prelude.{◌≡◌};
-ghost use Rattle.message_parts.specs.message_fields.specs.Fields.{word_of};
+ghost use Rattle.message_fields.specs.Fields.{word_of};
 ghost use Rattle.rule_pages.specs.Roles.{role_of};
 ghost use Rattle.rule_pages.specs.Said.{status_by, opening_by, told_by, limits_in, limits_by, acting, command_by};
 ghost use Rattle.rule_pages.specs.Places.{place_by};
 
-use message_parts::message_fields::{short_raw, word};
-use message_parts::message_types::{
+use message_fields::{short_raw, word};
+use older_types::message_types::{
     CONTROL, CONTROLLER, DcPowerControl, DcPowerParameters, FINISHED, LowerOutput,
     NewChargeSession, OutputContactors, PARAMETERS, PowerFunction, PowerModulesStatus, SESSION,
     STATUS, STOP, SetpointsMode,
 };
-use message_parts::{message_types, page_write};
-use older_power::older_types;
-use older_power::older_types::PowerModulesLimits;
+use older_types::{PowerModulesLimits, message_types};
 
 // The latest frames that a post keeps: as many as the newer interface has kinds.
 pub const PLACES: usize = 25;

@@ -5,12 +5,12 @@ use mathlib.Core.Path.{◌≡◌, refl}
 use mathlib.Core.List.{List, [], ◌∷◌}
 use Rattle.signal.specs.Signal.{get_bits}
 use Rattle.signal.specs.Twos.{to_signed}
-use Rattle.message_build.specs.page_table.specs.Table.{rows, of_kind, first_at}
-use Rattle.message_build.specs.page_write.specs.Raws.{wholes_of, pad, raws_of}
-use Rattle.message_build.specs.message_types.specs.KindNumbers.{stop_kind, safety_control_kind, safety_state_kind, probes_kind, sequence_kind, energy_kind, cui_kind, ocpp_kind}
+use Rattle.page_table.specs.Table.{rows, of_kind, first_at}
+use Rattle.page_write.specs.Raws.{wholes_of, pad, raws_of}
+use Rattle.older_types.specs.message_types.specs.KindNumbers.{stop_kind, safety_control_kind, safety_state_kind, probes_kind, sequence_kind, energy_kind, cui_kind, ocpp_kind}
 use Rattle.message_build.specs.message_parts.specs.Parts.{status_kind, parameters_kind, controller_kind, session_kind, control_kind, finished_kind, status_in, parameters_in, session_in, control_in}
-use Rattle.older_build.specs.older_types.specs.KindNumbers as older
-use Rattle.rule_asks.specs.rule_limits.specs.declared.PlainLimits.{PlainLimits}
+use Rattle.older_types.specs.KindNumbers as older
+use Rattle.rule_limits.specs.declared.PlainLimits.{PlainLimits}
 use Rattle.rule_pages.specs.Roles.{role_of}
 use Rattle.rule_pages.specs.Said.{status_by, opening_by, limits_in, limits_by, command_by}
 use Rattle.rule_asks.specs.Judgements.{lowers_badly, outside, leaking, bad_insulation, differs}

@@ -14,7 +14,7 @@ use Rattle.rule_pages.specs.declared.Role.TheVariants.{Limits, Controller}
 use Rattle.rule_pages.specs.Roles.{role_of}
 use Rattle.rule_pages.specs.Places.{place_by}
 use Rattle.rule_pages.proofs.Alike.{opening_alike}
-use Rattle.rule_asks.specs.rule_limits.specs.declared.PlainLimits.{PlainLimits}
+use Rattle.rule_limits.specs.declared.PlainLimits.{PlainLimits}
 use Rattle.rules.specs.declared.Latest.{Latest}
 use Rattle.rules.specs.History.{frame, tick, History, Said, role_number, asked, newest, since_finished, opening, in_session, count_from}
 use Rattle.rules.specs.Times.{earlier_in, stamp_of, latest_time, Unrolled}

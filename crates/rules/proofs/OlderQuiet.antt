@@ -7,8 +7,8 @@ use mathlib.Core.Bool.{Bool, true, false, cond}
 use mathlib.Core.Option.{none}
 use borrow.Author.Tests.{eqb-true, ne_eqb, le-ltb}
 use lib.Dec.{eqb, ltb}
-use Rattle.older_build.specs.older_types.specs.KindNumbers as older
-use Rattle.rule_asks.specs.rule_limits.specs.declared.PlainLimits.{PlainLimits}
+use Rattle.older_types.specs.KindNumbers as older
+use Rattle.rule_limits.specs.declared.PlainLimits.{PlainLimits}
 use Rattle.rule_asks.specs.Judgements.{lowers_badly}
 use Rattle.rule_pages.specs.declared.Role.{Role}
 use Rattle.rule_pages.specs.declared.Role.TheVariants.{Other, Status, Limits, Controller, Opening, Command, Finished, Stop}

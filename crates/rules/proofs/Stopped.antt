@@ -6,12 +6,12 @@ use mathlib.Core.List.{List, [], ◌∷◌, ◌++◌}
 use mathlib.Core.Bool.{Bool, true, false, ◌&&◌, true≢false}
 use mathlib.Core.Option.{Option, none, some}
 use Rattle.message_build.specs.message_parts.specs.Parts.{session_kind, control_kind, finished_kind, control_in}
-use Rattle.message_build.specs.message_types.specs.KindNumbers.{stop_kind}
-use Rattle.message_build.specs.page_table.specs.Table.{rows, of_kind}
-use Rattle.message_build.specs.page_write.specs.Raws.{wholes_of, pad, raws_of}
+use Rattle.older_types.specs.message_types.specs.KindNumbers.{stop_kind}
+use Rattle.page_table.specs.Table.{rows, of_kind}
+use Rattle.page_write.specs.Raws.{wholes_of, pad, raws_of}
 use Rattle.signal.specs.Signal.{get_bits}
 use Rattle.signal.specs.Twos.{to_signed}
-use Rattle.rule_asks.specs.rule_limits.specs.declared.PlainLimits.{PlainLimits}
+use Rattle.rule_limits.specs.declared.PlainLimits.{PlainLimits}
 use Rattle.rule_asks.specs.Judgements.{is_powered}
 use Rattle.rule_pages.specs.declared.Role.TheVariants.{Finished, Stop}
 use Rattle.rule_pages.specs.Roles.{role_of}

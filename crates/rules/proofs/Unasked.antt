@@ -8,10 +8,10 @@ use mathlib.Core.Bool.{false}
 use mathlib.Core.Option.{none}
 use lib.Dec.{eqb}
 use borrow.Author.Tests.{ne_eqb}
-use Rattle.message_build.specs.message_types.specs.KindNumbers as newer
-use Rattle.message_build.specs.message_types.specs.KindNumbers.{safety_control_kind, safety_state_kind, probes_kind, sequence_kind}
-use Rattle.older_build.specs.older_types.specs.KindNumbers as older
-use Rattle.rule_asks.specs.rule_limits.specs.declared.PlainLimits.{PlainLimits}
+use Rattle.older_types.specs.message_types.specs.KindNumbers as newer
+use Rattle.older_types.specs.message_types.specs.KindNumbers.{safety_control_kind, safety_state_kind, probes_kind, sequence_kind}
+use Rattle.older_types.specs.KindNumbers as older
+use Rattle.rule_limits.specs.declared.PlainLimits.{PlainLimits}
 use Rattle.rule_pages.specs.declared.Role.{Role}
 use Rattle.rule_pages.specs.declared.Role.TheVariants.{Other, Status, Limits, Controller, Opening, Command, Finished, Stop}
 use Rattle.rule_pages.specs.Roles.{role_of}

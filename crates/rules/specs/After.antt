@@ -2,14 +2,14 @@
 -- The first promise of an operation, by_record, is in these words; the second, by_history, is in those of looking back:
 -- `frame-look` and `tick-look` make the two one.
 use Rattle.std.specs.Prelude.{ℕ, suc, ◌+◌, ◌*◌, ◌/◌, ◌%◌, max, List, [], ◌∷◌, map, Bool, true, cond, not, ◌&&◌, ltb, leb, eqb, get_or, set, replicate}
-use Rattle.message_build.specs.message_types.specs.declared.DcPowerParameters.{DcPowerParameters}
-use Rattle.message_build.specs.message_types.specs.declared.DcPowerControl.{DcPowerControl}
-use Rattle.message_build.specs.message_types.specs.declared.PowerModulesStatus.{PowerModulesStatus}
-use Rattle.message_build.specs.message_types.specs.declared.NewChargeSession.{NewChargeSession}
+use Rattle.older_types.specs.message_types.specs.declared.DcPowerParameters.{DcPowerParameters}
+use Rattle.older_types.specs.message_types.specs.declared.DcPowerControl.{DcPowerControl}
+use Rattle.older_types.specs.message_types.specs.declared.PowerModulesStatus.{PowerModulesStatus}
+use Rattle.older_types.specs.message_types.specs.declared.NewChargeSession.{NewChargeSession}
 use Rattle.message_build.specs.message_parts.specs.Parts.{session_in}
-use Rattle.rule_asks.specs.rule_limits.specs.declared.PlainLimits.{PlainLimits}
-use Rattle.rule_asks.specs.rule_limits.specs.Limits.{capped}
-use Rattle.rule_asks.specs.rule_limits.specs.Sensor.{sensor_of, limits_of}
+use Rattle.rule_limits.specs.declared.PlainLimits.{PlainLimits}
+use Rattle.rule_limits.specs.Limits.{capped}
+use Rattle.rule_limits.specs.Sensor.{sensor_of, limits_of}
 use Rattle.rule_asks.specs.Judgements.{is_allowed, is_close, is_powered, is_carrying, is_off, lowers_badly, outside, bad_insulation, differs, bit}
 use Rattle.rule_pages.specs.declared.Role.{Role}
 use Rattle.rule_pages.specs.declared.Role.TheVariants.{Other, Status, Limits, Controller, Opening, Command, Finished, Stop}

@@ -1,7 +1,7 @@
 -- 02, Req 08: "Keep in each post's record eleven counts, one per finding, and the count of accepted frames and ticks since set-up, each 32 bits.
 -- Every operation keeps them equal to the count over that post's history". Req 14: "F12 has its own tally."
 use Rattle.std.specs.Prelude.{ℕ, ◌+◌, List, [], ◌∷◌, map, Bool, leb, length}
-use Rattle.rule_asks.specs.rule_limits.specs.declared.PlainLimits.{PlainLimits}
+use Rattle.rule_limits.specs.declared.PlainLimits.{PlainLimits}
 use Rattle.rule_asks.specs.Judgements.{bit}
 use Rattle.rules.specs.History.{History}
 use Rattle.rules.specs.Rules.{Rule, rules01}

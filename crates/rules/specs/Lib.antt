@@ -6,10 +6,4 @@ pub mod Record
 pub mod After
 pub mod Right
 -- crates that are passed on to those above, which name them through this one
-pub use Rattle.message_build.specs.message_types as message_types
-pub use Rattle.message_build as message_build
-pub use Rattle.older_build.specs.older_types as older_types
 pub use Rattle.older_build as older_build
-pub use Rattle.rule_asks.specs.rule_limits as rule_limits
-pub use Rattle.rule_asks as rule_asks
-pub use Rattle.rule_pages as rule_pages

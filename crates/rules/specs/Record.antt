@@ -7,15 +7,15 @@
 -- 02, Req 09: "the record keeps times as received and ages beside them".
 use Rattle.std.specs.Prelude.{ℕ, List, [], ◌∷◌, map, Bool, true, false, cond, eqb, length}
 use Rattle.std.proofs.Math.Option.{Option, none, some}
-use Rattle.message_build.specs.page_table.specs.declared.Interface.TheVariants.{Newer}
-use Rattle.message_build.specs.page_table.specs.Interfaces.{is_on}
+use Rattle.page_table.specs.declared.Interface.TheVariants.{Newer}
+use Rattle.page_table.specs.Interfaces.{is_on}
 use Rattle.message_build.specs.Built.{message_of}
 use Rattle.older_build.specs.Built as older
 pub use Rattle.rule_pages.specs.Places.{place_count}
 use Rattle.rule_pages.specs.Places.{place_by}
 use Rattle.rule_pages.specs.Said.{opening_by}
-use Rattle.rule_asks.specs.rule_limits.specs.declared.PlainLimits.{PlainLimits}
-use Rattle.rule_asks.specs.rule_limits.specs.Sensor.{limits_of}
+use Rattle.rule_limits.specs.declared.PlainLimits.{PlainLimits}
+use Rattle.rule_limits.specs.Sensor.{limits_of}
 pub use Rattle.rule_asks.specs.Judgements.{is_set}
 use Rattle.rule_asks.specs.Judgements.{bit}
 use Rattle.rules.specs.declared.Slot.{Slot}

@@ -1,6 +1,6 @@
 -- What a step of a post is to be, said of the history that the post stands for: the second promise of the functions that step a post and hand out its record.
 use Rattle.std.specs.Prelude.{ℕ, ◌≡◌, ◌∷◌, false}
-use Rattle.rule_asks.specs.rule_limits.specs.declared.PlainLimits.{PlainLimits}
+use Rattle.rule_limits.specs.declared.PlainLimits.{PlainLimits}
 use Rattle.rules.specs.declared.Head.{Head}
 use Rattle.rules.specs.declared.Post.{Post}
 use Rattle.rules.specs.declared.AfterEvent.{AfterEvent}

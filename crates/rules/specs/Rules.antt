@@ -1,14 +1,14 @@
 -- 01, "What the session watch finds", and 02, Req 14: each rule over the history before the event and the event itself.
 use Rattle.std.specs.Prelude.{ℕ, ◌+◌, max, List, [], ◌∷◌, map, Bool, true, false, not, ◌&&◌, ltb}
 use Rattle.std.proofs.Math.Option.{Option, none, some}
-use Rattle.message_build.specs.message_types.specs.declared.DcPowerParameters.{DcPowerParameters}
+use Rattle.older_types.specs.message_types.specs.declared.DcPowerParameters.{DcPowerParameters}
 use Rattle.rule_pages.specs.Said.{status_by, limits_by, opening_by, command_by}
-use Rattle.rule_asks.specs.rule_limits.specs.declared.PlainLimits.{PlainLimits}
+use Rattle.rule_limits.specs.declared.PlainLimits.{PlainLimits}
 use Rattle.rules.specs.History.{Event, History, Said, time_of, newest, status_of, command_of, limits_told, controller_of, opening_of, finished_of, stop_of, opening, in_session}
 use Rattle.rules.specs.Times.{elapsed}
-use Rattle.rule_asks.specs.rule_limits.specs.Sensor.{sensor_of}
+use Rattle.rule_limits.specs.Sensor.{sensor_of}
 use Rattle.rule_asks.specs.Judgements.{is_allowed, is_close, is_powered, is_carrying, is_off, lowers_badly, outside, bad_insulation, differs, bit}
-use Rattle.rule_asks.specs.rule_limits.specs.Limits.{capped}
+use Rattle.rule_limits.specs.Limits.{capped}
 
 -- a test of what was found, failing where nothing was
 abbrev pub ask : {A : Type 0} → Option A → (A → Bool) → Bool

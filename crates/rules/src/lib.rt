@@ -7,15 +7,9 @@
 //   specs/After.antt       the same step by step, as the code of `post` takes it; proofs/Look.antt has the laws that make it looking back
 // For every crate that steps a post or hands out its record. What a rule asks of a message's fields stands in `rule_asks`, limits in `rule_limits`.
 // The crates among these are passed on to those above, which name them through this one.
-pub use message_build;
-use message_build::message_types::{Message, Plug, Protocol};
-pub use message_build::{message_parts, message_types};
 pub use older_build;
-use older_build::older_types;
-pub use rule_asks;
-pub use rule_asks::rule_limits;
-use rule_asks::rule_limits::{Limits, PlainLimits};
-pub use rule_pages;
+use older_types::message_types::{Message, Plug, Protocol};
+use rule_limits::{Limits, PlainLimits};
 pub use rule_pages::PLACES;
 
 pub const FINDINGS: usize = 12;

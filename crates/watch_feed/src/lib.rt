@@ -6,11 +6,8 @@ ghost use Rattle.std.specs.Prelude.{◌≡◌, ◌<◌};
 ghost use Rattle.watch_hear.specs.watch_rules.specs.Steps.{Steps, Kept, FeedRight};
 ghost use Rattle.watch_hear.specs.watch_rules.specs.Table.{post_count, framing, ticking, fed_by, feed_of};
 
-// The crates among these are passed on to those above, which name them through this one.
-pub use watch_hear;
 use watch_hear::watch_places::{put, some_place, store};
 use watch_hear::watch_rules::{Arrival, Fed, Heard, Table};
-pub use watch_hear::{watch_places, watch_rules};
 use watch_hear::{arrival_for, hear, refused_after};
 
 // The table with what the post at a place heard.

@@ -6,6 +6,7 @@ ghost use Rattle.watch_places.specs.watch_rules.specs.Steps.{HearRight};
 ghost use Rattle.watch_places.specs.watch_rules.specs.Table.{arrival_for, turned_away, heard_by, unless_full, heard_of, one_more, refused_after};
 
 // The crates among these are passed on to those above, which name them through this one.
+use page_interfaces::judge_for;
 use page_read::Judged;
 use post::post_times;
 use post::rules::{Head, PLACES, Slot};
@@ -13,7 +14,6 @@ use refusals::Refusal;
 use rule_limits::PlainLimits;
 use rule_limits::kept::interface_of;
 pub use watch_places;
-use watch_places::page_interfaces::judge_for;
 pub use watch_places::watch_rules;
 use watch_places::watch_rules::{Answer, Arrival, Heard};
 

@@ -5,11 +5,9 @@ ghost use Rattle.watch_places.specs.watch_rules.specs.Run.{Request, run, refused
 ghost use Rattle.watch_places.specs.watch_rules.specs.Steps.{Steps, Kept, look_up01};
 ghost use Rattle.watch_places.specs.watch_rules.specs.Table.{look_up_of, no_record};
 
-// The crates among these are passed on to those above, which name them through this one.
-use post::rule_asks::is_set;
 use post::rules::Record;
 use refusals::Refusal;
-pub use watch_places;
+use rule_asks::is_set;
 use watch_places::is_post;
 use watch_places::watch_rules::{LookedUp, Setting, Table};
 

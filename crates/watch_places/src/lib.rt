@@ -5,7 +5,6 @@ ghost use Rattle.watch_rules.specs.Table.{post_count, is_post, holds, place_of, 
 
 // The crates among these are passed on to those above, which name them through this one.
 pub use watch_rules;
-pub use watch_rules::page_interfaces;
 use watch_rules::rules::{Head, PLACES, Post, Slot};
 use watch_rules::{CHANNELS, POSTS, Table};
 

@@ -8,18 +8,18 @@ use Rattle.signal.specs.Signal.{get_bits}
 use Rattle.signal.specs.Twos.{to_signed}
 use Rattle.payload.specs.Payload.{le_number, be_number}
 use Rattle.page_table.specs.Table.{rows, of_kind, first_at, covered}
-use Rattle.page_interfaces.specs.page_read.specs.Judge.{unlabelled, offender, stray_below, judged_number, judge_on}
+use Rattle.page_read.specs.Judge.{unlabelled, offender, stray_below, judged_number, judge_on}
 use Rattle.page_interfaces.specs.Foreign.{is_foreign, judge_for}
 use Rattle.rules.specs.older_build.specs.Built as olderBuilt
-use Rattle.rules.specs.rule_pages.specs.Roles.{role_of}
-use Rattle.rules.specs.rule_pages.specs.Said.{status_by, opening_by, limits_in, limits_by, command_by}
-use Rattle.rules.specs.rule_pages.specs.Places.{place_by}
+use Rattle.rule_pages.specs.Roles.{role_of}
+use Rattle.rule_pages.specs.Said.{status_by, opening_by, limits_in, limits_by, command_by}
+use Rattle.rule_pages.specs.Places.{place_by}
 use Rattle.rules.specs.Record.{dated_at}
-use Rattle.messages.specs.page_write.specs.Raws.{wholes_of, pad, raws_of}
-use Rattle.messages.specs.message_parts.specs.Parts.{status_in, parameters_in, session_in, control_in}
+use Rattle.page_write.specs.Raws.{wholes_of, pad, raws_of}
+use Rattle.message_parts.specs.Parts.{status_in, parameters_in, session_in, control_in}
 use Rattle.messages.specs.message_build.specs.Built.{message_of, built_of}
 use Rattle.rule_limits.specs.Limits.{limits_fit}
-use Rattle.rules.specs.rule_asks.specs.Judgements.{lowers_badly, outside, leaking, bad_insulation, differs}
+use Rattle.rule_asks.specs.Judgements.{lowers_badly, outside, leaking, bad_insulation, differs}
 use Rattle.rules.specs.declared.Dated.{Dated}
 use Rattle.rules.specs.declared.Dated.TheVariants as dated
 use Rattle.rules.specs.After.{session_after, stamp_in, aged_to, with_frame, silent_in, late_after, any_findings, unready_in, carrying_in, stopped_in, control_findings, status_findings, opening_findings, finished_findings, message_findings, counted, with_counts, after_tick, after_frame, post_record}

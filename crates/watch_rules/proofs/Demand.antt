@@ -8,7 +8,7 @@ use lib.ListN.{get_or}
 use borrow.Author.Tests.{eqb-true, eq-eqb, ltb-true, lt-ltb}
 use Rattle.refusals.specs.declared.Refusal.{Refusal}
 use Rattle.refusals.specs.declared.Refusal.TheVariants.{ChannelFree, Earlier, CountFull}
-use Rattle.page_interfaces.specs.page_read.specs.declared.Judged.TheVariants as judged
+use Rattle.page_read.specs.declared.Judged.TheVariants as judged
 use Rattle.page_interfaces.specs.Foreign.{judge_for}
 use Rattle.rule_limits.specs.declared.PlainLimits.{PlainLimits}
 use Rattle.rule_limits.specs.Sensor.{interface_of}

@@ -8,14 +8,14 @@ use mathlib.Core.Bool.{Bool, true, false}
 use borrow.Author.Tests.{ltb-true, le-leb, lt-leb}
 use lib.ListN.{length, replicate}
 use Rattle.refusals.specs.declared.Refusal.TheVariants.{ChannelFree, CountFull}
-use Rattle.page_interfaces.specs.page_read.specs.declared.Judged.TheVariants as judged
+use Rattle.page_read.specs.declared.Judged.TheVariants as judged
 use Rattle.page_table.specs.Table.{rows, of_kind, first_at, covered}
-use Rattle.page_interfaces.specs.page_read.specs.Judge.{unlabelled, stray_below, judged_number, judge_on}
+use Rattle.page_read.specs.Judge.{unlabelled, stray_below, judged_number, judge_on}
 use Rattle.page_table.specs.declared.Interface.TheVariants.{Newer}
 use Rattle.page_interfaces.specs.Foreign.{is_foreign, judge_for}
-use Rattle.rules.specs.rule_pages.specs.Roles.{role_of}
-use Rattle.rules.specs.rule_pages.specs.Said.{status_by, opening_by, limits_by, command_by}
-use Rattle.messages.specs.page_write.specs.Raws.{wholes_of, pad, raws_of}
+use Rattle.rule_pages.specs.Roles.{role_of}
+use Rattle.rule_pages.specs.Said.{status_by, opening_by, limits_by, command_by}
+use Rattle.page_write.specs.Raws.{wholes_of, pad, raws_of}
 use Rattle.signal.specs.Signal.{get_bits}
 use Rattle.payload.specs.Payload.{le_number}
 use Rattle.signal.specs.Twos.{to_signed}

@@ -9,7 +9,7 @@ use borrow.Author.Tests.{ltb-true, ltb-false}
 use lib.Dec.{ltb}
 use Rattle.rule_limits.specs.declared.PlainLimits.{PlainLimits}
 use Rattle.rule_limits.specs.Limits.{limits_fit}
-use Rattle.rules.specs.rule_asks.specs.Judgements.{bit}
+use Rattle.rule_asks.specs.Judgements.{bit}
 use Rattle.rules.specs.Counts.{largest}
 use Rattle.rules.specs.Record.{is_set}
 use Rattle.watch_rules.specs.declared.Table.{Table}

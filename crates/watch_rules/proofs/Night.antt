@@ -8,23 +8,23 @@ use mathlib.Core.Path.{◌≡◌, refl, ap, sym, ◌∙◌}
 use mathlib.Core.Bool.{Bool, true, false}
 use mathlib.Core.List.{List, [], ◌∷◌}
 use Rattle.refusals.specs.declared.Refusal.TheVariants.{ChannelFree, ChannelTaken, TooShort}
-use Rattle.page_interfaces.specs.page_read.specs.declared.Judged.TheVariants as judged
+use Rattle.page_read.specs.declared.Judged.TheVariants as judged
 use Rattle.page_table.specs.Table.{rows, of_kind, first_at, covered}
-use Rattle.page_interfaces.specs.page_read.specs.Judge.{unlabelled, stray_below, judged_number, judge_on}
+use Rattle.page_read.specs.Judge.{unlabelled, stray_below, judged_number, judge_on}
 use Rattle.page_table.specs.declared.Interface.TheVariants.{Newer}
 use Rattle.page_interfaces.specs.Foreign.{is_foreign, judge_for}
-use Rattle.rules.specs.rule_pages.specs.Roles.{role_of}
-use Rattle.rules.specs.rule_pages.specs.Said.{status_by, opening_by, limits_by, command_by}
-use Rattle.messages.specs.page_write.specs.Raws.{wholes_of, pad, raws_of}
+use Rattle.rule_pages.specs.Roles.{role_of}
+use Rattle.rule_pages.specs.Said.{status_by, opening_by, limits_by, command_by}
+use Rattle.page_write.specs.Raws.{wholes_of, pad, raws_of}
 use Rattle.signal.specs.Signal.{get_bits}
 use Rattle.payload.specs.Payload.{le_number}
 use Rattle.signal.specs.Twos.{to_signed}
-use Rattle.messages.specs.message_parts.specs.Parts.{status_in, parameters_in, session_in, control_in}
+use Rattle.message_parts.specs.Parts.{status_in, parameters_in, session_in, control_in}
 use Rattle.rule_limits.specs.declared.PlainLimits.{PlainLimits}
 use Rattle.rules.specs.History.{History, since_finished, opening, in_session}
 use Rattle.rules.specs.Times.{earlier_in}
 use Rattle.rules.specs.History as history
-use Rattle.rules.specs.rule_asks.specs.Judgements.{lowers_badly, outside, leaking, bad_insulation, differs}
+use Rattle.rule_asks.specs.Judgements.{lowers_badly, outside, leaking, bad_insulation, differs}
 use Rattle.rules.specs.Rules.{session_status, session_control, session_stop, limit_of, f1, f2, f3, f4, f5, f6, f7, f8, f9, f10, f11, f12, findings01}
 use Rattle.rules.specs.declared.Post.{Post}
 use Rattle.rules.specs.Record.{is_set, record_of}

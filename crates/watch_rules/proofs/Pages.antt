@@ -16,17 +16,17 @@ use Rattle.page_table.specs.declared.Interface.TheVariants.{Newer, Older}
 use Rattle.page_table.specs.Messages.{message_count}
 use Rattle.page_table.specs.Interfaces.{is_on}
 use Rattle.page_table.proofs.Rules.{not_both}
-use Rattle.page_interfaces.specs.page_read.specs.declared.Judged.{Judged}
-use Rattle.page_interfaces.specs.page_read.specs.declared.Judged.TheVariants as judged
-use Rattle.page_interfaces.specs.page_read.specs.Judge.{judge_on}
-use Rattle.page_interfaces.specs.page_read.proofs.Interfaces.{on_own, on_table}
+use Rattle.page_read.specs.declared.Judged.{Judged}
+use Rattle.page_read.specs.declared.Judged.TheVariants as judged
+use Rattle.page_read.specs.Judge.{judge_on}
+use Rattle.page_read.proofs.Interfaces.{on_own, on_table}
 use Rattle.page_interfaces.specs.Foreign.{is_foreign, judge_for}
-use Rattle.messages.specs.message_types.specs.KindNumbers.{safety_control_kind, sequence_kind}
-use Rattle.rules.specs.older_types.specs.KindNumbers as older
+use Rattle.message_types.specs.KindNumbers.{safety_control_kind, sequence_kind}
+use Rattle.older_types.specs.KindNumbers as older
 use Rattle.rule_limits.specs.declared.PlainLimits.{PlainLimits}
 use Rattle.rule_limits.specs.Sensor.{interface_of}
-use Rattle.rules.specs.rule_pages.specs.Places.{place_by}
-use Rattle.rules.specs.rule_pages.proofs.Places.{place_small}
+use Rattle.rule_pages.specs.Places.{place_by}
+use Rattle.rule_pages.proofs.Places.{place_small}
 use Rattle.rules.specs.declared.Latest.{Latest}
 use Rattle.rules.specs.History.{frame, tick, History, Said, newest, of_kind}
 use Rattle.rules.specs.Times.{earlier_in, latest_time}

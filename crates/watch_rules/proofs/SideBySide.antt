@@ -10,17 +10,17 @@ use Rattle.refusals.specs.declared.Refusal.TheVariants.{OtherInterface}
 use Rattle.page_table.specs.Messages.{message_count}
 use Rattle.page_table.specs.Table.{rows, of_kind, first_at, covered}
 use Rattle.page_table.specs.declared.Interface.TheVariants.{Newer, Older}
-use Rattle.page_interfaces.specs.page_read.specs.Judge.{unlabelled, stray_below, judged_number, judge_on}
+use Rattle.page_read.specs.Judge.{unlabelled, stray_below, judged_number, judge_on}
 use Rattle.page_interfaces.specs.Foreign.{is_foreign, judge_for}
-use Rattle.messages.specs.page_write.specs.Raws.{wholes_of, pad, raws_of}
+use Rattle.page_write.specs.Raws.{wholes_of, pad, raws_of}
 use Rattle.signal.specs.Signal.{get_bits}
 use Rattle.payload.specs.Payload.{le_number}
 use Rattle.signal.specs.Twos.{to_signed}
-use Rattle.rules.specs.older_types.specs.KindNumbers as older
+use Rattle.older_types.specs.KindNumbers as older
 use Rattle.rule_limits.specs.declared.PlainLimits.{PlainLimits}
 use Rattle.rule_limits.specs.Limits.{limits_fit}
-use Rattle.rules.specs.rule_pages.specs.Roles.{role_of}
-use Rattle.rules.specs.rule_pages.specs.Places.{place_by}
+use Rattle.rule_pages.specs.Roles.{role_of}
+use Rattle.rule_pages.specs.Places.{place_by}
 use Rattle.rules.specs.declared.Latest.{Latest}
 use Rattle.rules.specs.History as history
 use Rattle.rules.specs.History.{History, newest, said_at, since_finished, opening, in_session}

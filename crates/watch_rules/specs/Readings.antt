@@ -5,32 +5,32 @@ use Rattle.refusals.specs.declared.Refusal.TheVariants.{ChannelFree, Earlier, Un
 use Rattle.page_table.specs.Table.{rows, of_kind, first_at, covered}
 use Rattle.page_table.specs.declared.Interface.{Interface}
 use Rattle.page_table.specs.declared.Interface.TheVariants.{Newer, Older}
-use Rattle.page_interfaces.specs.page_read.specs.Judge.{unlabelled, offender, stray_below, judged_number, judge_on}
+use Rattle.page_read.specs.Judge.{unlabelled, offender, stray_below, judged_number, judge_on}
 use Rattle.page_interfaces.specs.Foreign.{is_foreign, judge_for}
-use Rattle.messages.specs.page_write.specs.Raws.{wholes_of, pad, raws_of}
+use Rattle.page_write.specs.Raws.{wholes_of, pad, raws_of}
 use Rattle.signal.specs.Signal.{get_bits}
 use Rattle.payload.specs.Payload.{le_number, be_number}
 use Rattle.signal.specs.Twos.{to_signed}
-use Rattle.messages.specs.message_types.specs.declared.CpState.TheVariants as cp
-use Rattle.messages.specs.message_types.specs.declared.PpState.TheVariants as pp
-use Rattle.messages.specs.message_types.specs.declared.Message.TheVariants.{Stop, SafetyState, Probes, Sequence, Energy, Ocpp}
-use Rattle.messages.specs.message_types.specs.declared.StopOrigin.TheVariants.{Evse, Pev}
-use Rattle.messages.specs.message_types.specs.declared.Protocol.TheVariants.{CcsIso15118v2013}
-use Rattle.messages.specs.message_types.specs.declared.Plug.TheVariants.{CcsDcExtended}
-use Rattle.messages.specs.message_types.specs.declared.SystemEnable.TheVariants.{Allowed}
-use Rattle.messages.specs.message_types.specs.declared.Permission.TheVariants as permission
-use Rattle.messages.specs.message_types.specs.declared.Button.TheVariants as button
-use Rattle.messages.specs.message_types.specs.declared.Step.TheVariants as step
-use Rattle.messages.specs.message_types.specs.declared.Validity.TheVariants as validity
-use Rattle.messages.specs.message_types.specs.KindNumbers.{safety_state_kind, probes_kind, sequence_kind, energy_kind, ocpp_kind}
-use Rattle.messages.specs.message_parts.specs.Parts.{status_in, parameters_in, session_in, control_in}
+use Rattle.message_types.specs.declared.CpState.TheVariants as cp
+use Rattle.message_types.specs.declared.PpState.TheVariants as pp
+use Rattle.message_types.specs.declared.Message.TheVariants.{Stop, SafetyState, Probes, Sequence, Energy, Ocpp}
+use Rattle.message_types.specs.declared.StopOrigin.TheVariants.{Evse, Pev}
+use Rattle.message_types.specs.declared.Protocol.TheVariants.{CcsIso15118v2013}
+use Rattle.message_types.specs.declared.Plug.TheVariants.{CcsDcExtended}
+use Rattle.message_types.specs.declared.SystemEnable.TheVariants.{Allowed}
+use Rattle.message_types.specs.declared.Permission.TheVariants as permission
+use Rattle.message_types.specs.declared.Button.TheVariants as button
+use Rattle.message_types.specs.declared.Step.TheVariants as step
+use Rattle.message_types.specs.declared.Validity.TheVariants as validity
+use Rattle.message_types.specs.KindNumbers.{safety_state_kind, probes_kind, sequence_kind, energy_kind, ocpp_kind}
+use Rattle.message_parts.specs.Parts.{status_in, parameters_in, session_in, control_in}
 use Rattle.messages.specs.message_build.specs.Built.{message_of, built_of}
 use Rattle.messages.specs.Readings as messages
-use Rattle.rules.specs.older_types.specs.declared.Message.TheVariants as older
+use Rattle.older_types.specs.declared.Message.TheVariants as older
 use Rattle.rules.specs.older_build.specs.Built as olderBuilt
-use Rattle.rules.specs.rule_pages.specs.Roles.{role_of}
-use Rattle.rules.specs.rule_pages.specs.Said.{status_by, opening_by, limits_in, limits_by, command_by}
-use Rattle.rules.specs.rule_pages.specs.Places.{place_by}
+use Rattle.rule_pages.specs.Roles.{role_of}
+use Rattle.rule_pages.specs.Said.{status_by, opening_by, limits_in, limits_by, command_by}
+use Rattle.rule_pages.specs.Places.{place_by}
 use Rattle.rule_limits.specs.declared.PlainLimits.{PlainLimits}
 use Rattle.rule_limits.specs.declared.Sensor.{Sensor}
 use Rattle.rule_limits.specs.declared.Sensor.TheVariants.{Measuring, YesNo}
@@ -43,7 +43,7 @@ use Rattle.rules.specs.declared.SessionPart.TheVariants as part
 use Rattle.rules.specs.declared.Record.{Record}
 use Rattle.rules.specs.History.{since_finished, opening, in_session}
 use Rattle.rules.specs.Times.{earlier_in}
-use Rattle.rules.specs.rule_asks.specs.Judgements.{lowers_badly, outside, leaking, bad_insulation, differs}
+use Rattle.rule_asks.specs.Judgements.{lowers_badly, outside, leaking, bad_insulation, differs}
 use Rattle.rules.specs.Rules.{session_status, session_control, session_stop, limit_of, f1, f2, f3, f4, f5, f6, f7, f8, f9, f10, f11, f12, findings01}
 use Rattle.rules.specs.Counts.{tallies_of}
 use Rattle.rules.specs.Record.{place_count, dated_at, record_as_of}

@@ -6,7 +6,7 @@ use Rattle.watch_rules.specs.declared.Answer.{Answer}
 use Rattle.watch_rules.specs.declared.Answer.TheVariants.{Findings, Refused}
 use Rattle.watch_rules.specs.declared.Setting.{Setting}
 use Rattle.watch_rules.specs.declared.Setting.TheVariants as setting
-use Rattle.rules.specs.rule_asks.specs.Judgements.{bit}
+use Rattle.rule_asks.specs.Judgements.{bit}
 use Rattle.watch_rules.specs.Table.{post_count, one_refused, empty_table, framing, ticking, feed_of, set_up_of, release_of}
 use Rattle.watch_rules.specs.Steps.{Steps, standing, holds_in, feed01, set_up01, release01, feed_steps, set_up_steps, release_steps}
 

@@ -2,8 +2,8 @@
 use Rattle.std.specs.Prelude.{ℕ, suc, ◌+◌, ◌-◌, ◌%◌, List, [], ◌∷◌, Bool, cond, not, ◌&&◌, ltb, leb, eqb, get_or, set, replicate}
 use Rattle.refusals.specs.declared.Refusal.{Refusal}
 use Rattle.refusals.specs.declared.Refusal.TheVariants.{ChannelFree, Earlier, NoSuchPost, NoSuchChannel, ChannelTaken, LimitOutside, NotSetUp, CountFull}
-use Rattle.page_interfaces.specs.page_read.specs.declared.Judged.{Judged}
-use Rattle.page_interfaces.specs.page_read.specs.declared.Judged.TheVariants as judged
+use Rattle.page_read.specs.declared.Judged.{Judged}
+use Rattle.page_read.specs.declared.Judged.TheVariants as judged
 use Rattle.page_interfaces.specs.Foreign.{judge_for}
 use Rattle.rule_limits.specs.declared.PlainLimits.{PlainLimits}
 use Rattle.rule_limits.specs.Limits.{limits_fit}

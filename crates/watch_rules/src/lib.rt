@@ -7,7 +7,6 @@
 // proofs/Right.antt makes the two one, proofs/Demand.antt has demand 3, proofs/Index.antt what is promised of the index, proofs/Night.antt demand 3 on a night.
 // For every crate that holds a table.
 // The crates among these are passed on to those above, which name them through this one.
-pub use page_interfaces;
 use refusals::Refusal;
 pub use rules;
 use rules::{Head, Post, Record, Slot};

@@ -1,2 +1,0 @@
--- crates that are passed on to those above, which name them through this one
-pub use Rattle.post.specs.rules as rules

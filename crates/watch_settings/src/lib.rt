@@ -6,11 +6,9 @@ ghost use Rattle.post.specs.rules.specs.After.{fresh_post};
 ghost use Rattle.watch_places.specs.watch_rules.specs.Steps.{Steps, Kept, SetUpRight, ReleaseRight};
 ghost use Rattle.watch_places.specs.watch_rules.specs.Table.{post_count, empty_table, is_other, unnamed, seat, set_up_of, release_of};
 
-// The crates among these are passed on to those above, which name them through this one.
-use post::rule_asks::is_set;
-pub use post::rules;
 use post::rules::Head;
 use refusals::Refusal;
+use rule_asks::is_set;
 use rule_limits::{Limits, PlainLimits, limits_fit};
 use watch_places::watch_rules::{CHANNELS, POSTS, Setting, Settled, Table};
 use watch_places::{is_post, place, put, put_entry};

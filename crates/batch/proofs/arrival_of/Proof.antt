@@ -4,7 +4,7 @@ use Prim.Native.Nat.{ℕ}
 use native.Mathlib.Nat.{add-sub_cancel_left}
 use lib.ListN.{take, drop}
 use borrow.Author.Rules.{rules}
-use Rattle.batch_rules.specs.watch_rules.specs.Table.{arrival_for}
+use Rattle.watch_rules.specs.Table.{arrival_for}
 use Rattle.batch.proofs.arrival_of.Statement.{statement}
 use Rattle.batch.proofs.arrival_of.Tie as tie
 

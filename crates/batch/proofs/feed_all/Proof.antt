@@ -9,10 +9,10 @@ use lib.ListN.{length, length-map}
 use types.Run.{OneOf, miss}
 use denote.Enum.Declared.{tag_of}
 use borrow.Author.Rules.{rules}
-use Rattle.batch_rules.specs.rules.proofs.Unmapped.{unmapped}
-use Rattle.batch_rules.specs.rules.specs.declared.Post.{Post}
-use Rattle.batch_rules.specs.watch_rules.specs.declared.Table.{Table}
-use Rattle.batch_rules.specs.watch_rules.specs.Table.{post_count}
+use Rattle.rules.proofs.Unmapped.{unmapped}
+use Rattle.rules.specs.declared.Post.{Post}
+use Rattle.watch_rules.specs.declared.Table.{Table}
+use Rattle.watch_rules.specs.Table.{post_count}
 use Rattle.log_records.specs.declared.Found.{Found}
 use Rattle.log_records.specs.declared.Found.TheVariants.{Record, End, Cut, Refused}
 use Rattle.log_records.specs.Reading.{Log, onward, log_of, records_in}

@@ -5,10 +5,10 @@ use Prim.Native.Nat.{◌-◌, ◌+◌}
 use native.Mathlib.Omega.{arith}
 use lib.ListN.{length, set, length-map, get_or-map}
 use borrow.Author.Rules.{rules}
-use Rattle.batch_rules.specs.rules.specs.declared.Slot.{Slot}
-use Rattle.batch_rules.specs.rules.specs.declared.Post.{Post}
-use Rattle.batch_rules.specs.rules.proofs.Unmapped.{unmapped}
-use Rattle.batch_rules.specs.watch_rules.specs.Table.{post_count, no_post}
+use Rattle.rules.specs.declared.Slot.{Slot}
+use Rattle.rules.specs.declared.Post.{Post}
+use Rattle.rules.proofs.Unmapped.{unmapped}
+use Rattle.watch_rules.specs.Table.{post_count, no_post}
 use Rattle.batch.proofs.Filled.{Filled, filled_more, filled_whole}
 use Rattle.batch.proofs.latest_of.Statement.{statement}
 use Rattle.batch.proofs.latest_of.Tie as tie

@@ -5,9 +5,9 @@ use Prim.Native.Nat.{◌-◌, ◌+◌}
 use native.Mathlib.Omega.{arith}
 use lib.ListN.{length, set}
 use borrow.Author.Rules.{rules}
-use Rattle.batch_rules.specs.rules.specs.declared.Post.{Post}
-use Rattle.batch_rules.specs.rules.proofs.Unmapped.{unmapped}
-use Rattle.batch_rules.specs.watch_rules.specs.Table.{post_count, no_post}
+use Rattle.rules.specs.declared.Post.{Post}
+use Rattle.rules.proofs.Unmapped.{unmapped}
+use Rattle.watch_rules.specs.Table.{post_count, no_post}
 use Rattle.batch.specs.Parts.{joined}
 use Rattle.batch.proofs.Filled.{Filled, filled_more, filled_whole}
 use Rattle.batch.proofs.Joined.{joined_length, joined_at}

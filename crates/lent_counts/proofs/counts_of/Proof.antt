@@ -6,7 +6,7 @@ use mathlib.Core.List.{List}
 use Prim.Native.Nat.{ℕ}
 use Rattle.rules.specs.After.{count_count}
 use Rattle.watch_rules.specs.Table.{post_in}
-use Rattle.lent_numbers.specs.lent_look.proofs.Asked.{no_post_lem, not_set_up, set_up}
+use Rattle.lent_look.proofs.Asked.{no_post_lem, not_set_up, set_up}
 use Rattle.lent_numbers.specs.LookUp.{room_left}
 use Rattle.lent_counts.proofs.ByCase.{counted_by, counts_are}
 use Rattle.lent_counts.proofs.counts_of.Statement.{statement}

@@ -1,6 +1,6 @@
 -- `lent_frame::rokemaipu_frame` meets its contract: what is stored of the step of one head (`Posts.antt`, lent_heads) is the table's step (`frame_same`,
 -- lent_step).
-use Rattle.lent_heads.specs.watch_rules.specs.Table.{framing}
+use Rattle.watch_hear.specs.watch_rules.specs.Table.{framing}
 use Rattle.lent_heads.specs.lent_step.specs.Fed.{frame_word}
 use Rattle.lent_heads.specs.lent_step.proofs.Same.{frame_same}
 use Rattle.lent_heads.proofs.Posts.{slot_left, head_left, count_left}

@@ -1,6 +1,6 @@
 -- `lent_tick::rokemaipu_tick` meets its contract: what is stored of the step of one head (`Posts.antt`, lent_heads) is the table's step
 -- (`tick_same`, lent_step).
-use Rattle.lent_heads.specs.watch_rules.specs.Table.{ticking}
+use Rattle.watch_places.specs.watch_rules.specs.Table.{ticking}
 use Rattle.lent_heads.specs.lent_step.specs.Fed.{tick_word}
 use Rattle.lent_heads.specs.lent_step.proofs.Same.{tick_same}
 use Rattle.lent_heads.proofs.Posts.{slot_left, head_left, count_left}

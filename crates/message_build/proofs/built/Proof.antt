@@ -3,7 +3,7 @@ use mir.Syntax.{w64}
 use mir.Facts.{to_z-of_z}
 use borrow.Author.Rules.{rules, sfits_of}
 use Rattle.message_build.specs.Built.{built_of}
-use Rattle.message_charger.specs.message_types.proofs.Choices.{past}
+use Rattle.message_types.proofs.Choices.{past}
 use Rattle.message_build.proofs.built.Statement.{statement}
 use Rattle.message_build.proofs.built.Tie as tie
 

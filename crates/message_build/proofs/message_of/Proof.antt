@@ -2,7 +2,7 @@
 use mathlib.Core.Path.{ap, ◌∙◌}
 use mathlib.Core.List.{List}
 use lib.IntN.{ℤ}
-use Rattle.message_charger.specs.message_fields.specs.Fields.{at}
+use Rattle.message_fields.specs.Fields.{at}
 use Rattle.message_build.specs.Built.{built_of, message_of}
 use borrow.Author.Rules.{rules}
 use Rattle.message_build.proofs.message_of.Statement.{statement}

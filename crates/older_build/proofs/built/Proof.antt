@@ -1,7 +1,7 @@
 -- `older_build::built` meets its contract: a key decides the tests of `builtOf`, and each arm's message is that of its kind. Assumes nothing.
 use borrow.Author.Rules.{rules}
 use Rattle.older_build.specs.Built.{built_of}
-use Rattle.message_safety.specs.message_types.proofs.Choices.{past}
+use Rattle.older_types.specs.message_types.proofs.Choices.{past}
 use Rattle.older_build.proofs.built.Statement.{statement}
 use Rattle.older_build.proofs.built.Tie as tie
 

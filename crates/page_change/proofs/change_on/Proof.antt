@@ -7,7 +7,7 @@ use Prim.Native.Nat.{ℕ}
 use lib.IntN.{ℤ}
 use lib.ListN.{length}
 use mir.Facts.{to_z-of_z}
-use Rattle.page_write.specs.payload.specs.Payload.{bytes_of}
+use Rattle.payload.specs.Payload.{bytes_of}
 use Rattle.page_write.specs.page_table.specs.declared.Interface.{Interface}
 use Rattle.page_write.specs.page_table.specs.declared.Row.{Row}
 use Rattle.page_write.specs.page_table.specs.declared.Found.{Found}

@@ -7,7 +7,7 @@ use mathlib.Core.Bool.{Bool, true, false, cond, not}
 use mathlib.Core.List.{List}
 use native.Mathlib.Omega.{arith}
 use Prim.Native.Nat.{ℕ}
-use Rattle.page_search.specs.payload.specs.Payload.{number_of}
+use Rattle.payload.specs.Payload.{number_of}
 use lib.ListN.{take}
 use Rattle.page_search.specs.page_table.specs.declared.Found.TheVariants.{At, Nothing}
 use Rattle.page_search.specs.page_table.specs.declared.Row.{Row}

@@ -1,6 +1,6 @@
 -- `playing_calls::fed` meets its contract: a tick or a frame, the payload being the entry's bytes of the log.
 use Rattle.std.proofs.Common.{ℕ, List, ap, ◌∙◌, rules}
-use Rattle.watch.specs.watch_rules.specs.Table.{framing, feed_of}
+use Rattle.watch_places.specs.watch_rules.specs.Table.{framing, feed_of}
 use Rattle.playing_nights.proofs.Entries.{fed_tick, fed_frame}
 use Rattle.playing_calls.proofs.fed.Statement.{statement}
 use Rattle.playing_calls.proofs.fed.Tie as tie

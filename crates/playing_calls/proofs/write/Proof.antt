@@ -1,7 +1,7 @@
 -- `playing_calls::write` meets its contract: a line fits, so that the words stand in the buffer as one text.
 use Rattle.std.proofs.Common.{arith, rules}
-use Rattle.playing_nights.specs.playing_line.proofs.Lengths.{line_short}
-use Rattle.playing_nights.specs.playing_line.proofs.Laid.{whole_line}
+use Rattle.playing_line.proofs.Lengths.{line_short}
+use Rattle.playing_line.proofs.Laid.{whole_line}
 use Rattle.playing_calls.proofs.write.Statement.{statement}
 use Rattle.playing_calls.proofs.write.Tie as tie
 

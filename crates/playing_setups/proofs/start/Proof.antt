@@ -1,6 +1,6 @@
 -- `playing_setups::start` meets its contract, by what `watch::empty` ensures.
 use mathlib.Core.Path.{ap}
-use Rattle.watch.specs.watch_rules.specs.declared.Table.{Table}
+use Rattle.watch_rules.specs.declared.Table.{Table}
 use Rattle.playing_nights.specs.declared.Course.TheVariants.{SetUps}
 use borrow.Author.Rules.{rules}
 use Rattle.playing_setups.proofs.start.Statement.{statement}

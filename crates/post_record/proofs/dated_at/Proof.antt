@@ -2,10 +2,10 @@
 use mathlib.Core.Path.{sym, ap, ◌∙◌}
 use mathlib.Core.Bool.{Bool, cond}
 use borrow.Author.Rules.{rules}
-use Rattle.post_ages.specs.message_build.specs.Built.{message_of}
-use Rattle.post_ages.specs.older_build.specs.Built as older
-use Rattle.post_ages.specs.rules.specs.declared.Dated.TheVariants as dated
-use Rattle.post_ages.specs.rules.specs.Record.{dated_at}
+use Rattle.message_build.specs.Built.{message_of}
+use Rattle.rules.specs.older_build.specs.Built as older
+use Rattle.rules.specs.declared.Dated.TheVariants as dated
+use Rattle.rules.specs.Record.{dated_at}
 use Rattle.post_record.proofs.dated_at.Statement.{statement}
 use Rattle.post_record.proofs.dated_at.Tie as tie
 

@@ -5,12 +5,12 @@ use mathlib.Core.Path.{◌≡◌}
 use mathlib.Core.List.{List, map}
 use lib.ListN.{get_or}
 use borrow.Author.Rules.{rules}
-use Rattle.post_ages.specs.rules.specs.declared.Slot.{Slot}
-use Rattle.post_ages.specs.rules.specs.declared.Latest.{Latest}
-use Rattle.post_ages.specs.rules.specs.declared.Dated.TheVariants as dated
-use Rattle.post_ages.specs.rules.specs.History.{count_from}
-use Rattle.post_ages.specs.rules.specs.Record.{place_count, unknown}
-use Rattle.post_ages.specs.rules.specs.After.{dated_in}
+use Rattle.rules.specs.declared.Slot.{Slot}
+use Rattle.rules.specs.declared.Latest.{Latest}
+use Rattle.rules.specs.declared.Dated.TheVariants as dated
+use Rattle.rules.specs.History.{count_from}
+use Rattle.rules.specs.Record.{place_count, unknown}
+use Rattle.rules.specs.After.{dated_in}
 use Rattle.post_record.proofs.Filled.{filled_to, filled_next, filled_all}
 use Rattle.post_record.proofs.messages_of.Statement.{statement}
 use Rattle.post_record.proofs.messages_of.Tie as tie

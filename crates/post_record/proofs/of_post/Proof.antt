@@ -1,7 +1,7 @@
 -- `post_record::of_post` meets its contract, by what its parts ensure.
 use borrow.Author.Rules.{rules}
-use Rattle.post_ages.specs.rules.specs.After.{post_record}
-use Rattle.post_ages.specs.rules.proofs.Right.{record_both}
+use Rattle.rules.specs.After.{post_record}
+use Rattle.rules.proofs.Right.{record_both}
 use Rattle.post_record.proofs.of_post.Statement.{statement}
 use Rattle.post_record.proofs.of_post.Tie as tie
 

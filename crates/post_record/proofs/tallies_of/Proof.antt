@@ -4,8 +4,8 @@ use mathlib.Core.Path.{◌≡◌}
 use mathlib.Core.List.{List, map}
 use lib.ListN.{get_or}
 use borrow.Author.Rules.{rules}
-use Rattle.post_ages.specs.rules.specs.History.{count_from}
-use Rattle.post_ages.specs.rules.specs.After.{finding_count}
+use Rattle.rules.specs.History.{count_from}
+use Rattle.rules.specs.After.{finding_count}
 use Rattle.post_record.proofs.Filled.{filled_to, filled_next, filled_all}
 use Rattle.post_record.proofs.tallies_of.Statement.{statement}
 use Rattle.post_record.proofs.tallies_of.Tie as tie

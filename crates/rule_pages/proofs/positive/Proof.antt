@@ -3,7 +3,7 @@ use mathlib.Core.Path.{ap, ◌∙◌}
 use mir.Syntax.{w64}
 use mir.Facts.{to_z-of_z}
 use borrow.Author.Rules.{rules}
-use Rattle.message_parts.specs.message_fields.specs.Fields.{word_of}
+use Rattle.message_fields.specs.Fields.{word_of}
 use Rattle.rule_pages.proofs.positive.Statement.{statement}
 use Rattle.rule_pages.proofs.positive.Tie as tie
 

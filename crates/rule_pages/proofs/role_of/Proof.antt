@@ -1,6 +1,6 @@
 -- `rule_pages::role_of` meets its contract: a key decides the tests of `roleOf`.
 use borrow.Author.Rules.{rules}
-use Rattle.message_parts.specs.message_types.proofs.Choices.{past}
+use Rattle.older_types.specs.message_types.proofs.Choices.{past}
 use Rattle.rule_pages.specs.Roles.{role_of}
 use Rattle.rule_pages.proofs.role_of.Statement.{statement}
 use Rattle.rule_pages.proofs.role_of.Tie as tie

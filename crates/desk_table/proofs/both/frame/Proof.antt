@@ -1,5 +1,5 @@
 -- `desk_table::both::frame` meets its contract either way: lent by what `lend_frame` ensures, by value by what `watch::frame` does.
-use Rattle.gateway.specs.lent_step.specs.Fed.{frame_word}
+use Rattle.lent_step.specs.Fed.{frame_word}
 use borrow.Author.Rules.{rules}
 use Rattle.desk_table.proofs.both.frame.Statement.{statement}
 use Rattle.desk_table.proofs.both.frame.Tie as tie

@@ -1,5 +1,5 @@
 -- `desk_table::both::tick` meets its contract either way: lent by what `lend_tick` ensures, by value by what `watch::tick` does.
-use Rattle.gateway.specs.lent_step.specs.Fed.{tick_word}
+use Rattle.lent_step.specs.Fed.{tick_word}
 use borrow.Author.Rules.{rules}
 use Rattle.desk_table.proofs.both.tick.Statement.{statement}
 use Rattle.desk_table.proofs.both.tick.Tie as tie

@@ -1,7 +1,7 @@
 -- `message_charger::take::one_raw` meets its contract. Assumes nothing.
 use mir.Facts.{to_z-of_z}
 use borrow.Author.Rules.{rules}
-use Rattle.message_parts.specs.page_write.specs.Raws.{pad}
+use Rattle.page_write.specs.Raws.{pad}
 use Rattle.message_charger.proofs.take.one_raw.Statement.{statement}
 use Rattle.message_charger.proofs.take.one_raw.Tie as tie
 

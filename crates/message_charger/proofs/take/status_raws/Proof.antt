@@ -1,7 +1,7 @@
 -- `message_charger::take::status_raws` meets its contract: each number is its field's. Assumes nothing.
 use mir.Facts.{to_z-of_z}
 use borrow.Author.Rules.{rules, sfits_of}
-use Rattle.message_parts.specs.page_write.specs.Raws.{pad}
+use Rattle.page_write.specs.Raws.{pad}
 use Rattle.message_charger.proofs.take.status_raws.Statement.{statement}
 use Rattle.message_charger.proofs.take.status_raws.Tie as tie
 

@@ -1,7 +1,7 @@
 -- `message_extra::take::mcs_raws` meets its contract: each number is its field's. Assumes nothing.
 use mir.Facts.{to_z-of_z}
 use borrow.Author.Rules.{rules, sfits_of}
-use Rattle.message_types.specs.page_write.specs.Raws.{pad}
+use Rattle.page_write.specs.Raws.{pad}
 use Rattle.message_extra.proofs.take.mcs_raws.Statement.{statement}
 use Rattle.message_extra.proofs.take.mcs_raws.Tie as tie
 

@@ -1,7 +1,7 @@
 -- `older_controller::take::controller_raws` meets its contract: each number is its field's. Assumes nothing.
 use mir.Facts.{to_z-of_z}
 use borrow.Author.Rules.{rules, sfits_of}
-use Rattle.older_types.specs.page_write.specs.Raws.{pad}
+use Rattle.page_write.specs.Raws.{pad}
 use Rattle.older_controller.proofs.take.controller_raws.Statement.{statement}
 use Rattle.older_controller.proofs.take.controller_raws.Tie as tie
 

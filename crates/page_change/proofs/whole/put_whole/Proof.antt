@@ -7,8 +7,8 @@ use native.Mathlib.Omega.{arith}
 use lib.ListN.{length, take, drop, drop_of_length-le}
 use borrow.Rule.Slice.PartMut.{mid_len, Post-is}
 use borrow.Author.Rules.{rules}
-use Rattle.page_write.specs.payload.specs.Payload.{bytes_of}
-use Rattle.page_write.specs.payload.proofs.Stored.{stored_in_lem}
+use Rattle.payload.specs.Payload.{bytes_of}
+use Rattle.payload.proofs.Stored.{stored_in_lem}
 use Rattle.page_change.proofs.whole.put_whole.Statement.{statement}
 use Rattle.page_change.proofs.whole.put_whole.Tie as tie
 

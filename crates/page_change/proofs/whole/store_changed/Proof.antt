@@ -8,10 +8,10 @@ use lib.Dec.{eqb}
 use lib.ListN.{length}
 use borrow.Author.Rules.{rules}
 use borrow.Author.Tests.{eqb-true}
-use Rattle.page_write.specs.payload.specs.Payload.{bytes_of}
-use Rattle.page_write.specs.payload.proofs.Stored.{stored_all}
-use Rattle.page_write.specs.payload.specs.Order.{edge}
-use Rattle.page_write.specs.payload.proofs.WholeBytes.{WholeFacts, whole_facts, whole_stored}
+use Rattle.payload.specs.Payload.{bytes_of}
+use Rattle.payload.proofs.Stored.{stored_all}
+use Rattle.payload.specs.Order.{edge}
+use Rattle.payload.proofs.WholeBytes.{WholeFacts, whole_facts, whole_stored}
 use Rattle.page_write.specs.page_table.specs.declared.Row.{Row}
 use Rattle.page_write.specs.page_table.proofs.Rules.{both_true}
 use Rattle.page_change.proofs.whole.store_changed.Statement.{statement}

@@ -1,6 +1,6 @@
 -- `replay::own::add_posts`: the sums keep their length over the posts.
 use Rattle.std.proofs.Common.{◌≡◌, ◌-◌, length, rules}
-use Rattle.playing_nights.specs.watch_rules.specs.Table.{post_count}
+use Rattle.watch_rules.specs.Table.{post_count}
 use Rattle.replay.proofs.own.add_posts.Statement.{statement}
 use Rattle.replay.proofs.own.add_posts.Tie as tie
 
