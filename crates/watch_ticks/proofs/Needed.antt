@@ -58,6 +58,7 @@ or_true true b q = refl
 or_true false b q = q
 
 told_tells : (o : Said) (b : ℕ) (h : History) → Some (Told limits o b) h → tells b h ≡ true
+told_tells o b [] x' = elim x' [ ]
 told_tells o b (e ∷ h) (here t) = rw (t.finds, lt-ltb _ _ t.passed, le-leb _ _ t.soon) refl
 told_tells o b (e ∷ h) (there more) = or_true (tells_at b h e) (tells b h) (told_tells o b h more)
 

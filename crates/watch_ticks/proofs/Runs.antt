@@ -81,6 +81,7 @@ module _ (lim : PlainLimits) (o : Said) (b : ℕ) where
   TellsOf h e w = Told lim o b h e × HasF1 w
 
   told-answered : (h : History) → Some (Told lim o b) h → SomeAnswer TellsOf h (map Findings (judged lim h))
+  told-answered [] x' = elim x' [ ]
   told-answered (e ∷ h) (some.here t) = here (t, f1_bit lim h e t.finds)
   told-answered (e ∷ h) (some.there more) = there (told-answered h more)
 

@@ -131,6 +131,7 @@ module _ (lim : PlainLimits) (o : Said) where
   -- 02, Req 12: "any silence of the power modules, counted as F1 counts it, longer than W + 100 has F1 on some event no more than 100 ms after the silence
   -- passed W"
   pub silence_told : (b : ℕ) (h : History) → Unrolled h → Some (Silent lim o b) h → Some (Told lim o b) h
+  silence_told b [] un x'' = elim x'' [ ]
   silence_told b (e ∷ h) un (here s) =
       let own : Silent lim o (quiet_from o.time h) h e = subst (λ (n : ℕ). Silent lim o n h e) (sym s.since) s in
       subst (λ (n : ℕ). Some (Told lim o n) (e ∷ h)) s.since (silence-ends h e (rising h un.2) own)
