@@ -151,6 +151,10 @@ fn run(
     let mut turns = u64::MAX;
     while turns > 0 {
         d = told(rt, d, out);
+        // by default the system ends a program there
+        if desk_buffers::is_unread(d.pen, out) {
+            return d;
+        }
         let n = read_piece(rt, piece);
         if n == 0 {
             return d;

@@ -2,8 +2,9 @@
 // steps alone; every function takes any input.
 #![tactic(auto)]
 
-ghost use Rattle.std.specs.Prelude.{◌≡◌, take};
+ghost use Rattle.std.specs.Prelude.{◌≡◌, length, ltb, take};
 
+use std::io::ErrorKind;
 use text_pen::Pen;
 
 const HALF: usize = 32768;
@@ -11,12 +12,29 @@ const HALF: usize = 32768;
 // What an answer may have beyond its line's length: a record, or every finding in words. The answers of `logr` and `replay` go out between two records.
 const SPARE: usize = 2048;
 
+// A pen of an output that nobody reads any more: nothing more is written with it.
+const UNREAD: Pen = Pen {
+    at: usize::MAX,
+    full: true,
+};
+
+// Whether the output has no reader left.
+pub fn is_unread(pen: Pen, out: &[u8]) -> bool
+    ensures { result ≡ ltb (length out.now) pen.at }
+{
+    pen.at > out.len()
+}
+
 pub fn flushed(rt: HostRuntime, pen: Pen, out: &[u8]) -> Pen {
     let at = pen.at;
-    if at <= out.len() {
-        if let Err(why) = console::write(rt, &out[0..at]) {
-            console::fail(rt, b"desk: writing standard output", why);
+    if at > out.len() {
+        return pen;
+    }
+    if let Err(why) = console::write(rt, &out[0..at]) {
+        if why.kind() == ErrorKind::BrokenPipe {
+            return UNREAD;
         }
+        console::fail(rt, b"desk: writing standard output", why);
     }
     Pen { at: 0, full: false }
 }
