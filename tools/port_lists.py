@@ -142,7 +142,7 @@ def reached(g, c, seen=None):
 
 
 def paths(g):
-    T, todo = {}, list(own)
+    T = {}
 
     def t(c):
         if c not in T:

@@ -7,10 +7,9 @@ static FINDINGS: LazyLock<Vec<&str>> =
 static REFUSALS: LazyLock<Vec<&str>> =
     LazyLock::new(|| sentences(include_str!("../../crates/desk_words/src/refused.rt")));
 
-/// The lines of the one list in the source, each of which ends with the line feed of the list and goes on in the next line.
+/// The words of the one list in the source, a constant array: each stands in a line of its own.
 fn sentences(source: &'static str) -> Vec<&'static str> {
-    let list = |line: &'static str| line.strip_suffix(r"\n\").or_else(|| line.strip_suffix("\\n\","));
-    source.lines().filter_map(list).map(|line| line.trim_start().trim_start_matches("b\"")).collect()
+    source.lines().filter_map(|line| line.trim_start().strip_prefix("b\"")?.strip_suffix("\",")).collect()
 }
 
 /// Of finding `number`, from 1 on.

@@ -17,7 +17,7 @@ SWAPS = (
     ('crates/message_inputs/specs/Take.antt', 'm.colibri', 'm.switch5'),
     ('crates/message_vehicle/specs/Build.antt', 'present = byte_of', 'minimum = byte_of'),
     ('crates/message_vehicle/specs/Take.antt', 'pos m.capacity', 'pos m.target'),
-    ('crates/older_power/specs/Build.antt', 'modules = celsius_of', 'enclosure = celsius_of'),
+    ('crates/older_power/specs/Build.antt', 'plug = label.plug_of', 'capacity = capacity_of'),
 )
 
 
@@ -25,7 +25,7 @@ def checked(path, first, second):
     """What check.py says of a copy of the definitions in which the two words changed places."""
     with tempfile.TemporaryDirectory() as folder:
         for crate in ('page_table', 'page_charger', 'page_rows', 'message_types', 'message_parts', 'message_charger', 'message_safety', 'message_probes', 'message_inputs',
-                      'message_extra', 'message_sequence', 'message_vehicle', 'older_power', 'older_controller'):
+                      'message_extra', 'message_sequence', 'message_vehicle', 'older_types', 'older_power'):
             shutil.copytree(ROOT / 'crates' / crate, Path(folder, 'crates', crate))
         file = Path(folder, path)
         text = file.read_text()

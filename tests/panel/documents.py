@@ -19,7 +19,7 @@ def documents():
 
 
 PAGES = documents()
-FINDINGS = re.findall(r'(?m)^(?:\s*b")?(.*)\\n(?:\\|",)$', (ROOT / 'crates/desk_words/src/findings.rt').read_text())
+FINDINGS = re.findall(r'(?m)^\s*b"(.*)",$', (ROOT / 'crates/desk_words/src/findings.rt').read_text())
 
 
 def tenths(number):

@@ -1,4 +1,5 @@
 """night.py COMMAND...: runs the program replay, which COMMAND starts, against the second program. What is not as it should be ends it with status 1."""
+import errno
 import os
 import pty
 import random
@@ -200,12 +201,26 @@ def changes():
             same(said.decode(), 'replay: a.log: the file changed while it was read\n', 'a log that is cut')
 
 
+def all_told(master):
+    """All that a terminal was told: the system hands it over piece by piece, after the writer has ended too, and says EIO behind the last one."""
+    told = b''
+    while True:
+        try:
+            told += os.read(master, 65_536)
+        except OSError as reason:
+            if reason.errno != errno.EIO:
+                raise
+            os.close(master)
+            return told
+
+
 def progress():
     """A progress line of a long log, and only where standard error is a terminal."""
     for count, shown in ((1000, False), (250_000, True)):
         master, slave = pty.openpty()
         replay(POSTS, record('tick 2 300') * count, stdout=subprocess.DEVNULL, stderr=slave)
-        told = os.read(master, 65_536).decode()
+        os.close(slave)
+        told = all_told(master).decode()
         same(str('\rreplay: 2' in told), str(shown), f'progress over {count} records: {told!r}')
         same(told[told.rindex('\x1b[K') + 3:], summary('END', [f'{n} 0 A0' for n in range(1, count + 1)]).replace('\n', '\r\n'), 'the summary behind it')
 

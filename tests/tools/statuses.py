@@ -7,6 +7,7 @@ import sys
 import tempfile
 import unittest
 from pathlib import Path
+from unittest import mock
 
 from standing import ROOT
 
@@ -98,6 +99,9 @@ class Statuses(unittest.TestCase):
     def test_no_text(self):
         """A program of Rattle opens no file whose name is no UTF-8: it says so, and its wrapper opens it, and makes it."""
         name = NO_TEXT + b'.log'
+        room = tempfile.TemporaryDirectory()
+        self.addCleanup(room.cleanup)
+        self.enterContext(mock.patch.dict(os.environ, TMPDIR=room.name))
         for words in ('nightlog', 'append', name), ('nightlog', 'show', name), ('replay', name, name), ('compare', name, name):
             done = subprocess.run([*command(words[0]), *words[1:]], stdin=subprocess.DEVNULL, capture_output=True, timeout=60)
             self.assertIn(NO_TEXT, done.stderr, words)
@@ -108,7 +112,7 @@ class Statuses(unittest.TestCase):
         self.assertEqual(Path(os.fsdecode(name)).read_bytes(), 2 * TICK)
         done = subprocess.run([ROOT / 'tools/nightlog', 'append', NO_TEXT + b'/a.log'], stdin=subprocess.DEVNULL, stderr=subprocess.PIPE, timeout=60)
         self.assertEqual((done.returncode, NO_TEXT in done.stderr), (FAILED, True))
-        self.assertFalse([path for path in os.listdir(tempfile.gettempdir()) if path.startswith('rokemaipu-')])
+        self.assertEqual(os.listdir(room.name), [])
 
     def test_show_and_check(self):
         for word in ('show', 'check'):

@@ -4,7 +4,6 @@ use native.Mathlib.Omega.{arith}
 use mathlib.Core.Path.{◌≡◌, refl, ap, sym, ◌∙◌}
 use mathlib.Core.Bool.{Bool, true, false, cond, ◌&&◌}
 use mathlib.Core.List.{List, [], ◌∷◌, map}
-use lib.Dec.{ltb}
 use lib.ListN.{length, get_or, set, take, drop}
 use lib.Seq.{set-get_or}
 use borrow.Author.Tests.{lt-ltb, le-ltb}
@@ -18,8 +17,8 @@ use Rattle.watch_rules.specs.declared.Table.{Table}
 use Rattle.watch_rules.specs.declared.Heard.{Heard}
 use Rattle.watch_rules.specs.declared.Arrival.{Arrival}
 use Rattle.watch_rules.specs.declared.Arrival.TheVariants.{Tick, Frame, Unread}
-use Rattle.watch_rules.specs.Table.{post_count, is_channel, holds, place_of, some_place, no_head, no_post, post_in, judged_of, heard_of, arrival_for, refused_after}
-use Rattle.batch_rules.specs.lent_words.specs.declared.Lent.{Lent}
+use Rattle.watch_rules.specs.Table.{is_channel, holds, place_of, some_place, no_head, no_post, post_in, judged_of, heard_of, refused_after}
+use Rattle.batch_rules.specs.lent_words.specs.Lent.{Lent}
 use Rattle.batch_rules.specs.lent_words.specs.Words.{answer_word}
 use Rattle.batch_rules.specs.lent_step.specs.One.{worded_by, lent_at}
 use Rattle.batch_rules.specs.lent_step.proofs.Same.{frame_same, tick_same}

@@ -11,34 +11,47 @@ use Rattle.refusals.specs.declared.Refusal.{Refusal}
 use Rattle.refusals.specs.declared.Refusal.TheVariants.{BatchBytes, BatchRecord, BatchAnswers}
 use Rattle.log_records.specs.Reading.{Log, ends, then, clean, piece, refused, log_of, records_in}
 use Rattle.log_read.specs.declared.Scan.{Scan}
-use Rattle.log_read.specs.declared.Scan.TheVariants as scan
+use Rattle.log_read.specs.declared.Ending.{Ending}
+use Rattle.log_read.specs.declared.Ending.TheVariants as ending
 use Rattle.log_read.specs.Scan.{scan_of}
 use Rattle.watch_rules.specs.declared.Table.{Table}
-use Rattle.batch_rules.specs.lent_words.specs.declared.Lent.{Lent}
+use Rattle.batch_rules.specs.lent_words.specs.Lent.{Lent}
 use Rattle.batch_rules.specs.Batch.{most_bytes, is_whole, table_after, why_batch, batch_by, answers_by, batch_of, answers_after}
 
 -- ---- the first pass
 
-abbrev pub Told : ℕ → Log → Scan → Type 0
-Told m l (scan.End n) = (is_whole l ≡ true) × (n ≡ m + length (records_in l))
-Told m l (scan.Cut n at) = is_whole l ≡ false
-Told m l (scan.Refused n w at) = is_whole l ≡ false
+abbrev pub ToldBy : ℕ → Log → ℕ → Ending → Type 0
+ToldBy m l n ending.Clean = (is_whole l ≡ true) × (n ≡ m + length (records_in l))
+ToldBy m l n (ending.Cut at) = is_whole l ≡ false
+ToldBy m l n (ending.Refused w at) = is_whole l ≡ false
 
-told_then : (m : ℕ) (r : _) (l : Log) (x : Scan) → Told (m + 1) l x → Told m (then r l) x
+abbrev pub Told : ℕ → Log → Scan → Type 0
+Told m l x = ToldBy m l x.records x.ending
+
+told_then : (m : ℕ) (r : _) (l : Log) (n : ℕ) (e : Ending) → ToldBy (m + 1) l n e → ToldBy m (then r l) n e
 unfolding is_whole records_in
-told_then m r l (scan.End n) h = (h.0, omega (arith, h.1))
-told_then m r l (scan.Cut n at) h = h
-told_then m r l (scan.Refused n w at) h = h
+told_then m r l n ending.Clean h = (h.0, omega (arith, h.1))
+told_then m r l n (ending.Cut at) h = h
+told_then m r l n (ending.Refused w at) h = h
 
 told_by_lem : (m : ℕ) (l : Log) → Told m l (scan_of m l)
 unfolding scan_of is_whole records_in
 told_by_lem m (ends clean) = (refl, omega arith)
 told_by_lem m (ends (piece at)) = refl
 told_by_lem m (ends (refused w at)) = refl
-told_by_lem m (then r l) = told_then m r l (scan_of (m + 1) l) (told_by_lem (m + 1) l)
+told_by_lem m (then r l) = told_then m r l (scan_of (m + 1) l).records (scan_of (m + 1) l).ending (told_by_lem (m + 1) l)
 
-pub told : (s : List ℕ) {r : Scan} (x : Scan) → r ≡ scan_of 0 (log_of s) → r ≡ x → Told 0 (log_of s) x
-told s x e f = subst (Told 0 (log_of s)) (sym e ∙ f) (told_by_lem 0 (log_of s))
+pub told : (s : List ℕ) {r : Scan} → r ≡ scan_of 0 (log_of s) → (e : Ending) → r.ending ≡ e → ToldBy 0 (log_of s) r.records e
+told s {r} q e f = subst (ToldBy 0 (log_of s) r.records) f (subst (Told 0 (log_of s)) (sym q) (told_by_lem 0 (log_of s)))
+
+-- a log that does not end behind a whole record
+pub told_broken : (s : List ℕ) {r : Scan} → r ≡ scan_of 0 (log_of s) → ¬ (r.ending ≡ ending.Clean) → is_whole (log_of s) ≡ false
+told_broken s {r} q n = by r.ending refl
+  where
+    by : (e : Ending) → r.ending ≡ e → is_whole (log_of s) ≡ false
+    by ending.Clean f = absurd (n f)
+    by (ending.Cut at) f = told s q (ending.Cut at) f
+    by (ending.Refused w at) f = told s q (ending.Refused w at) f
 
 -- ---- the case
 

@@ -1,3 +1,4 @@
+pub mod Made
 pub mod Filled
 pub mod Joined
 pub mod Judged

@@ -7,22 +7,19 @@ use mathlib.Core.Path.{◌≡◌, refl, ap, sym, subst, ◌∙◌}
 use mathlib.Core.Bool.{Bool, true, false, cond}
 use mathlib.Core.Option.{none}
 use mathlib.Core.List.{List, [], ◌∷◌, ◌++◌}
-use lib.Dec.{leb}
 use lib.ListN.{length, get_or, set, take, drop, length-set}
 use lib.Seq.{sets, sets-eq}
-use borrow.Author.Tests.{leb-true, leb-false}
 use Rattle.log_records.specs.declared.Entry.{Entry}
 use Rattle.log_records.specs.declared.Found.{Found}
 use Rattle.log_records.specs.declared.Found.TheVariants as found
 use Rattle.log_records.specs.Record.{Rec, tick, frame}
-use Rattle.log_records.specs.Reading.{rec_of, placed, record_at, found_at, onward, log_of, records_in}
-use Rattle.log_records.proofs.Logs.{turn_end}
-use Rattle.log_read.proofs.Scans.{log_at, unroll}
+use Rattle.log_records.specs.Reading.{rec_of, found_at, onward, log_of, records_in}
+use Rattle.log_read.proofs.Scans.{log_at, found_turn}
 use Rattle.rules.specs.declared.Head.{Head}
 use Rattle.rules.specs.declared.Slot.{Slot}
 use Rattle.watch_rules.specs.declared.Table.{Table}
 use Rattle.watch_rules.specs.Table.{post_count, channel_count, no_head, place_named, some_place, refused_after}
-use Rattle.batch_rules.specs.lent_words.specs.declared.Lent.{Lent}
+use Rattle.batch_rules.specs.lent_words.specs.Lent.{Lent}
 use Rattle.watch_rules.specs.declared.Heard.{Heard}
 use Rattle.batch_rules.specs.lent_words.specs.Words.{answer_word}
 use Rattle.batch_rules.specs.Batch.{called_with, table_after, words_of, answers_by}
@@ -30,14 +27,7 @@ use Rattle.batch_rules.proofs.Laws.{words_length}
 use Rattle.batch.specs.Parts.{heard_by, joined}
 use Rattle.batch.proofs.Joined.{channel_of, heads_by, latest_by, lent_back, called_same}
 
--- ---- the log from a byte on
-
-pub found_on_lem : (s : List ℕ) (at : ℕ) → log_at s at ≡ onward s (log_at s) (found_at s at)
-found_on_lem s at = go (leb (length s) at) refl
-  where
-    go : (b : Bool) → leb (length s) at ≡ b → log_at s at ≡ onward s (log_at s) (cond b found.End (placed at (record_at s at)))
-    go true e = turn_end (length s) s at (leb-true (length s) at e)
-    go false e = unroll s at (record_at s at) (leb-false (length s) at e) refl
+-- ---- a record of the log
 
 channel_is : (s : List ℕ) (e : Entry) → channel_of (rec_of s e) ≡ e.channel
 channel_is s e = go e.tick
@@ -72,7 +62,7 @@ module _ (t : Table) (s a₀ : List ℕ) where
     module _ (e : Entry) (here : found_at s at ≡ found.Record e) where
       more : left at ≡ rec_of s e ∷ left e.next
       unfolding records_in
-      more = ap records_in (found_on_lem s at ∙ ap (onward s (log_at s)) here)
+      more = ap records_in (found_turn s at ∙ ap (onward s (log_at s)) here)
 
       -- there is a place for its answer
       pub has_place : n < length a
@@ -117,7 +107,7 @@ module _ (t : Table) (s a₀ : List ℕ) where
         → (record { posts = joined hs ls; index = t.index; refused = m } ≡ table_after t (records_in (log_of s))) × (a ≡ answers_by none t (records_in (log_of s)) a₀)
     unfolding table_after words_of
     stop f here nothing room =
-        let z : left at ≡ [] = ap records_in (found_on_lem s at) ∙ ap (λ (x : Found). records_in (onward s (log_at s) x)) (sym here) ∙ nothing in
+        let z : left at ≡ [] = ap records_in (found_turn s at) ∙ ap (λ (x : Found). records_in (onward s (log_at s) x)) (sym here) ∙ nothing in
         let w = words_length t all in (
           sym (ap (table_after (table hs ls m)) z) ∙ so.4,
           sym (ap (λ (xs : List Rec). sets a n (words_of (table hs ls m) xs)) z) ∙ so.5 ∙ sets-eq (words_of t all) a₀ 0 (omega (arith, w))

@@ -1,6 +1,6 @@
 -- 02, Req 08, of runs with batches among the requests: the table's count of refused frames and ticks is that of the same requests without batches, and
 -- "Accepted ever plus refused equals handed in".
-use Prim.Native.Nat.{ℕ, suc, ◌+◌, ◌≤◌, min}
+use Prim.Native.Nat.{ℕ, ◌+◌, ◌≤◌, min}
 use native.Mathlib.Omega.{arith}
 use mathlib.Core.Path.{◌≡◌, refl, ap, ◌∙◌}
 use mathlib.Core.Bool.{true}

@@ -9,7 +9,7 @@ use Rattle.log_records.specs.Reading.{Log, ends, then, clean, piece, refused, lo
 use Rattle.watch_rules.specs.declared.Table.{Table}
 use Rattle.watch_rules.specs.Run.{Request}
 use Rattle.watch_rules.specs.Run as request
-use Rattle.lent_runs.specs.lent_words.specs.declared.Lent.{Lent}
+use Rattle.lent_runs.specs.lent_words.specs.Lent.{Lent}
 use Rattle.lent_runs.specs.Runs.{lent_by}
 
 -- ---- "feeding each record in order"

@@ -1,147 +1,72 @@
 // What the library answers, as lines; how many records were compared; and whether they differ.
+// Kept (6): fixed memory: the output and the library's lists have buffers of a fixed length.
 use crate::kept::Kept;
-use crate::{channels, paper, say, surplus};
-use compare_rules::{CHANNELS, Compared, MOST};
-use log_walk::file::front;
-use text_pen::Pen;
+use crate::{channels, say, surplus};
+use compare_rules::{CHANNELS, MOST, Unlisted};
+use console::front;
+use program_parts::paper::Paper;
+use program_parts::put_two;
+use program_parts::voice::Said;
 
-// The first n numbers, or all where there are fewer.
-fn first_of(list: &[u32], n: usize) -> &[u32] {
-    if list.len() < n {
-        return list;
-    }
-    &list[0..n]
-}
+// Every line has room behind half of the buffer.
+const HALF: usize = 32768;
 
-// `compared N and M records`
-fn put_counts(n: u64, m: u64, out: &mut [u8], pen: Pen) -> Pen {
-    let p = text_pen::put(out, pen, b"compared ");
-    let q = text_written::put_decimal(out, p, n);
-    let r = text_pen::put(out, q, b" and ");
-    let t = text_written::put_decimal(out, r, m);
-    text_pen::put(out, t, b" records\n")
-}
-
-fn put_word(differ: bool, out: &mut [u8], pen: Pen) -> Pen {
-    if differ {
-        return text_pen::put(out, pen, b"differ\n");
-    }
-    text_pen::put(out, pen, b"same\n")
+// The last lines, behind all others: `compared N and M records`, and `same` or `differ`.
+fn finish(paper: &mut Paper, n: u64, m: u64, differ: bool) {
+    paper.make_room();
+    paper.sheet.put(b"compared ");
+    put_two(&mut paper.sheet, n, b" and ", m);
+    paper.sheet.put(b" records\n");
+    paper
+        .sheet
+        .put(if differ { b"differ\n" } else { b"same\n" });
+    paper.flush();
 }
 
 // Whatever is listed, its channel differs; it is asked all the same.
-fn is_other(first: &[u32], second: &[u32], any: bool) -> bool {
-    if first.len() > 0 {
-        return true;
-    }
-    if second.len() > 0 {
-        return true;
-    }
-    any
-}
-
-fn put_lists(
-    rt: HostRuntime,
-    first: &[u32],
-    second: &[u32],
-    bytes: &[u8],
-    numbers: &[u64],
-    bytes2: &[u8],
-    numbers2: &[u64],
-    out: &mut [u8],
-) -> Pen {
-    let p = surplus::put_all(
-        rt,
-        b"first",
-        first,
-        bytes,
-        numbers,
-        out,
-        Pen { at: 0, full: false },
-    );
-    surplus::put_all(rt, b"second", second, bytes2, numbers2, out, p)
-}
-
-// The last lines, behind all others.
-fn finish(rt: HostRuntime, n: u64, m: u64, differ: bool, out: &mut [u8], pen: Pen) {
-    let p = paper::with_room(rt, out, pen);
-    let q = put_counts(n, m, out, p);
-    let r = put_word(differ, out, q);
-    paper::flushed(rt, out, r);
-}
-
+// Kept (5): here and in what this calls the two logs are told apart by their order alone, so that a struct of both would be opened at each line.
 fn listed(
     rt: HostRuntime,
     first: &[u32],
     second: &[u32],
-    places: [u32; CHANNELS],
-    x: Kept,
-    bytes: &[u8],
-    numbers: &[u64],
-    y: Kept,
-    bytes2: &[u8],
-    numbers2: &[u64],
+    places: &[u32; CHANNELS],
+    x: &Kept,
+    y: &Kept,
 ) {
     let mut out = console::large_buffer();
-    let p = put_lists(
-        rt, first, second, bytes, numbers, bytes2, numbers2, &mut out,
-    );
-    let c = channels::put_all(rt, places, bytes, numbers, bytes2, numbers2, &mut out, p);
-    let q = c.pen;
-    finish(
-        rt,
-        x.chosen,
-        y.chosen,
-        is_other(first, second, c.any),
-        &mut out,
-        q,
-    );
+    let mut paper = Paper::new(rt, b"compare: writing standard output", HALF, &mut out);
+    surplus::put_all(&mut paper, b"first", first, x);
+    surplus::put_all(&mut paper, b"second", second, y);
+    let any = channels::put_all(&mut paper, places, x, y);
+    let differ = !first.is_empty() || !second.is_empty() || any;
+    finish(&mut paper, x.chosen, y.chosen, differ);
 }
 
-// Every list has its places and every log is whole, so that this is 27.
-fn refused(rt: HostRuntime, number: u32, side: u32, x: Kept, first: &[u8], y: Kept, second: &[u8]) {
-    if side == 1 {
-        say::refused(rt, first, number, x.chosen);
-        return;
+// Kept (1): `Unlisted`, the answer of the library, numbers the logs, as lent_compare's entry hands the number on to C.
+// Kept (2): tried as one call over the log that was chosen: the borrow checker refuses it ("would stand at another lifetime").
+fn refused(rt: HostRuntime, unlisted: Unlisted, x: &Kept, y: &Kept) -> Said {
+    if unlisted.side == 1 {
+        say::refused(rt, x, unlisted.why)
+    } else {
+        say::refused(rt, y, unlisted.why)
     }
-    say::refused(rt, second, number, y.chosen);
 }
 
-// The library's answer to what was kept of both logs.
-pub fn say(
-    rt: HostRuntime,
-    x: Kept,
-    name: &[u8],
-    bytes: &[u8],
-    numbers: &[u64],
-    y: Kept,
-    name2: &[u8],
-    bytes2: &[u8],
-    numbers2: &[u64],
-) {
-    let a = front(bytes, x.pen.at);
-    let b = front(bytes2, y.pen.at);
+// The library's answer to what was kept of both logs. Every list has its places and every log is whole, so that a refusal is 27.
+pub fn say(rt: HostRuntime, x: &Kept, y: &Kept) -> Result<(), Said> {
     let mut first = [0u32; MOST];
     let mut second = [0u32; MOST];
     let mut places = [0u32; CHANNELS];
-    match compare_logs::compare(a, b, &mut first, &mut second, &mut places) {
-        Compared::Listed {
-            first: n,
-            second: m,
-        } => listed(
-            rt,
-            first_of(&first, n),
-            first_of(&second, m),
-            places,
-            x,
-            a,
-            numbers,
-            y,
-            b,
-            numbers2,
-        ),
-        Compared::Refused { why, side, at: _ } => {
-            refused(rt, refusals::refusal_number(why), side, x, name, y, name2)
-        }
-    }
+    let n = compare_logs::compare(x.log(), y.log(), &mut first, &mut second, &mut places).map_err(
+        |unlisted| refused(rt, unlisted, x, y),
+    )?;
+    listed(
+        rt,
+        front(&first, n.first),
+        front(&second, n.second),
+        &places,
+        x,
+        y,
+    );
+    Ok(())
 }

@@ -1,6 +1,5 @@
 // The times between which records are compared, both included; all of them where the call names none.
 use notation_read::fields;
-use notation_read::fields::Last;
 
 #[derive(Clone, Copy)]
 pub struct Window {
@@ -8,56 +7,39 @@ pub struct Window {
     pub to: u32,
 }
 
-#[derive(Clone, Copy)]
-pub enum Asked {
-    Bad,
-    Is(Window),
-}
+const ALL: Window = Window {
+    from: 0,
+    to: u32::MAX,
+};
 
 // A time as the desk tells it, and nothing behind it.
-fn time_at(rt: HostRuntime, i: usize) -> Last {
+// Kept (6): fixed memory: a word of the call has a buffer of a fixed length.
+fn time_at(rt: HostRuntime, i: usize) -> Option<u32> {
     let mut word = [0u8; 16];
-    match console::word(rt, i, &mut word) {
-        Ok(n) => fields::take_last(&word[..n], 0),
-        Err(_) => Last::Bad,
-    }
+    let n = console::word(rt, i, &mut word).ok()?;
+    fields::take_last(&word[..n], 0)
 }
 
 // A window that ends before it begins holds nothing, so that all logs would be the same in it: it is a wrong call.
-fn ordered(from: u32, to: u32) -> Asked {
-    if from > to {
-        return Asked::Bad;
-    }
-    Asked::Is(Window { from, to })
+fn named(rt: HostRuntime) -> Option<Window> {
+    let from = time_at(rt, 3)?;
+    let to = time_at(rt, 4)?;
+    (from <= to).then_some(Window { from, to })
 }
 
-fn named(rt: HostRuntime) -> Asked {
-    let Last::Is(from) = time_at(rt, 3) else {
-        return Asked::Bad;
-    };
-    let Last::Is(to) = time_at(rt, 4) else {
-        return Asked::Bad;
-    };
-    ordered(from, to)
-}
+impl Window {
+    // `FROM TO` behind the names of the logs, or nothing; none where the call is wrong.
+    pub fn told(rt: HostRuntime) -> Option<Window> {
+        if console::has_words(rt, 2) {
+            return Some(ALL);
+        }
+        if console::has_words(rt, 4) {
+            return named(rt);
+        }
+        None
+    }
 
-// `FROM TO` behind the names of the logs, or nothing.
-pub fn told(rt: HostRuntime) -> Asked {
-    if console::has_words(rt, 2) {
-        return Asked::Is(Window {
-            from: 0,
-            to: u32::MAX,
-        });
+    pub fn holds(self, time: u32) -> bool {
+        (self.from..=self.to).contains(&time)
     }
-    if console::has_words(rt, 4) {
-        return named(rt);
-    }
-    Asked::Bad
-}
-
-pub fn holds(w: Window, time: u32) -> bool {
-    if time < w.from {
-        return false;
-    }
-    time <= w.to
 }

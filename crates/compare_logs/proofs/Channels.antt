@@ -80,6 +80,11 @@ module _ (c : ℕ) (s sa ka : List ℕ) (n x i : ℕ) (w : Ready s sa ka n) (f :
 abbrev pub Storing : List Rec → List Rec → List ℕ → List ℕ → ℕ → Type 0
 Storing a b places₀ places c = (c ≤ channels) × (sets places c (places_from a b c (channels - c)) ≡ sets places₀ 0 (places_of a b)) × (length places ≡ length places₀)
 
+pub places_long : (a b : List Rec) (c k : ℕ) → length (places_from a b c k) ≡ k
+unfolding places_from
+places_long a b c zero = refl
+places_long a b c (suc k) = ap suc (places_long a b (suc c) k)
+
 pub storing_more : (a b : List Rec) (places₀ places : List ℕ) (c v : ℕ) → v ≡ place_on c a b → c < channels → Storing a b places₀ places c → Storing a b places₀ (set places c v) (c + 1)
 unfolding places_from
 storing_more a b places₀ places c v e h w =

@@ -1,6 +1,5 @@
 pub mod Bytes
 pub mod Keys
-pub mod Turns
 pub mod Splits
 pub mod Lists
 pub mod Pairs

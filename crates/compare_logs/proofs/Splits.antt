@@ -1,6 +1,7 @@
 -- Turns of `split`.
 use mathlib.Core.Path.{◌≡◌, refl, sym, ap, ◌∙◌, subst}
 use mathlib.Core.Bool.{Bool, true, false, cond}
+use mathlib.Core.Logic.{◌⊎◌, inl, inr}
 use mathlib.Core.Option.{none, some}
 use mathlib.Core.List.{List, ◌∷◌, ◌++◌}
 use Prim.Native.Nat.{ℕ, ◌+◌, ◌*◌, ◌-◌, ◌/◌, ◌≤◌, ◌<◌}
@@ -8,6 +9,7 @@ use native.Mathlib.Omega.{arith}
 use lib.ListN.{length, get_or, take, drop, set, length-set}
 use lib.Seq.{drop-drop, get_or-drop, take-add, drop-append_seam, get_or-set_same, get_or-set_other}
 use borrow.Author.Count.{below_more}
+use Rattle.std.specs.Prelude.{Result, Ok, Err}
 use Rattle.refusals.specs.declared.Refusal.{Refusal}
 use Rattle.log_records.specs.declared.Entry.{Entry}
 use Rattle.log_records.specs.declared.Found.{Found}
@@ -16,10 +18,10 @@ use Rattle.log_records.specs.Record.{Rec, tick, frame, Loggable, record_bytes}
 use Rattle.log_records.specs.Reading.{rec_of, found_at, Log, ends, then, clean, piece, refused, onward, log_of, records_in}
 use Rattle.log_records.proofs.Wholes.{Bytes}
 use Rattle.log_records.proofs.Logs.{turn_end}
-use Rattle.log_read.proofs.Scans.{log_at}
-use Rattle.compare_logs.proofs.Turns.{found_turn, found_exact}
-use Rattle.compare_logs.specs.declared.split.Ended.{Ended}
-use Rattle.compare_logs.specs.declared.split.Ended.TheVariants as ended
+use Rattle.log_read.specs.declared.Ending.{Ending}
+use Rattle.log_read.specs.declared.Ending.TheVariants as ending
+use Rattle.log_read.specs.Records.{ended}
+use Rattle.log_read.proofs.Scans.{log_at, found_turn, found_exact}
 use Rattle.compare_rules.specs.Records.{channel_of, at}
 use Rattle.compare_rules.specs.Compare.{most, records_of, broken_at}
 use Rattle.compare_logs.specs.Held.{key_of, split_of, Holds, Held}
@@ -68,68 +70,64 @@ Told s starts keys i n =
     × (length starts ≡ 513) × (length keys ≡ 512) × (n ≤ most → get_or starts n 0 ≡ i) × (n ≤ most → Held s (records_of s) starts keys n)
 
 -- what `split` ensures
-abbrev pub Leaves : List ℕ → List ℕ → List ℕ → Ended → Type 0
-Leaves s starts keys r = (r ≡ split_of 0 (log_of s)) × ((n : ℕ) → r ≡ ended.Records n → n ≤ most → Held s (records_of s) starts keys n)
+abbrev pub Leaves : List ℕ → List ℕ → List ℕ → Result ℕ ℕ → Type 0
+Leaves s starts keys r = (r ≡ split_of 0 (log_of s)) × ((n : ℕ) → r ≡ Ok n → n ≤ most → Held s (records_of s) starts keys n)
 
 pub told_start : (s starts keys : List ℕ) → length starts ≡ 513 → length keys ≡ 512 → Told s (set starts 0 0) keys 0 0
 told_start s starts keys hs hk =
     (omega arith, omega arith, refl, refl, length-set starts 0 0 ∙ hs, hk, λ le. get_or-set_same starts 0 0 0 (omega arith), λ le i h. absurd (omega arith))
 
-module _ (s starts keys : List ℕ) (i n : ℕ) {r : Found} (h : i < length s) (w : Told s starts keys i n) (p : r ≡ found_at s i) where
-  pub told_more : (e : Entry) → Bytes s → r ≡ found.Record e
-      → Told s (set starts (n + 1) e.next) (set keys n (e.channel * 4294967296 + e.time)) e.next (n + 1) × (i < e.next)
+module _ (s starts keys : List ℕ) (i n : ℕ) (w : Told s starts keys i n) where
+  pub told_more : (e : Entry) → Bytes s → found_at s i ≡ found.Record e
+      → Told s (set starts (n + 1) e.next) (set keys n (e.channel * 4294967296 + e.time)) e.next (n + 1)
   unfolding split_of records_in
   told_more e b f =
-      let x = found_exact s i e h (sym p ∙ f) in
+      let x = (found_exact s i e f).1 in
       let y = x.2 b in
-      let l = found_turn s i (found.Record e) h (sym p ∙ f) in
+      let l : log_at s i ≡ then (rec_of s e) (log_at s e.next) = found_turn s i ∙ ap (onward s (log_at s)) f in
       let d = drop_head (records_of s) n (rec_of s e) (records_in (log_at s e.next)) (w.3 ∙ ap records_in l) in
       let k : ℕ = e.channel * 4294967296 + e.time in
       let kr : k ≡ key_of (rec_of s e) = key_of_lem s e in
       let here : Holds s (rec_of s e) i e.next k = (omega (arith, x.0), x.1, kr, ap (λ (z : ℕ). z / 4294967296) kr ∙ key_channel (rec_of s e) y.0, y.0, part_of s (record_bytes (rec_of s e)) i e.next (omega (arith, x.0)) y.1) in (
-        (
-          x.1,
-          omega (arith, x.0, w.1),
-          sym (ap (split_of n) l) ∙ w.2,
-          d.1,
-          length-set starts (n + 1) e.next ∙ w.4,
-          length-set keys n k ∙ w.5,
-          λ le. get_or-set_same starts (n + 1) e.next 0 (omega (arith, w.4)),
-          λ le. held_more s (records_of s) starts keys n e.next k (omega (arith, w.4)) (omega (arith, w.5)) (w.7 (omega arith))
-              (subst (λ (z : Rec). Holds s z (get_or starts n 0) e.next k) (sym d.0) (subst (λ (z : ℕ). Holds s (rec_of s e) z e.next k) (sym (w.6 (omega arith))) here)),
-        ),
-        x.0,
+        x.1,
+        omega (arith, x.0, w.1),
+        sym (ap (split_of n) l) ∙ w.2,
+        d.1,
+        length-set starts (n + 1) e.next ∙ w.4,
+        length-set keys n k ∙ w.5,
+        λ le. get_or-set_same starts (n + 1) e.next 0 (omega (arith, w.4)),
+        λ le. held_more s (records_of s) starts keys n e.next k (omega (arith, w.4)) (omega (arith, w.5)) (w.7 (omega arith))
+            (subst (λ (z : Rec). Holds s z (get_or starts n 0) e.next k) (sym d.0) (subst (λ (z : ℕ). Holds s (rec_of s e) z e.next k) (sym (w.6 (omega arith))) here)),
       )
 
-  stopped : (x : Found) → r ≡ x → split_of n (onward s (log_at s) x) ≡ split_of 0 (log_of s)
-  stopped x f = sym (ap (split_of n) (found_turn s i x h (sym p ∙ f))) ∙ w.2
+  stopped : (x : Ending) → log_at s i ≡ ended x → split_of n (ended x) ≡ split_of 0 (log_of s)
+  stopped x f = sym (ap (split_of n) f) ∙ w.2
 
-  pub told_end : r ≡ found.End → Leaves s starts keys (ended.Records n)
+  pub told_all : log_at s i ≡ ended ending.Clean → Leaves s starts keys (Ok n)
   unfolding split_of
-  told_end f = (stopped found.End f, λ m z le. let same : n ≡ m = cc in subst (Held s (records_of s) starts keys) same (w.7 (omega arith)))
+  told_all f = (stopped ending.Clean f, λ m z le. let same : n ≡ m = cc in subst (Held s (records_of s) starts keys) same (w.7 (omega arith)))
 
-  pub told_cut : (byte : ℕ) → r ≡ found.Cut byte → Leaves s starts keys (ended.Bad byte)
+  told_cut : (byte : ℕ) → log_at s i ≡ ended (ending.Cut byte) → Leaves s starts keys (Err byte)
   unfolding split_of
-  told_cut byte f = (stopped (found.Cut byte) f, λ m z le. absurd (let b : ◌≡◌ {A = ℕ} 0 1 = cc in omega arith))
+  told_cut byte f = (stopped (ending.Cut byte) f, λ m z le. absurd (let b : ◌≡◌ {A = ℕ} 0 1 = cc in omega arith))
 
-  pub told_refused : (why : Refusal) (byte : ℕ) → r ≡ found.Refused why byte → Leaves s starts keys (ended.Bad byte)
+  told_refused : (why : Refusal) (byte : ℕ) → log_at s i ≡ ended (ending.Refused why byte) → Leaves s starts keys (Err byte)
   unfolding split_of
-  told_refused why byte f = (stopped (found.Refused why byte) f, λ m z le. absurd (let b : ◌≡◌ {A = ℕ} 0 1 = cc in omega arith))
+  told_refused why byte f = (stopped (ending.Refused why byte) f, λ m z le. absurd (let b : ◌≡◌ {A = ℕ} 0 1 = cc in omega arith))
 
-pub told_all : (s starts keys : List ℕ) (i n : ℕ) → length s ≤ i → Told s starts keys i n → Leaves s starts keys (ended.Records n)
-unfolding split_of
-told_all s starts keys i n h w =
-    (sym (ap (split_of n) (turn_end (length s) s i h)) ∙ w.2, λ m z le. let same : n ≡ m = cc in subst (Held s (records_of s) starts keys) same (w.7 (omega arith)))
+  pub told_broken : (byte : ℕ) (x : Ending) → log_at s i ≡ ended x → (x ≡ ending.Cut byte) ⊎ ((why : Refusal) × (x ≡ ending.Refused why byte)) → Leaves s starts keys (Err byte)
+  told_broken byte x f (inl e) = told_cut byte (f ∙ ap ended e)
+  told_broken byte x f (inr e) = told_refused e.0 byte (f ∙ ap ended e.1)
 
 -- ---- what it comes to
-abbrev pub Split : ℕ → Log → Ended → Type 0
-Split k l (ended.Records n) = (broken_at l ≡ none) × (n ≡ k + length (records_in l))
-Split k l (ended.Bad byte) = broken_at l ≡ some byte
+abbrev pub Split : ℕ → Log → Result ℕ ℕ → Type 0
+Split k l (Ok n) = (broken_at l ≡ none) × (n ≡ k + length (records_in l))
+Split k l (Err byte) = broken_at l ≡ some byte
 
-split_then : (k : ℕ) (r : Rec) (l : Log) (x : Ended) → Split (k + 1) l x → Split k (then r l) x
+split_then : (k : ℕ) (r : Rec) (l : Log) (x : Result ℕ ℕ) → Split (k + 1) l x → Split k (then r l) x
 unfolding broken_at records_in
-split_then k r l (ended.Records n) h = (h.0, omega (arith, h.1))
-split_then k r l (ended.Bad byte) h = h
+split_then k r l (Ok n) h = (h.0, omega (arith, h.1))
+split_then k r l (Err byte) h = h
 
 split_by : (k : ℕ) (l : Log) → Split k l (split_of k l)
 unfolding split_of broken_at records_in
@@ -138,7 +136,7 @@ split_by k (ends (piece byte)) = refl
 split_by k (ends (refused why byte)) = refl
 split_by k (then r l) = split_then k r l (split_of (k + 1) l) (split_by (k + 1) l)
 
-pub split_is : (s : List ℕ) {r : Ended} (x : Ended) → r ≡ split_of 0 (log_of s) → r ≡ x → Split 0 (log_of s) x
+pub split_is : (s : List ℕ) {r : Result ℕ ℕ} (x : Result ℕ ℕ) → r ≡ split_of 0 (log_of s) → r ≡ x → Split 0 (log_of s) x
 split_is s x w e = subst (Split 0 (log_of s)) (sym w ∙ e) (split_by 0 (log_of s))
 
 -- the arrays as calls left them

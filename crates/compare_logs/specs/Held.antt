@@ -1,20 +1,18 @@
 -- What the arrays beside a log hold of its records, and what the inner functions answer by them.
-use Rattle.std.specs.Prelude.{ℕ, zero, suc, ◌+◌, ◌*◌, ◌-◌, ◌/◌, ◌≤◌, ◌<◌, ◌≡◌, true, cond, List, [], ◌∷◌, length, get_or, take, drop, eqb}
+use Rattle.std.specs.Prelude.{ℕ, zero, suc, ◌+◌, ◌*◌, ◌-◌, ◌/◌, ◌≤◌, ◌<◌, ◌≡◌, true, cond, List, [], ◌∷◌, length, get_or, take, drop, eqb, Result, Ok, Err}
+use Rattle.std.proofs.Props.{props}
 use Rattle.log_records.specs.Record.{Rec, tick, frame, Loggable, record_bytes}
 use Rattle.log_records.specs.Reading.{Log, ends, then, clean, piece, refused}
 use Rattle.compare_rules.specs.Records.{same, channel_of, at}
 use Rattle.compare_rules.specs.Surplus.{surplus_of}
 use Rattle.compare_rules.specs.Places.{channels, places_of}
-use Rattle.compare_rules.specs.declared.Compared.{Compared}
-use Rattle.compare_rules.specs.Compare.{most, records_of, after}
-use Rattle.compare_logs.specs.declared.split.Ended.{Ended}
-use Rattle.compare_logs.specs.declared.split.Ended.TheVariants as ended
+use Rattle.compare_rules.specs.Compare.{Compared, most, records_of, after}
 
 -- what a log of which n records came before comes to: all its records, or the byte of one that is malformed or cut
-unfoldable pub split_of : ℕ → Log → Ended
-split_of n (ends clean) = ended.Records n
-split_of n (ends (piece at)) = ended.Bad at
-split_of n (ends (refused w at)) = ended.Bad at
+unfoldable pub split_of : ℕ → Log → Result ℕ ℕ
+split_of n (ends clean) = Ok n
+split_of n (ends (piece at)) = Err at
+split_of n (ends (refused w at)) = Err at
 split_of n (then r l) = split_of (n + 1) l
 
 abbrev pub time_of : Rec → ℕ
@@ -29,13 +27,21 @@ key_of r = channel_of r * 4294967296 + time_of r
 abbrev pub Holds : List ℕ → Rec → ℕ → ℕ → ℕ → Type 0
 Holds s r i e k = (i ≤ e) × (e ≤ length s) × (k ≡ key_of r) × (k / 4294967296 ≡ channel_of r) × Loggable r × (take (e - i) (drop i s) ≡ record_bytes r)
 
+-- there is one proof of it at most
+pub Loggable-prop : (r : Rec) → IsProp (Loggable r)
+Loggable-prop (tick t c) = Prim.hlevel props
+Loggable-prop (frame t c x i p) = Prim.hlevel props
+
 -- starts and keys are those of the first n of rs
 abbrev pub Held : List ℕ → List Rec → List ℕ → List ℕ → ℕ → Type 0
 Held s rs starts keys n = (i : ℕ) → i < n → Holds s (at rs i) (get_or starts i 0) (get_or starts (i + 1) 0) (get_or keys i 0)
 
--- of all n
+-- of all n, which are not too many
 abbrev pub Ready : List ℕ → List ℕ → List ℕ → ℕ → Type 0
 Ready s starts keys n = (n ≤ most) × (n ≡ length (records_of s)) × Held s (records_of s) starts keys n
+
+pub Ready-prop : (s starts keys : List ℕ) (n : ℕ) → IsProp (Ready s starts keys n)
+Ready-prop s starts keys n = Prim.hlevel (props, Loggable-prop)
 
 -- the first from `low` on that is free and the same as record i of a; m where there is none
 abbrev pub FirstFree : List Rec → List Rec → List ℕ → ℕ → ℕ → ℕ → ℕ → Type 0
@@ -56,10 +62,6 @@ free_from used j (suc k) = cond (eqb (get_or used j 0) 0) (suc j ∷ free_from u
 abbrev pub NextOn : List ℕ → ℕ → ℕ → ℕ → ℕ → Type 0
 NextOn keys c from n r =
     (from ≤ r) × (r ≤ n) × ((j : ℕ) → j < r → from ≤ j → get_or keys j 0 / 4294967296 ≡ c → ⊥) × (r < n → get_or keys r 0 / 4294967296 ≡ c)
-
--- n records, of which the arrays hold the starts and keys if they are not too many
-abbrev pub Counted : List ℕ → List ℕ → List ℕ → ℕ → Type 0
-Counted s starts keys n = (n ≡ length (records_of s)) × (n ≤ most → Held s (records_of s) starts keys n)
 
 -- a channel that is not marked after the first n keys was not before, and none of them has it
 abbrev pub Marked : List ℕ → List ℕ → List ℕ → ℕ → Type 0

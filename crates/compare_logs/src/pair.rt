@@ -1,150 +1,90 @@
 // The records of two logs, paired off: each with one that is the same, and what is left over is surplus.
-ghost use Rattle.std.specs.Prelude.{◌≡◌, cond, ℕ, ◌≤◌, ◌<◌, length, get_or, replicate};
+// Kept (1): Held.antt tells of each place whether it is used by 0 or 1 (`FirstFree`, `UsedBelow`, `free_from`), and of place.rt's marks too (`Marked`).
+ghost use Rattle.std.specs.Prelude.{◌≡◌, cond, ℕ, ◌≤◌, ◌<◌, length, get_or, replicate, MatchBool, MatchOption};
 ghost use Rattle.std.proofs.lemmas.List.Edits.{sets};
 ghost use Rattle.compare_rules.specs.Records.{same, same_bytes, at};
 ghost use Rattle.compare_rules.specs.Surplus.{surplus_of, is_surplus};
 ghost use Rattle.compare_rules.specs.Compare.{most, records_of};
-ghost use Rattle.compare_logs.specs.Held.{Ready, FirstFree, UsedBelow, free_from};
+ghost use Rattle.compare_logs.specs.Held.{FirstFree, UsedBelow, free_from};
 
-use crate::split::STARTS;
+use crate::split::Parts;
 use compare_rules::MOST;
 
-// Whether two slices hold the same bytes. From behind: records with one key begin alike.
+// Whether two slices of one length hold the same bytes. From behind: records with one key begin alike.
+// Kept (4): tried as `==`, which begins in front: two logs all at one time are compared half as slowly again.
+fn same_from_behind(a: &[u8], b: &[u8]) -> bool
+    requires { length a.now ≡ length b.now }
+    ensures { MatchBool result ((k : ℕ) → k < length a.now → get_or a.now k 0 ≡ get_or b.now k 0)
+        ((k : ℕ) × (k < length a.now) × (get_or a.now k 0 ≡ get_or b.now k 0 → ⊥)) }
+{
+    a.iter().rev().zip(b.iter().rev()).all(|(x, y)| *x == *y)
+}
+
+// Kept (4): `same_from_behind` is the half of it that is not `==`.
 fn same_bytes(a: &[u8], b: &[u8]) -> bool
     ensures { result ≡ same_bytes a.now b.now }
 {
-    if a.len() != b.len() {
-        return false;
-    }
-    let mut i = a.len();
-    while 0 < i {
-        i -= 1;
-        if a[i] != b[i] {
-            return false;
-        }
-    }
-    true
+    a.len() == b.len() && same_from_behind(a, b)
 }
 
 // Whether record i of one log is record j of the other: no two records have the same bytes.
-pub fn equal(
-    a: &[u8],
-    sa: &[usize; STARTS],
-    ka: &[u64; MOST],
-    n: usize,
-    i: usize,
-    b: &[u8],
-    sb: &[usize; STARTS],
-    kb: &[u64; MOST],
-    m: usize,
-    j: usize,
-) -> bool
-    requires { Ready a.now sa.now ka.now n × Ready b.now sb.now kb.now m × (i < n) × (j < m) }
-    ensures { result ≡ same (at (records_of a.now) i) (at (records_of b.now) j) }
+// Kept (4): the records of a log stand as bytes alone, so there is no type whose `==` it could be.
+pub fn equal(a: &Parts, i: usize, b: &Parts, j: usize) -> bool
+    requires { (i < a.now.count) × (j < b.now.count) }
+    ensures { result ≡ same (at (records_of a.now.bytes.now) i) (at (records_of b.now.bytes.now) j) }
 {
-    if ka[i] != kb[j] {
-        return false;
-    }
-    let x = sa[i];
-    let y = sa[i + 1];
-    let z = sb[j];
-    let w = sb[j + 1];
-    same_bytes(&a[x..y], &b[z..w])
+    a.keys[i] == b.keys[j] && same_bytes(a.record(i), b.record(j))
 }
 
-fn first_free(
-    a: &[u8],
-    sa: &[usize; STARTS],
-    ka: &[u64; MOST],
-    n: usize,
-    i: usize,
-    b: &[u8],
-    sb: &[usize; STARTS],
-    kb: &[u64; MOST],
-    m: usize,
-    used: &[u8; MOST],
-    low: usize,
-) -> usize
-    requires { Ready a.now sa.now ka.now n × Ready b.now sb.now kb.now m × (i < n) × (low ≤ m) }
-    ensures { FirstFree (records_of a.now) (records_of b.now) used.now i low m result }
+// The first record of b, from `low` on, that is free and the same as record i of a.
+fn first_free(a: &Parts, i: usize, b: &Parts, used: &[u8; MOST], low: usize) -> Option<usize>
+    requires { (i < a.now.count) × (low ≤ b.now.count) }
+    ensures { MatchOption result
+        (FirstFree (records_of a.now.bytes.now) (records_of b.now.bytes.now) used.now i low b.now.count b.now.count)
+        (λ j. (j < b.now.count) × FirstFree (records_of a.now.bytes.now) (records_of b.now.bytes.now) used.now i low b.now.count j) }
 {
-    let mut j = low;
-    while j < m {
-        let k = j;
-        j += 1;
-        if used[k] != 0 {
-            continue;
-        }
-        if equal(a, sa, ka, n, i, b, sb, kb, m, k) {
-            return k;
-        }
-    }
-    m
+    (low..b.count).find(|j| used[*j] == 0 && equal(a, i, b, *j))
 }
 
 // Past those that are used.
-fn past_used(used: &[u8; MOST], low: usize, m: usize) -> usize
-    requires { UsedBelow used.now low × (low ≤ m) × (m ≤ most) }
-    ensures { UsedBelow used.now result × (result ≤ m) }
+fn past_used(used: &[u8; MOST], low: usize, b: &Parts) -> usize
+    requires { UsedBelow used.now low × (low ≤ b.now.count) }
+    ensures { UsedBelow used.now result × (result ≤ b.now.count) }
 {
-    let mut i = low;
-    while i < m {
-        if used[i] == 0 {
-            return i;
-        }
-        i += 1;
-    }
-    i
+    (low..b.count).find(|i| used[*i] == 0).unwrap_or(b.count)
 }
 
 // Each record of the first log takes the first of the second that is the same and that none took before. What finds none is surplus, and what is
 // not taken is the surplus of the other log.
-pub fn pair_off(
-    a: &[u8],
-    sa: &[usize; STARTS],
-    ka: &[u64; MOST],
-    n: usize,
-    b: &[u8],
-    sb: &[usize; STARTS],
-    kb: &[u64; MOST],
-    m: usize,
-    used: &mut [u8; MOST],
-    list: &mut [u32],
-) -> usize
-    requires { Ready a.now sa.now ka.now n × Ready b.now sb.now kb.now m × (most ≤ length list.old) × (used.old ≡ replicate most 0) }
-    ensures { (result ≡ length (surplus_of (records_of a.now) (records_of b.now)))
-        × (list.new ≡ sets list.old 0 (surplus_of (records_of a.now) (records_of b.now)))
-        × ((j : ℕ) → j < m → get_or used.new j 0 ≡ cond (is_surplus (records_of b.now) (records_of a.now) j) 0 1) }
+pub fn pair_off(a: &Parts, b: &Parts, used: &mut [u8; MOST], list: &mut [u32; MOST]) -> usize
+    requires { used.old ≡ replicate most 0 }
+    ensures { (result ≡ length (surplus_of (records_of a.now.bytes.now) (records_of b.now.bytes.now)))
+        × (list.new ≡ sets list.old 0 (surplus_of (records_of a.now.bytes.now) (records_of b.now.bytes.now)))
+        × ((j : ℕ) → j < b.now.count → get_or used.new j 0 ≡ cond (is_surplus (records_of b.now.bytes.now) (records_of a.now.bytes.now) j) 0 1) }
 {
-    let mut i: usize = 0;
     let mut k: usize = 0;
     let mut low: usize = 0;
-    while i < n {
-        low = past_used(used, low, m);
-        let j = first_free(a, sa, ka, n, i, b, sb, kb, m, used, low);
-        i += 1;
-        if j < m {
-            used[j] = 1;
-            continue;
+    for i in 0..a.count {
+        low = past_used(used, low, b);
+        match first_free(a, i, b, used, low) {
+            Some(j) => used[j] = 1,
+            None => {
+                list[k] = (i + 1) as u32;
+                k += 1;
+            }
         }
-        list[k] = i as u32;
-        k += 1;
     }
     k
 }
 
 // The numbers of those that none took.
-pub fn list_free(used: &[u8; MOST], m: usize, list: &mut [u32]) -> usize
-    requires { (m ≤ most) × (most ≤ length list.old) }
-    ensures { (result ≡ length (free_from used.now 0 m)) × (list.new ≡ sets list.old 0 (free_from used.now 0 m)) }
+pub fn list_free(used: &[u8; MOST], b: &Parts, list: &mut [u32; MOST]) -> usize
+    ensures { (result ≡ length (free_from used.now 0 b.now.count)) × (list.new ≡ sets list.old 0 (free_from used.now 0 b.now.count)) }
 {
-    let mut j: usize = 0;
     let mut k: usize = 0;
-    while j < m {
-        let u = used[j];
-        j += 1;
-        if u == 0 {
-            list[k] = j as u32;
+    for (j, mark) in used[..b.count].iter().enumerate() {
+        if *mark == 0 {
+            list[k] = (j + 1) as u32;
             k += 1;
         }
     }

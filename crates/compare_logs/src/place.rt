@@ -1,126 +1,82 @@
 // For each channel the first place where its two sequences differ.
-ghost use Rattle.std.specs.Prelude.{◌≡◌, ℕ, ◌≤◌, ◌<◌, length, get_or};
+// Kept (6): no heap, so the channels that a log has are marked in an array of as many as 02 names.
+ghost use Rattle.std.specs.Prelude.{◌≡◌, ℕ, ◌≤◌, ◌<◌, length, get_or, MatchOption};
 ghost use Rattle.std.proofs.lemmas.List.Edits.{sets};
 ghost use Rattle.compare_rules.specs.Places.{place_on, places_of, channels};
-ghost use Rattle.compare_rules.specs.Compare.{most, records_of};
-ghost use Rattle.compare_logs.specs.Held.{Ready, NextOn, Marked};
+ghost use Rattle.compare_rules.specs.Compare.{records_of};
+ghost use Rattle.compare_logs.specs.Held.{NextOn, Marked};
 
 use crate::pair::equal;
-use crate::split::STARTS;
-use compare_rules::{CHANNELS, MOST};
+use crate::split::{Parts, channel_of};
+use compare_rules::CHANNELS;
 
-fn next_on(keys: &[u64; MOST], c: u64, from: usize, n: usize) -> usize
-    requires { (from ≤ n) × (n ≤ most) }
-    ensures { NextOn keys.now c from n result }
+// The next record on a channel.
+fn next_on(log: &Parts, c: u64, from: usize) -> Option<usize>
+    requires { from ≤ log.now.count }
+    ensures { MatchOption result (NextOn log.now.keys.now c from log.now.count log.now.count)
+        (λ i. (i < log.now.count) × NextOn log.now.keys.now c from log.now.count i) }
 {
-    let mut i = from;
-    while i < n {
-        if keys[i] / 4294967296 == c {
-            return i;
-        }
-        i += 1;
-    }
-    i
+    (from..log.count).find(|i| channel_of(log.keys[*i]) == c)
 }
 
-fn place_of(
-    a: &[u8],
-    sa: &[usize; STARTS],
-    ka: &[u64; MOST],
-    n: usize,
-    b: &[u8],
-    sb: &[usize; STARTS],
-    kb: &[u64; MOST],
-    m: usize,
-    c: u64,
-) -> u32
-    requires { Ready a.now sa.now ka.now n × Ready b.now sb.now kb.now m }
-    ensures { result ≡ place_on c (records_of a.now) (records_of b.now) }
+fn place_of(a: &Parts, b: &Parts, c: u64) -> u32
+    ensures { result ≡ place_on c (records_of a.now.bytes.now) (records_of b.now.bytes.now) }
 {
     let mut x: usize = 0;
     let mut y: usize = 0;
     let mut k: u32 = 1;
+    // Kept (3): no plainer as an iterator, since an index into each log runs, and the steps of both differ.
     loop {
-        let i = next_on(ka, c, x, n);
-        let j = next_on(kb, c, y, m);
-        if n <= i {
-            if m <= j {
-                return 0;
+        let i = next_on(a, c, x);
+        let j = next_on(b, c, y);
+        match (i, j) {
+            (None, None) => return 0,
+            (Some(_), None) | (None, Some(_)) => return k,
+            (Some(i), Some(j)) => {
+                if !equal(a, i, b, j) {
+                    return k;
+                }
+                x = i + 1;
+                y = j + 1;
+                k += 1;
             }
-            return k;
         }
-        if m <= j {
-            return k;
-        }
-        if !equal(a, sa, ka, n, i, b, sb, kb, m, j) {
-            return k;
-        }
-        x = i + 1;
-        y = j + 1;
-        k += 1;
     }
 }
 
 // The channels that a log has, marked.
-fn mark_channels(keys: &[u64; MOST], n: usize, seen: &mut [u8; CHANNELS])
-    requires { (n ≤ most) × (length seen.old ≡ channels) }
-    ensures { Marked keys.now seen.old seen.new n }
+// Kept (3): over the first of the keys as a slice the proof did not close: how long an array behind a field is, is not known.
+fn mark_channels(log: &Parts, seen: &mut [u8; CHANNELS])
+    requires { length seen.old ≡ channels }
+    ensures { Marked log.now.keys.now seen.old seen.new log.now.count }
 {
-    let mut i: usize = 0;
-    while i < n {
-        let c = (keys[i] / 4294967296) as usize;
-        i += 1;
+    for i in 0..log.count {
+        let c = channel_of(log.keys[i]) as usize;
         if c < CHANNELS {
             seen[c] = 1;
         }
     }
 }
 
-fn store_places(
-    a: &[u8],
-    sa: &[usize; STARTS],
-    ka: &[u64; MOST],
-    n: usize,
-    b: &[u8],
-    sb: &[usize; STARTS],
-    kb: &[u64; MOST],
-    m: usize,
-    seen: &[u8; CHANNELS],
-    places: &mut [u32],
-)
-    requires { Ready a.now sa.now ka.now n × Ready b.now sb.now kb.now m × (channels ≤ length places.old)
-        × ((c : ℕ) → c < channels → get_or seen.now c 0 ≡ 0 → place_on c (records_of a.now) (records_of b.now) ≡ 0) }
-    ensures { places.new ≡ sets places.old 0 (places_of (records_of a.now) (records_of b.now)) }
+fn store_places(a: &Parts, b: &Parts, seen: &[u8; CHANNELS], places: &mut [u32; CHANNELS])
+    requires { (c : ℕ) → c < channels → get_or seen.now c 0 ≡ 0 → place_on c (records_of a.now.bytes.now) (records_of b.now.bytes.now) ≡ 0 }
+    ensures { places.new ≡ sets places.old 0 (places_of (records_of a.now.bytes.now) (records_of b.now.bytes.now)) }
 {
-    let mut c: usize = 0;
-    while c < CHANNELS {
-        if seen[c] == 0 {
-            places[c] = 0;
-            c += 1;
-            continue;
-        }
-        places[c] = place_of(a, sa, ka, n, b, sb, kb, m, c as u64);
-        c += 1;
+    for (c, place) in places.iter_mut().enumerate() {
+        *place = if seen[c] == 0 {
+            0
+        } else {
+            place_of(a, b, c as u64)
+        };
     }
 }
 
 // Only channels that one of the logs has are gone through.
-pub fn all_places(
-    a: &[u8],
-    sa: &[usize; STARTS],
-    ka: &[u64; MOST],
-    n: usize,
-    b: &[u8],
-    sb: &[usize; STARTS],
-    kb: &[u64; MOST],
-    m: usize,
-    places: &mut [u32],
-)
-    requires { Ready a.now sa.now ka.now n × Ready b.now sb.now kb.now m × (channels ≤ length places.old) }
-    ensures { places.new ≡ sets places.old 0 (places_of (records_of a.now) (records_of b.now)) }
+pub fn all_places(a: &Parts, b: &Parts, places: &mut [u32; CHANNELS])
+    ensures { places.new ≡ sets places.old 0 (places_of (records_of a.now.bytes.now) (records_of b.now.bytes.now)) }
 {
     let mut seen = [0u8; CHANNELS];
-    mark_channels(ka, n, &mut seen);
-    mark_channels(kb, m, &mut seen);
-    store_places(a, sa, ka, n, b, sb, kb, m, &seen, places);
+    mark_channels(a, &mut seen);
+    mark_channels(b, &mut seen);
+    store_places(a, b, &seen, places);
 }

@@ -7,11 +7,10 @@ use native.Mathlib.Omega.{arith}
 use lib.Dec.{ltb}
 use lib.ListN.{length}
 use Rattle.refusals.specs.declared.Refusal.TheVariants.{ShortBuffer}
+use Rattle.std.specs.Prelude.{Ok, Err}
 use Rattle.plain_words.specs.Words.{refuses, is_accepted, Within, Told}
 use Rattle.plain_words.proofs.WordLaws.{either, word_tells, not_accepted}
-use Rattle.compare_rules.specs.declared.Compared.{Compared}
-use Rattle.compare_rules.specs.declared.Compared.TheVariants.{Listed, Refused}
-use Rattle.compare_rules.specs.Compare.{first_after, second_after, places_after}
+use Rattle.compare_rules.specs.Compare.{Compared, first_after, second_after, places_after}
 use Rattle.compare_rules.specs.Words.{outcome_of, compared_for, compared_outcome, compared_word, with_numbers}
 use Rattle.compare_rules.proofs.Cases.{by_case}
 
@@ -36,5 +35,5 @@ module _ (a b first second places : List ℕ) (k : ℕ) where
     by : (t : Bool) (r : Compared) → is_accepted (cond t (refuses ShortBuffer) (outcome_of r)) ≡ false
         → (cond t first (first_after a b r first) ≡ first) × (cond t second (second_after a b r second) ≡ second) × (cond t places (places_after a b r places) ≡ places)
     by true r e = (refl, refl, refl)
-    by false (Listed n m) e = absurd (true≢false e)
-    by false (Refused w side at) e = (refl, refl, refl)
+    by false (Ok x) e = absurd (true≢false e)
+    by false (Err x) e = (refl, refl, refl)

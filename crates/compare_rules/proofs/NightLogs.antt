@@ -13,12 +13,10 @@ use Rattle.plain_words.specs.Words.{is_accepted}
 use Rattle.log_numbers.specs.Number.{groups, read_groups}
 use Rattle.log_records.specs.Record.{Rec, AllLoggable, record_bytes, log_bytes}
 use Rattle.log_records.specs.Reading.{records_in, read_from, record_at, time_part, channel_part, identifier_part, length_part, log_of}
-use Rattle.compare_rules.specs.declared.Compared.{Compared}
-use Rattle.compare_rules.specs.declared.Compared.TheVariants.{Listed, Refused}
 use Rattle.compare_rules.specs.Records.{same, same_bytes}
 use Rattle.compare_rules.specs.Surplus.{count_of, surplus_from, surplus_of}
 use Rattle.compare_rules.specs.Places.{places_of}
-use Rattle.compare_rules.specs.Compare.{records_of, broken_at, listed_of, compared_of, first_after, second_after, places_after}
+use Rattle.compare_rules.specs.Compare.{Compared, listed_in, refused_for, records_of, broken_at, listed_of, compared_of, first_after, second_after, places_after}
 use Rattle.compare_rules.specs.Cases.{Taken}
 use Rattle.compare_rules.specs.Words.{compared_for, compared_outcome, compared_word, with_numbers}
 use Rattle.compare_rules.proofs.Cases.{refused_26, refused_27, refused_28, accepted, taken_is, refused_nothing}
@@ -49,15 +47,15 @@ unfolding surplus_from count_of same same_bytes
 counts = (refl, refl)
 
 -- the frame and two ticks against the other frame
-pub night_answer : compared_of one two 512 512 32 ≡ Listed 3 1
+pub night_answer : compared_of one two 512 512 32 ≡ listed_in 3 1
 night_answer =
     taken_is one two 512 512 32 (taken 512 512 32 (omega arith) (omega arith) (omega arith))
-    ∙ ap₂ (λ (a b : List Rec). listed_of a b) sound.2 sound.3 ∙ ap₂ Listed counts.0 counts.1
+    ∙ ap₂ (λ (a b : List Rec). listed_of a b) sound.2 sound.3 ∙ ap₂ listed_in counts.0 counts.1
 
 pub night_taken : Taken one two 512 512 32
 night_taken = (accepted one two 512 512 32).0 (3, 1, night_answer)
 
-pub night_swapped : compared_of two one 512 512 32 ≡ Listed 1 3
+pub night_swapped : compared_of two one 512 512 32 ≡ listed_in 1 3
 night_swapped = swap_answer one two 512 512 32 3 1 night_answer
 
 abbrev held : List ℕ
@@ -102,7 +100,7 @@ two_bytes : 2 < length (record_bytes t)
 unfolding record_bytes groups
 two_bytes = omega arith
 
-pub night_26 : compared_of long two 0 0 0 ≡ Refused CompareLog 1 (length (log_bytes (replicate 600 t)))
+pub night_26 : compared_of long two 0 0 0 ≡ refused_for CompareLog 1 (length (log_bytes (replicate 600 t)))
 night_26 =
     (refused_26 long two 0 0 0 1 (length (log_bytes (replicate 600 t)))).1
     (inl (refl, piece_broken t 2 (omega arith) two_bytes (replicate 600 t) (all_alike t (omega arith, omega arith) 600) (omega arith, omega arith)))
@@ -114,12 +112,12 @@ full = log_bytes (replicate 513 t)
 ticks : AllLoggable (replicate 513 t)
 ticks = all_alike t (omega arith, omega arith) 513
 
-pub night_27 : compared_of full two 0 0 0 ≡ Refused CompareRecords 1 0
+pub night_27 : compared_of full two 0 0 0 ≡ refused_for CompareRecords 1 0
 night_27 =
     (refused_27 full two 0 0 0 1).1
     ((written_sound (replicate 513 t) ticks, sound.1), inl (refl, omega (arith, ap length (written_records (replicate 513 t) ticks), length-replicate {A = Rec} 513 t)))
 
-pub night_28 : compared_of one two 512 511 32 ≡ Refused CompareRoom 2 0
+pub night_28 : compared_of one two 512 511 32 ≡ refused_for CompareRoom 2 0
 night_28 = (refused_28 one two 512 511 32 2).1 (((sound.0, sound.1), omega (arith, few.0), omega (arith, few.1)), inr (refl, omega arith, omega arith))
 
 pub night_stays : first_after one two (compared_of one two 512 511 32) held ≡ held

@@ -6,10 +6,9 @@ use native.Mathlib.Omega.{arith}
 use native.Mathlib.Nat.{zero-add}
 use lib.ListN.{length, drop}
 use lib.Seq.{sets, sets-eq}
-use Rattle.compare_rules.specs.declared.Compared.{Compared}
 use Rattle.compare_rules.specs.Surplus.{surplus_of}
 use Rattle.compare_rules.specs.Places.{channels, places_of}
-use Rattle.compare_rules.specs.Compare.{records_of, first_after, second_after, places_after}
+use Rattle.compare_rules.specs.Compare.{Compared, records_of, first_after, second_after, places_after}
 use Rattle.compare_rules.specs.Cases.{Taken}
 use Rattle.compare_rules.specs.Words.{compared_for}
 use Rattle.compare_rules.proofs.Lists.{few_listed}

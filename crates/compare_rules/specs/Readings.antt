@@ -7,9 +7,7 @@ use Rattle.compare_rules.specs.Places.{on_channel, differ, places_from}
 use Rattle.log_numbers.specs.Number.{read_groups}
 use Rattle.log_records.specs.Reading.{records_in, read_from, record_at, time_part, channel_part, identifier_part, length_part}
 use Rattle.refusals.specs.declared.Refusal.TheVariants.{ShortBuffer, CompareLog, CompareRecords, CompareRoom}
-use Rattle.compare_rules.specs.declared.Compared.{Compared}
-use Rattle.compare_rules.specs.declared.Compared.TheVariants.{Listed, Refused}
-use Rattle.compare_rules.specs.Compare.{broken_at, judged, compared_of}
+use Rattle.compare_rules.specs.Compare.{Compared, listed_in, refused_for, broken_at, judged, compared_of}
 
 abbrev a : Rec
 a = tick 300 0
@@ -55,15 +53,15 @@ short = 172 ∷ 2 ∷ 2 ∷ []
 
 abbrev pub answers : List ((List ℕ × List ℕ) × ((ℕ × (ℕ × ℕ)) × Compared))
 answers =
-    ((good, good), ((512, (512, 32)), Listed 0 0))
-    ∷ ((good, []), ((512, (512, 33)), Listed 1 0))
+    ((good, good), ((512, (512, 32)), listed_in 0 0))
+    ∷ ((good, []), ((512, (512, 33)), listed_in 1 0))
     -- 26, the first log first, and before short lists
-    ∷ ((bad, short), ((0, (0, 0)), Refused CompareLog 1 5))
-    ∷ ((good, short), ((0, (0, 0)), Refused CompareLog 2 0))
+    ∷ ((bad, short), ((0, (0, 0)), refused_for CompareLog 1 5))
+    ∷ ((good, short), ((0, (0, 0)), refused_for CompareLog 2 0))
     -- 28, the first list first, and before the channels' places
-    ∷ ((good, good), ((511, (511, 31)), Refused CompareRoom 1 0))
-    ∷ ((good, good), ((512, (511, 31)), Refused CompareRoom 2 0))
-    ∷ ((good, good), ((512, (512, 31)), Refused ShortBuffer 0 0))
+    ∷ ((good, good), ((511, (511, 31)), refused_for CompareRoom 1 0))
+    ∷ ((good, good), ((512, (511, 31)), refused_for CompareRoom 2 0))
+    ∷ ((good, good), ((512, (512, 31)), refused_for ShortBuffer 0 0))
     ∷ []
 
 pub answered : map (λ e. compared_of e.0.0 e.0.1 e.1.0.0 e.1.0.1.0 e.1.0.1.1) answers ≡ map (λ e. e.1.1) answers
@@ -71,5 +69,5 @@ unfolding compared_of broken_at records_in surplus_from count_of same read_from 
 answered = refl
 
 -- 27 by the number of records, the first log first, and before short lists
-pub many : map (λ (e : ℕ × ℕ). judged e.0 e.1 0 0 0 (Listed 0 0)) ((513, 513) ∷ (512, 513) ∷ (512, 512) ∷ []) ≡ Refused CompareRecords 1 0 ∷ Refused CompareRecords 2 0 ∷ Refused CompareRoom 1 0 ∷ []
+pub many : map (λ (e : ℕ × ℕ). judged e.0 e.1 0 0 0 (listed_in 0 0)) ((513, 513) ∷ (512, 513) ∷ (512, 512) ∷ []) ≡ refused_for CompareRecords 1 0 ∷ refused_for CompareRecords 2 0 ∷ refused_for CompareRoom 1 0 ∷ []
 many = refl

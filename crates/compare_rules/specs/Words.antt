@@ -1,20 +1,18 @@
 -- A comparison over the C interface: a word, 0 where it is accepted, and two numbers: how many stand in each list, or side and byte of what is
 -- refused. Where there are fewer places for these two the call is refused with 8, before anything else, and nothing is written.
-use Rattle.std.specs.Prelude.{ℕ, cond, List, [], ◌∷◌, ltb, length}
+use Rattle.std.specs.Prelude.{ℕ, cond, List, [], ◌∷◌, ltb, length, Ok, Err}
 use Rattle.std.proofs.lemmas.List.Edits.{sets}
 use Rattle.refusals.specs.declared.Refusal.TheVariants.{ShortBuffer}
 use Rattle.plain_words.specs.Words.{Outcome, answers, refuses, outcome_word}
-use Rattle.compare_rules.specs.declared.Compared.{Compared}
-use Rattle.compare_rules.specs.declared.Compared.TheVariants.{Listed, Refused}
-use Rattle.compare_rules.specs.Compare.{compared_of}
+use Rattle.compare_rules.specs.Compare.{Compared, compared_of}
 
 abbrev pub outcome_of : Compared → Outcome
-outcome_of (Listed n m) = answers 0
-outcome_of (Refused w side at) = refuses w
+outcome_of (Ok x) = answers 0
+outcome_of (Err e) = refuses e.why
 
 abbrev pub numbers_of : Compared → List ℕ
-numbers_of (Listed n m) = n ∷ m ∷ []
-numbers_of (Refused w side at) = side ∷ at ∷ []
+numbers_of (Ok x) = x.first ∷ x.second ∷ []
+numbers_of (Err e) = e.side ∷ e.at ∷ []
 
 -- of two logs, and what is lent for their lists and places
 abbrev pub compared_for : List ℕ → List ℕ → List ℕ → List ℕ → List ℕ → Compared

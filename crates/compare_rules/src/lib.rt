@@ -8,12 +8,21 @@
 // proofs/ has their laws, and each of them on records and on logs (Nights.antt, NightLogs.antt). `compare_logs` and `lent_compare` answer by it.
 use refusals::Refusal;
 
-// How many records stand in each list; or why nothing is listed: of the first log (side 1) or of the second (side 2), 26 with the byte where a record
-// begins that is malformed or cut, 27, and 28 of that log's list; 8 where there are too few places for the channels, with side 0. The byte is 0 but for 26.
+// How many records stand in each list.
 #[derive(Clone, Copy)]
-pub enum Compared {
-    Listed { first: usize, second: usize },
-    Refused { why: Refusal, side: u32, at: usize },
+pub struct Listed {
+    pub first: usize,
+    pub second: usize,
+}
+
+// Why nothing is listed: of the first log (side 1) or of the second (side 2), 26 with the byte where a record begins that is malformed or cut, 27, and 28
+// of that log's list; 8 where there are too few places for the channels, with side 0. The byte is 0 but for 26.
+// Kept (1): Compare.antt and Words.antt tell refusal, side and byte of every case, and the entry hands out each: an enum of cases would be taken apart there.
+#[derive(Clone, Copy)]
+pub struct Unlisted {
+    pub why: Refusal,
+    pub side: u32,
+    pub at: usize,
 }
 
 // 02: "At most 512 records a log".

@@ -11,10 +11,8 @@ use std::os::unix::fs::FileExt;
 const NO_TEXT: i32 = 84;
 
 fn opened(rt: HostRuntime, how: &OpenOptions, name: &[u8]) -> io::Result<File> {
-    match std::str::from_utf8(name) {
-        Ok(path) => how.open(&rt, path),
-        Err(_) => Err(io::Error::from_raw_os_error(NO_TEXT)),
-    }
+    let path = std::str::from_utf8(name).map_err(|_| io::Error::from_raw_os_error(NO_TEXT))?;
+    how.open(&rt, path)
 }
 
 // For reading: a file or a folder.
@@ -52,6 +50,7 @@ pub fn read_at(file: &File, buf: &mut [u8], at: u64) -> io::Result<usize>
 }
 
 // One write: how many of the bytes it took.
+// Kept (2): this writes and `read` reads: all that they share is the reference that the two traits' methods ask for.
 pub fn write(file: &File, bytes: &[u8]) -> io::Result<usize>
     ensures { WritesAtMost result bytes.now }
 {
@@ -67,22 +66,14 @@ pub fn read(file: &File, buf: &mut [u8]) -> io::Result<usize>
     f.read(buf)
 }
 
-fn read_or_none(file: &File, buf: &mut [u8]) -> usize
-    ensures { result ≤ length buf.new }
-{
-    match read(file, buf) {
-        Ok(n) => n,
-        Err(_) => 0,
-    }
-}
-
 // Reads until buf is full, the file ends or a read fails: how many bytes it put at the start of buf.
+// Kept (3): a turn goes on by as many bytes as the system gave, and not by an index.
 pub fn read_full(file: &File, buf: &mut [u8]) -> usize
     ensures { result ≤ length buf.new }
 {
     let mut done = 0;
     while done < buf.len() {
-        let n = read_or_none(file, &mut buf[done..]);
+        let n = read(file, &mut buf[done..]).unwrap_or(0);
         if n == 0 {
             return done;
         }

@@ -2,10 +2,11 @@
 // Every function takes any input.
 #![tactic(auto)]
 
-ghost use Rattle.std.specs.Prelude.{◌≡◌, length};
+ghost use Rattle.std.specs.Prelude.{◌≡◌, ◌≤◌, length, take, IfSome};
 ghost use Rattle.std.specs.Io.{ReadsAtMost};
 
 pub mod files; // files.rt: files by name
+pub mod lines; // lines.rt: a line of the input
 mod reason; // reason.rt: why a call failed, in the system's words
 
 use std::env::{Env, FillError};
@@ -18,6 +19,7 @@ const MISSING: i32 = 22;
 const TOO_LONG: i32 = 36;
 
 // Room for a name: 4,096 zeros.
+// Kept (2): this and `large_buffer` differ in a number, and the edits name_room_of_4095 and large_room_of_65535 change one of them each.
 pub fn buffer() -> [u8; 4096]
     ensures { 4096 ≡ length result }
 {
@@ -31,38 +33,50 @@ pub fn large_buffer() -> [u8; 65536]
     [0; 65536]
 }
 
+// The first n, or all where there are fewer.
+pub fn front<T>(all: &[T], n: usize) -> &[T]
+    ensures { result.now ≡ take n all.now }
+{
+    &all[..n.min(all.len())]
+}
+
 // Whether the call has a word at that place; its first is the program's name.
+// Kept (2): no twins: one asks for a word, one counts the words and one reads a word, and each is another expression.
 fn has_word(rt: HostRuntime, i: usize) -> bool {
-    let mut none = [0u8; 0];
-    match rt.arg(i, &mut none) {
-        Ok(_) => true,
-        Err(FillError::TooLong) => true,
-        Err(FillError::NotPresent) => false,
-    }
+    !matches!(rt.arg(i, &mut [0u8; 0]), Err(FillError::NotPresent))
 }
 
 // Whether the call has so many words behind the program's name.
 pub fn has_words(rt: HostRuntime, n: usize) -> bool {
-    if n == usize::MAX {
-        return false;
+    n < usize::MAX && (n == 0 || has_word(rt, n)) && !has_word(rt, n + 1)
+}
+
+fn number_of(why: FillError) -> i32 {
+    match why {
+        FillError::NotPresent => MISSING,
+        FillError::TooLong => TOO_LONG,
     }
-    if n > 0 {
-        if !has_word(rt, n) {
-            return false;
-        }
-    }
-    !has_word(rt, n + 1)
 }
 
 // The word at that place of the call, at the start of buf: its length, or why it is not there whole.
 pub fn word(rt: HostRuntime, i: usize, buf: &mut [u8]) -> io::Result<usize>
     ensures { ReadsAtMost result buf.new }
 {
-    match rt.arg(i, buf) {
-        Ok(n) => Ok(n),
-        Err(FillError::NotPresent) => Err(io::Error::from_raw_os_error(MISSING)),
-        Err(FillError::TooLong) => Err(io::Error::from_raw_os_error(TOO_LONG)),
-    }
+    rt.arg(i, buf)
+        .map_err(|why| io::Error::from_raw_os_error(number_of(why)))
+}
+
+// The word at that place of the call, at the start of `room`; none where it is not there whole, which is said as `fail` says it.
+pub fn whole_word<'a>(
+    rt: HostRuntime,
+    i: usize,
+    what: &[u8],
+    room: &'a mut [u8],
+) -> Option<&'a [u8]>
+    ensures { IfSome result (λ w. length w.now ≤ length room.old) }
+{
+    let n = word(rt, i, room).map_err(|why| fail(rt, what, why)).ok()?;
+    Some(&room[..n])
 }
 
 // One read of standard input: how many bytes it put at the start of buf, none at the input's end.
@@ -70,6 +84,16 @@ pub fn read(rt: HostRuntime, buf: &mut [u8]) -> io::Result<usize>
     ensures { ReadsAtMost result buf.new }
 {
     rt.stdin().read(buf)
+}
+
+// One read of standard input, as `read`; where it failed that is said as `fail` says it, and it put none.
+pub fn next_piece(rt: HostRuntime, what: &[u8], buf: &mut [u8]) -> usize
+    ensures { result ≤ length buf.new }
+{
+    read(rt, buf).unwrap_or_else(|why| {
+        fail(rt, what, why);
+        0
+    })
 }
 
 // All of these bytes to standard output.

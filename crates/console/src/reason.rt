@@ -2,30 +2,20 @@
 use std::io;
 use std::io::{Cursor, Write};
 
-// How many bytes stand before the last ` (`; all where none stands there.
-fn text_end(told: &[u8]) -> usize {
-    let mut i = told.len();
-    while i > 1 {
-        i -= 1;
-        if told[i] == b'(' {
-            return i - 1;
-        }
+// What stands before the last ` (`; all where none stands there.
+fn text_before(told: &[u8]) -> &[u8] {
+    match told.iter().rposition(|&b| b == b'(') {
+        Some(at) if at > 0 => &told[..at - 1],
+        _ => told,
     }
-    told.len()
-}
-
-fn front(bytes: &[u8], n: usize) -> &[u8] {
-    if bytes.len() < n {
-        return bytes;
-    }
-    &bytes[0..n]
 }
 
 // The text of a reason that has the system's number, and the whole of any other.
 fn text_in(why: io::Error, told: &[u8]) -> &[u8] {
-    match why.raw_os_error() {
-        Some(_) => front(told, text_end(told)),
-        None => told,
+    if why.raw_os_error().is_some() {
+        text_before(told)
+    } else {
+        told
     }
 }
 
@@ -34,5 +24,5 @@ pub fn say(rt: HostRuntime, why: io::Error) {
     let _ = write!(room, "{why}");
     let n = room.position() as usize;
     let told = room.into_inner();
-    crate::say(rt, text_in(why, front(&told, n)));
+    crate::say(rt, text_in(why, told.get(..n).unwrap_or(&told)));
 }

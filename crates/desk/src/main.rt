@@ -1,226 +1,119 @@
 // The desk: reads a script on standard input and writes one answer line for each step, in order. Every step runs by value; with the argument
 // `lent` it runs through the entries that change a lent table in place.
+// Kept (6): no heap: the buffers are the program's own, and lent to what reads and writes.
 #![tactic(auto)]
 
-ghost use Rattle.std.specs.Prelude.{◌≤◌};
-
-mod word; // word.rt: the word that a line begins with
 mod step; // step.rt: a line and its answer
 
-use desk_buffers::front;
+use console::lines::Line;
+use desk_batch::desk_table::{ByValue, InPlace, Posts, Way};
+use desk_buffers::{Output, front};
 use notation_answers::answer;
 use notation_read::script;
-use text_pen::Pen;
-use watch_rules::Table;
-
-// What is kept from one piece of the input to the next: the table, how much of the last line is in the line buffer, whether that line is
-// over its length, and how much of the output buffer is written.
-#[derive(Clone, Copy)]
-struct Desk {
-    lent: bool,
-    table: Table,
-    have: usize,
-    over: bool,
-    pen: Pen,
-}
+use text_pen::Sheet;
 
 // desk.md: "a line over 65,535 bytes"
 const LONGEST: usize = 65535;
 
-// With nothing in the line buffer.
-fn emptied(desk: Desk, pen: Pen) -> Desk {
-    let mut d = desk;
-    d.have = 0;
-    d.over = false;
-    d.pen = pen;
-    d
+// What is kept from one line to the next: the posts, the room that a line's bytes are read into, and the output.
+#[derive(Drop)]
+struct Desk<'p, 'r, 'o, 'b, W: Way> {
+    posts: &'p mut Posts<W>,
+    room: &'r mut [u8],
+    output: &'o mut Output<'b>,
 }
 
-// The line in the buffer is whole: its answer goes to the pen.
-fn ended(rt: HostRuntime, desk: Desk, line: &[u8], room: &mut [u8], out: &mut [u8]) -> Desk {
-    let s = front(line, desk.have);
-    if script::is_skipped(s) {
-        return emptied(desk, desk.pen);
+impl<'p, 'r, 'o, 'b, W: Way> Desk<'p, 'r, 'o, 'b, W> {
+    // A whole line: its answer goes to the output.
+    fn answer(&mut self, line: &Line) {
+        let s = line.text();
+        if script::is_skipped(s) {
+            return;
+        }
+        self.output.make_room(s.len());
+        if line.over {
+            answer::unknown(&mut self.output.sheet);
+            return;
+        }
+        step::answer(self.posts, s, self.room, self.output);
     }
-    answered(rt, desk, s, room, out)
-}
 
-fn answered(rt: HostRuntime, desk: Desk, s: &[u8], room: &mut [u8], out: &mut [u8]) -> Desk {
-    let lent = desk.lent;
-    let table = desk.table;
-    let p = desk.pen;
-    let pen = desk_buffers::with_room(rt, p, out, s.len());
-    if desk.over {
-        return emptied(desk, answer::unknown(out, pen));
-    }
-    let l = step::answered(rt, lent, table, s, room, out, pen);
-    let t = l.table;
-    let q = l.pen;
-    Desk {
-        lent,
-        table: t,
-        have: 0,
-        over: false,
-        pen: q,
-    }
-}
-
-// The bytes of a piece, one after the other.
-fn fed(
-    rt: HostRuntime,
-    desk: Desk,
-    piece: &[u8],
-    line: &mut [u8],
-    room: &mut [u8],
-    out: &mut [u8],
-) -> Desk {
-    let mut d = desk;
-    let mut i = 0;
-    while i < piece.len() {
-        let b = piece[i];
-        i += 1;
-        if b == b'\n' {
-            d = ended(rt, d, line, room, out);
-        } else {
-            d = kept(d, line, b);
+    // The bytes of a piece, one after the other.
+    fn feed(&mut self, line: &mut Line, piece: &[u8]) {
+        for &b in piece {
+            if b == b'\n' {
+                self.answer(line);
+                line.next();
+            } else {
+                line.push(b);
+            }
         }
     }
-    d
-}
 
-// How many bytes of a line are kept.
-fn most(n: usize) -> usize
-    ensures { result ≤ n }
-{
-    if n < LONGEST { n } else { LONGEST }
-}
-
-fn kept(desk: Desk, line: &mut [u8], b: u8) -> Desk {
-    let have = desk.have;
-    let mut d = desk;
-    if have >= most(line.len()) {
-        d.over = true;
-        return d;
-    }
-    line[have] = b;
-    d.have = have + 1;
-    d
-}
-
-// Nobody waits for an answer while the desk waits for more: what is answered goes out first.
-fn told(rt: HostRuntime, desk: Desk, out: &[u8]) -> Desk {
-    let p = desk.pen;
-    let pen = desk_buffers::flushed(rt, p, out);
-    let mut d = desk;
-    d.pen = pen;
-    d
-}
-
-// The next piece of the input, and how many bytes of it there are; none at the input's end, and none where the reading failed, which is said.
-fn read_piece(rt: HostRuntime, piece: &mut [u8]) -> usize {
-    match console::read(rt, piece) {
-        Ok(n) => n,
-        Err(why) => {
-            console::fail(rt, b"desk: reading standard input", why);
-            0
+    // To the input's end. Nobody waits for an answer while the desk waits for more: what is answered goes out first.
+    fn run(&mut self, line: &mut Line, piece: &mut [u8]) {
+        for _ in 0..u64::MAX {
+            self.output.flush();
+            // by default the system ends a program there
+            if self.output.is_unread() {
+                return;
+            }
+            let n = console::next_piece(self.output.rt, b"desk: reading standard input", piece);
+            if n == 0 {
+                return;
+            }
+            self.feed(line, front(piece, n));
         }
     }
-}
 
-fn fed_first(
-    rt: HostRuntime,
-    desk: Desk,
-    n: usize,
-    piece: &[u8],
-    line: &mut [u8],
-    room: &mut [u8],
-    out: &mut [u8],
-) -> Desk {
-    fed(rt, desk, front(piece, n), line, room, out)
-}
-
-fn run(
-    rt: HostRuntime,
-    desk: Desk,
-    piece: &mut [u8],
-    line: &mut [u8],
-    room: &mut [u8],
-    out: &mut [u8],
-) -> Desk {
-    let mut d = desk;
-    let mut turns = u64::MAX;
-    while turns > 0 {
-        d = told(rt, d, out);
-        // by default the system ends a program there
-        if desk_buffers::is_unread(d.pen, out) {
-            return d;
+    // "The last line may lack its line feed."
+    fn finish(&mut self, line: &Line) {
+        if line.have > 0 {
+            self.answer(line);
         }
-        let n = read_piece(rt, piece);
-        if n == 0 {
-            return d;
-        }
-        d = fed_first(rt, d, n, piece, line, room, out);
-        turns -= 1;
+        self.output.flush();
     }
-    d
 }
 
-// "The last line may lack its line feed."
-fn finish(rt: HostRuntime, desk: Desk, line: &[u8], room: &mut [u8], out: &mut [u8]) {
-    let have = desk.have;
-    if have == 0 {
-        desk_buffers::flushed(rt, desk.pen, out);
-        return;
-    }
-    let d = ended(rt, desk, line, room, out);
-    desk_buffers::flushed(rt, d.pen, out);
-}
-
-fn serve(rt: HostRuntime, lent: bool) {
+// Answers the input's lines, to its end.
+fn serve<W: Way>(way: W, output: &mut Output) {
     let mut piece = console::large_buffer();
-    let mut line = console::large_buffer();
+    let mut bytes = [0u8; LONGEST];
     let mut room = console::large_buffer();
-    let mut out = console::large_buffer();
-    let start = Desk {
-        lent,
+    let mut line = Line::new(&mut bytes);
+    let mut posts = Posts {
+        way,
         table: watch::empty(),
-        have: 0,
-        over: false,
-        pen: Pen { at: 0, full: false },
     };
-    let d = run(rt, start, &mut piece, &mut line, &mut room, &mut out);
-    finish(rt, d, &line, &mut room, &mut out);
-}
-
-fn says_lent(word: &[u8]) -> bool {
-    match word {
-        b"lent" => true,
-        _ => false,
-    }
+    let mut desk = Desk {
+        posts: &mut posts,
+        room: &mut room,
+        output,
+    };
+    desk.run(&mut line, &mut piece);
+    desk.finish(&line);
 }
 
 // Whether the call's first word is `lent`. A word longer than its room is not.
 fn is_lent(rt: HostRuntime) -> bool {
     let mut word = [0u8; 16];
-    match console::word(rt, 1, &mut word) {
-        Ok(n) => says_lent(front(&word, n)),
-        Err(_) => false,
-    }
+    console::word(rt, 1, &mut word).is_ok_and(|n| matches!(front(&word, n), b"lent"))
 }
 
 fn main(rt: HostRuntime) {
-    if console::has_words(rt, 0) {
-        serve(rt, false);
-        return;
-    }
-    if console::has_words(rt, 1) {
-        if is_lent(rt) {
-            serve(rt, true);
-            return;
-        }
-    }
-    console::say(
+    let mut out = console::large_buffer();
+    let mut output = Output {
         rt,
-        b"usage: desk [lent] < SCRIPT; lent runs the steps on a lent table\n",
-    );
+        sheet: Sheet::new(&mut out),
+    };
+    if console::has_words(rt, 0) {
+        serve(ByValue, &mut output);
+    } else if console::has_words(rt, 1) && is_lent(rt) {
+        serve(InPlace, &mut output);
+    } else {
+        console::say(
+            rt,
+            b"usage: desk [lent] < SCRIPT; lent runs the steps on a lent table\n",
+        );
+    }
 }

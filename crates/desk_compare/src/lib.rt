@@ -1,274 +1,126 @@
 // The step `compare`, which compares two night logs, for the desk alone.
+// Kept (6): no heap: of the lists' places ROOM1 and ROOM2 are lent, and of the channels' all.
 #![tactic(auto)]
 
-use compare_rules::{CHANNELS, Compared};
-use desk_buffers::front;
+use compare_rules::{CHANNELS, Listed, Unlisted};
+use desk_buffers::{Bench, Fields, front};
 use notation_answers::answer;
-use notation_read::fields;
-use notation_read::fields::Last;
 use refusals::Refusal;
-use text_bytes::Bytes;
-use text_lines::Field;
-use text_pen::Pen;
+use text_pen::Sheet;
 
 // A larger ROOM is too large for its place.
 const MOST: usize = 2048;
 
 // The first log's bytes are the first of the room, the second's those behind them; each list has so many places.
 #[derive(Clone, Copy)]
-enum Asked {
-    Bad,
-    Logs {
-        first: usize,
-        second: usize,
-        room1: usize,
-        room2: usize,
-    },
+struct Logs {
+    first: usize,
+    second: usize,
+    room1: usize,
+    room2: usize,
 }
 
-// A log's bytes are the first `length` of the room; `next` is where the next field stands.
-#[derive(Clone, Copy)]
-enum Log {
-    Bad,
-    Is { length: usize, next: usize },
-}
-
-fn take_log(s: &[u8], at: usize, room: &mut [u8]) -> Log {
-    if at > s.len() {
-        return Log::Bad;
-    }
-    let e = text_lines::word_end(s, at);
-    let Bytes::Is(length) = text_bytes::hex_bytes(&s[at..e], room) else {
-        return Log::Bad;
-    };
-    Log::Is {
-        length,
-        next: e + 1,
-    }
-}
-
-// `HEX` behind so many bytes of the room
-fn take_other(s: &[u8], at: usize, room: &mut [u8], length: usize) -> Log {
-    if length > room.len() {
-        return Log::Bad;
-    }
-    take_log(s, at, &mut room[length..])
-}
-
-// `ROOM1 ROOM2`
-fn take_rooms(s: &[u8], at: usize, first: usize, second: usize) -> Asked {
-    let Field::Is(room1, next) = text_lines::take_u32(s, at) else {
-        return Asked::Bad;
-    };
-    let Last::Is(room2) = fields::take_last(s, next) else {
-        return Asked::Bad;
-    };
-    Asked::Logs {
+// `HEX HEX ROOM1 ROOM2`
+fn taken(mut fields: Fields, room: &mut [u8]) -> Option<Logs> {
+    let first = fields.bytes(room)?;
+    let second = fields.bytes(room.get_mut(first..)?)?;
+    let room1 = fields.number()? as usize;
+    let room2 = fields.last()? as usize;
+    (room1 <= MOST && room2 <= MOST).then_some(Logs {
         first,
         second,
-        room1: room1 as usize,
-        room2: room2 as usize,
-    }
+        room1,
+        room2,
+    })
 }
 
-fn taken(s: &[u8], at: usize, room: &mut [u8]) -> Asked {
-    let Log::Is {
-        length: first,
-        next: a,
-    } = take_log(s, at, room)
-    else {
-        return Asked::Bad;
-    };
-    let Log::Is {
-        length: second,
-        next: b,
-    } = take_other(s, a, room, first)
-    else {
-        return Asked::Bad;
-    };
-    take_rooms(s, b, first, second)
-}
-
-// The bytes behind the first n, and none where there are no more.
-fn behind(bytes: &[u8], n: usize) -> &[u8] {
-    if bytes.len() < n {
-        return &bytes[0..0];
-    }
-    &bytes[n..]
-}
-
-// The first n numbers, or all where there are fewer.
-fn first_of(numbers: &[u32], n: usize) -> &[u32] {
-    if numbers.len() < n {
-        return numbers;
-    }
-    &numbers[0..n]
-}
-
-fn put_joint(out: &mut [u8], pen: Pen, any: bool) -> Pen {
+// With `,` before all but the first.
+// Kept (2): tried as one loop over items and a closure that puts each: the loop then asks that there is a next item, that the items end and that the closure
+// may be called, three premises for two loops of three lines; and on a public function, for `desk_record` and `desk_values`, no premise may stand.
+fn put_joint(sheet: &mut Sheet, any: bool) {
     if any {
-        return text_pen::put(out, pen, b",");
+        sheet.put(b",");
     }
-    pen
 }
 
 // Numbers joined by `,`, or `-`
-fn put_numbers(numbers: &[u32], out: &mut [u8], pen: Pen) -> Pen {
-    if numbers.len() == 0 {
-        return text_pen::put(out, pen, b"-");
+fn put_numbers(sheet: &mut Sheet, numbers: &[u32]) {
+    if numbers.is_empty() {
+        sheet.put(b"-");
     }
-    let mut p = pen;
-    let mut i = 0;
-    while i < numbers.len() {
-        let q = put_joint(out, p, i > 0);
-        p = answer::named(out, q, b"", numbers[i]);
-        i += 1;
+    for (i, &n) in numbers.iter().enumerate() {
+        put_joint(sheet, i > 0);
+        answer::named(sheet, b"", n);
     }
-    p
 }
 
-// The pen, and whether a channel has a place so far.
-#[derive(Clone, Copy)]
-struct Put {
-    pen: Pen,
-    any: bool,
-}
-
-// `CHANNEL:PLACE`; a channel that does not differ has the place 0.
-fn put_place(x: Put, channel: usize, place: u32, out: &mut [u8]) -> Put {
-    let pen = x.pen;
-    let any = x.any;
-    if place == 0 {
-        return Put { pen, any };
+// `CHANNEL:PLACE` of each channel that differs, joined by `,`, or `-`; a channel that does not has the place 0.
+fn put_channels(sheet: &mut Sheet, places: &[u32; CHANNELS]) {
+    if places.iter().all(|&place| place == 0) {
+        sheet.put(b"-");
     }
-    let p = put_joint(out, pen, any);
-    let q = text_written::put_decimal(out, p, channel as u64);
-    let r = answer::named(out, q, b":", place);
-    Put { pen: r, any: true }
-}
-
-// All channels' places joined by `,`
-fn put_places(places: [u32; CHANNELS], out: &mut [u8], pen: Pen) -> Put {
-    let mut x = Put { pen, any: false };
-    let mut channel: usize = 0;
-    while channel < CHANNELS {
-        x = put_place(x, channel, places[channel], out);
-        channel += 1;
+    let differing = places.iter().enumerate().filter(|(_, place)| **place != 0);
+    for (i, (channel, &place)) in differing.enumerate() {
+        put_joint(sheet, i > 0);
+        text_written::put_decimal(sheet, channel as u64);
+        answer::named(sheet, b":", place);
     }
-    x
-}
-
-// The places, or `-`
-fn put_channels(places: [u32; CHANNELS], out: &mut [u8], pen: Pen) -> Pen {
-    let x = put_places(places, out, pen);
-    let p = x.pen;
-    if x.any {
-        return p;
-    }
-    text_pen::put(out, p, b"-")
-}
-
-// `A first=.. second=..`
-fn put_lists(first: &[u32], second: &[u32], out: &mut [u8], pen: Pen) -> Pen {
-    let p = text_pen::put(out, pen, b"A first=");
-    let q = put_numbers(first, out, p);
-    let r = text_pen::put(out, q, b" second=");
-    put_numbers(second, out, r)
-}
-
-// `A first=.. second=.. chan=..`
-fn put_listed(
-    first: &[u32],
-    second: &[u32],
-    places: [u32; CHANNELS],
-    out: &mut [u8],
-    pen: Pen,
-) -> Pen {
-    let p = put_lists(first, second, out, pen);
-    let q = text_pen::put(out, p, b" chan=");
-    let r = put_channels(places, out, q);
-    answer::line_end(out, r)
 }
 
 // `R26:<side>:<byte>`, `R27:<side>` or `R28:<side>`
-fn put_refused(why: Refusal, side: u32, at: usize, out: &mut [u8], pen: Pen) -> Pen {
-    let n = refusals::refusal_number(why);
-    let p = answer::named(out, pen, b"R", n);
-    let q = answer::named(out, p, b":", side);
-    if n != 26 {
-        return answer::line_end(out, q);
+fn put_refused(sheet: &mut Sheet, u: Unlisted) {
+    answer::named(sheet, b"R", refusals::refusal_number(u.why));
+    answer::named(sheet, b":", u.side);
+    if let Refusal::CompareLog = u.why {
+        sheet.put(b":");
+        text_written::put_decimal(sheet, u.at as u64);
     }
-    let r = text_pen::put(out, q, b":");
-    let t = text_written::put_decimal(out, r, at as u64);
-    answer::line_end(out, t)
+    answer::line_end(sheet);
 }
 
+// `A first=.. second=.. chan=..`, or the refusal
 fn put_compared(
-    c: Compared,
+    sheet: &mut Sheet,
+    c: Result<Listed, Unlisted>,
     first: &[u32],
     second: &[u32],
-    places: [u32; CHANNELS],
-    out: &mut [u8],
-    pen: Pen,
-) -> Pen {
+    places: &[u32; CHANNELS],
+) {
     match c {
-        Compared::Listed {
-            first: n,
-            second: m,
-        } => put_listed(first_of(first, n), first_of(second, m), places, out, pen),
-        Compared::Refused { why, side, at } => put_refused(why, side, at, out, pen),
+        Ok(n) => {
+            sheet.put(b"A first=");
+            put_numbers(sheet, front(first, n.first));
+            sheet.put(b" second=");
+            put_numbers(sheet, front(second, n.second));
+            sheet.put(b" chan=");
+            put_channels(sheet, places);
+            answer::line_end(sheet);
+        }
+        Err(u) => put_refused(sheet, u),
     }
 }
 
-fn compared(
-    a: &[u8],
-    b: &[u8],
-    room1: usize,
-    room2: usize,
-    first: &mut [u32],
-    second: &mut [u32],
-    out: &mut [u8],
-    pen: Pen,
-) -> Pen {
-    if room1 > first.len() {
-        return answer::unknown(out, pen);
-    }
-    if room2 > second.len() {
-        return answer::unknown(out, pen);
-    }
+fn put_comparison(sheet: &mut Sheet, logs: Logs, room: &[u8]) {
+    let a = front(room, logs.first);
+    let b = front(&room[a.len()..], logs.second);
+    let mut first = [0u32; MOST];
+    let mut second = [0u32; MOST];
     let mut places = [0u32; CHANNELS];
     let c = compare_logs::compare(
         a,
         b,
-        &mut first[0..room1],
-        &mut second[0..room2],
+        &mut first[..logs.room1.min(MOST)],
+        &mut second[..logs.room2.min(MOST)],
         &mut places,
     );
-    put_compared(c, first, second, places, out, pen)
-}
-
-fn lent(a: &[u8], b: &[u8], room1: usize, room2: usize, out: &mut [u8], pen: Pen) -> Pen {
-    let mut first = [0u32; MOST];
-    let mut second = [0u32; MOST];
-    compared(a, b, room1, room2, &mut first, &mut second, out, pen)
+    put_compared(sheet, c, &first, &second, &places);
 }
 
 // `compare HEX HEX ROOM1 ROOM2`
-pub fn compare(s: &[u8], at: usize, room: &mut [u8], out: &mut [u8], pen: Pen) -> Pen {
-    match taken(s, at, room) {
-        Asked::Bad => answer::unknown(out, pen),
-        Asked::Logs {
-            first,
-            second,
-            room1,
-            room2,
-        } => lent(
-            front(room, first),
-            front(behind(room, first), second),
-            room1,
-            room2,
-            out,
-            pen,
-        ),
+pub fn compare(fields: Fields, bench: Bench) {
+    let Bench { room, output } = bench;
+    match taken(fields, room) {
+        None => answer::unknown(&mut output.sheet),
+        Some(logs) => put_comparison(&mut output.sheet, logs, room),
     }
 }

@@ -1,161 +1,82 @@
 // The step `logw`: a record's bytes.
-ghost use Rattle.std.specs.Prelude.{◌≤◌};
-
-use desk_buffers::front;
-use log_write::Logged;
+use desk_buffers::{Bench, Fields, front};
 use notation_answers::answer;
-use notation_read::fields;
-use notation_read::fields::Head;
-use text_bytes::Bytes;
-use text_lines::Field;
-use text_pen::Pen;
+use refusals::Refusal;
+use text_pen::Sheet;
 
 // A payload that the log can hold has eight bytes at most: of a longer one nine are enough to be refused.
 const ENOUGH: usize = 9;
 
 // What the log answered, and how many bytes at the front of the room are the lent buffer's.
 #[derive(Clone, Copy)]
-enum Done {
-    Bad,
-    Is(Logged, usize),
+struct Logged {
+    answer: Result<usize, Refusal>,
+    size: usize,
 }
 
 // `logw t TIME CHANNEL HEX`, `logw f TIME CHANNEL ID x|s HEX HEX`
-pub fn write(s: &[u8], at: usize, room: &mut [u8], out: &mut [u8], pen: Pen) -> Pen {
-    match written(s, at, room) {
-        Done::Bad => answer::unknown(out, pen),
-        Done::Is(w, size) => put_logged(out, pen, w, front(room, size)),
+pub fn write(fields: Fields, bench: Bench) {
+    let Bench { room, output } = bench;
+    match written(fields, room) {
+        None => answer::unknown(&mut output.sheet),
+        Some(w) => put_logged(&mut output.sheet, w.answer, front(room, w.size)),
     }
 }
 
-fn written(s: &[u8], at: usize, room: &mut [u8]) -> Done {
-    if at > s.len() {
-        return Done::Bad;
-    }
-    let e = text_lines::word_end(s, at);
-    let kind = &s[at..e];
-    match kind {
-        b"t" => tick(s, e + 1, room),
-        b"f" => frame(s, e + 1, room),
-        _ => Done::Bad,
+fn written(mut fields: Fields, room: &mut [u8]) -> Option<Logged> {
+    match fields.word()? {
+        b"t" => tick(fields, room),
+        b"f" => frame(fields, room),
+        _ => None,
     }
 }
 
 // `TIME CHANNEL HEX`
-fn tick(s: &[u8], at: usize, room: &mut [u8]) -> Done {
-    let Field::Is(time, a) = text_lines::take_u32(s, at) else {
-        return Done::Bad;
-    };
-    let Field::Is(channel, b) = text_lines::take_u32(s, a) else {
-        return Done::Bad;
-    };
-    let Bytes::Is(size) = fields::take_rest(s, b, room) else {
-        return Done::Bad;
-    };
-    if size > room.len() {
-        return Done::Bad;
-    }
-    let w = log_write::write_tick(time, channel, &mut room[0..size]);
-    Done::Is(w, size)
+fn tick(mut fields: Fields, room: &mut [u8]) -> Option<Logged> {
+    let time = fields.number()?;
+    let channel = fields.number()?;
+    let size = fields.last_bytes(room)?;
+    let answer = log_write::write_tick(time, channel, room.get_mut(..size)?);
+    Some(Logged { answer, size })
 }
 
-#[derive(Clone, Copy)]
-enum Asked {
-    Bad,
-    Frame {
-        time: u32,
-        channel: u32,
-        id: u32,
-        extended: bool,
-        next: usize,
-    },
-}
-
-// `TIME CHANNEL ID x|s`
-fn frame_head(s: &[u8], at: usize) -> Asked {
-    let Field::Is(time, a) = text_lines::take_u32(s, at) else {
-        return Asked::Bad;
-    };
-    let Field::Is(channel, b) = text_lines::take_u32(s, a) else {
-        return Asked::Bad;
-    };
-    let Head::Is { id, extended, next } = fields::take_head(s, b) else {
-        return Asked::Bad;
-    };
-    if next > s.len() {
-        return Asked::Bad;
-    }
-    Asked::Frame {
-        time,
-        channel,
-        id,
-        extended,
-        next,
-    }
-}
-
-// The first n bytes, or as many as are enough.
-fn body_of(bytes: &[u8], n: usize) -> [u8; ENOUGH] {
+// The first bytes, or as many as are enough.
+// Kept (6): no heap: the bytes are kept while the room takes the lent buffer's.
+fn body_of(bytes: &[u8]) -> [u8; ENOUGH] {
     let mut body = [0u8; ENOUGH];
-    let mut i = 0;
-    while i < ENOUGH {
-        if i >= n {
-            return body;
-        }
-        if i >= bytes.len() {
-            return body;
-        }
-        body[i] = bytes[i];
-        i += 1;
+    for (place, &byte) in body.iter_mut().zip(bytes) {
+        *place = byte;
     }
     body
 }
 
-fn at_most_enough(n: usize) -> usize
-    ensures { result ≤ 9 }
-{
-    if n < ENOUGH { n } else { ENOUGH }
-}
-
 // `TIME CHANNEL ID x|s HEX HEX`
-fn frame(s: &[u8], at: usize, room: &mut [u8]) -> Done {
-    let Asked::Frame {
+fn frame(mut fields: Fields, room: &mut [u8]) -> Option<Logged> {
+    let time = fields.number()?;
+    let channel = fields.number()?;
+    let head = fields.head()?;
+    let n = fields.bytes(room)?;
+    let body = body_of(front(room, n));
+    let size = fields.last_bytes(room)?;
+    let answer = log_write::write_frame(
         time,
         channel,
-        id,
-        extended,
-        next,
-    } = frame_head(s, at)
-    else {
-        return Done::Bad;
-    };
-    if next > s.len() {
-        return Done::Bad;
-    }
-    let e = text_lines::word_end(s, next);
-    let Bytes::Is(n) = text_bytes::hex_bytes(&s[next..e], room) else {
-        return Done::Bad;
-    };
-    let body = body_of(room, n);
-    let Bytes::Is(size) = fields::take_rest(s, e + 1, room) else {
-        return Done::Bad;
-    };
-    if size > room.len() {
-        return Done::Bad;
-    }
-    let k = at_most_enough(n);
-    let w = log_write::write_frame(time, channel, id, extended, &body[0..k], &mut room[0..size]);
-    Done::Is(w, size)
+        head.id,
+        head.extended,
+        &body[..n.min(ENOUGH)],
+        room.get_mut(..size)?,
+    );
+    Some(Logged { answer, size })
 }
 
 // `A LEN HEX`, or the refusal, with the buffer afterwards
-fn put_logged(out: &mut [u8], pen: Pen, w: Logged, buf: &[u8]) -> Pen {
-    match w {
-        Logged::Bytes(n) => {
-            let p = text_pen::put(out, pen, b"A ");
-            let q = text_written::put_decimal(out, p, n as u64);
-            answer::bytes_end(out, q, buf)
+fn put_logged(sheet: &mut Sheet, answer: Result<usize, Refusal>, buf: &[u8]) {
+    match answer {
+        Ok(n) => {
+            sheet.put(b"A ");
+            text_written::put_decimal(sheet, n as u64);
+            answer::bytes_end(sheet, buf);
         }
-        Logged::Refused(w) => answer::refusal_bytes(out, pen, w, buf),
+        Err(w) => answer::refusal_bytes(sheet, w, buf),
     }
 }

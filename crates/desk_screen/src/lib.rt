@@ -2,11 +2,11 @@
 // is too large for its place.
 #![tactic(auto)]
 
+use desk_buffers::Fields;
 use message_fields::{short, word};
 use notation_answers::answer;
 use service::Probe;
-use text_numbers::sign::Signed;
-use text_pen::Pen;
+use text_pen::Sheet;
 
 // PT1_Temperature, and the other three.
 const PROBE_BITS: u32 = 14;
@@ -15,51 +15,36 @@ const PROBE_BITS: u32 = 14;
 const DUTY_BITS: u32 = 10;
 
 // `RAW` at the line's end.
-fn take_raw(s: &[u8], at: usize, signed: bool, width: u32) -> Signed {
-    if at > s.len() {
-        return Signed::Bad;
-    }
-    let Signed::Is(raw) = text_numbers::signed(&s[at..]) else {
-        return Signed::Bad;
-    };
-    if !signal::fits(raw, signed, width) {
-        return Signed::Bad;
-    }
-    Signed::Is(raw)
+fn take_raw(fields: Fields, signed: bool, width: u32) -> Option<i64> {
+    let raw = text_numbers::signed(fields.rest()?)?;
+    signal::fits(raw, signed, width).then_some(raw)
 }
 
 // `probe RAW`
-pub fn probe(s: &[u8], at: usize, out: &mut [u8], pen: Pen) -> Pen {
-    let Signed::Is(raw) = take_raw(s, at, true, PROBE_BITS) else {
-        return answer::unknown(out, pen);
-    };
-    put_probe(out, pen, service::probe_of(short(raw)))
-}
-
-fn put_probe(out: &mut [u8], pen: Pen, p: Probe) -> Pen {
-    match p {
-        Probe::NotUsed => text_pen::put(out, pen, b"N\n"),
-        Probe::Degrees(x) => put_degrees(out, pen, service::degrees_bits(x)),
+pub fn probe(fields: Fields, sheet: &mut Sheet) {
+    match take_raw(fields, true, PROBE_BITS) {
+        None => answer::unknown(sheet),
+        Some(raw) => put_probe(sheet, service::probe_of(short(raw))),
     }
 }
 
-// Eight digits, leading zeros among them.
-fn put_degrees(out: &mut [u8], pen: Pen, bits: u32) -> Pen {
-    let bytes = [
-        (bits / 16777216) as u8,
-        (bits / 65536 % 256) as u8,
-        (bits / 256 % 256) as u8,
-        (bits % 256) as u8,
-    ];
-    let p = text_pen::put(out, pen, b"D");
-    answer::bytes_end(out, p, &bytes)
+// The degrees in eight digits, leading zeros among them.
+fn put_probe(sheet: &mut Sheet, p: Probe) {
+    match p {
+        Probe::NotUsed => sheet.put(b"N\n"),
+        Probe::Degrees(x) => {
+            sheet.put(b"D");
+            answer::bytes_end(sheet, &service::degrees_bits(x).to_be_bytes());
+        }
+    }
 }
 
 // `duty RAW`
-pub fn duty(s: &[u8], at: usize, out: &mut [u8], pen: Pen) -> Pen {
-    let Signed::Is(raw) = take_raw(s, at, false, DUTY_BITS) else {
-        return answer::unknown(out, pen);
+pub fn duty(fields: Fields, sheet: &mut Sheet) {
+    let Some(raw) = take_raw(fields, false, DUTY_BITS) else {
+        answer::unknown(sheet);
+        return;
     };
-    let p = answer::named(out, pen, b"A ", service::limited_duty(word(raw)) as u32);
-    answer::line_end(out, p)
+    answer::named(sheet, b"A ", u32::from(service::limited_duty(word(raw))));
+    answer::line_end(sheet);
 }

@@ -1,111 +1,78 @@
 // The steps that change the table, by value or lent: setup, release, frame, tick, for the desk alone. A line is read before the table is touched.
+// Kept (2): what a step reads, runs and answers differs in each; all that is alike, that the table is kept, is `Posts::keep`.
+// Kept (5): a step reads its line, changes the table and writes on the sheet, and each of the three has another owner: as a method of one it would be handed
+// the other two all the same.
 #![tactic(auto)]
 
-mod both; // both.rt: a step on the table, by value or lent
+ghost use Rattle.std.specs.Prelude.{◌≡◌};
 
-// The crates among these are passed on to those above, which name them through this one.
-use desk_buffers::front;
-pub use gateway;
+mod way; // way.rt: a step on the table, by value or lent
+
+use desk_buffers::{Bench, Fields, front};
 use lent_step::lent_words::Lent;
 use notation_answers::answer;
-use notation_read::fields::Last;
-use notation_read::heard::Heard;
-use notation_read::{fields, heard};
+use notation_read::heard;
 use notation_setup::setup;
-use notation_setup::setup::Asked;
-use text_pen::Pen;
+use text_pen::Sheet;
 use watch_rules::Table;
+pub use way::{ByValue, InPlace, Way};
 
-// The table after a line, and its answer.
+// The table of the posts that the desk watches, and how its steps run.
 #[derive(Clone, Copy)]
-pub struct Line {
+pub struct Posts<W: Way> {
+    pub way: W,
     pub table: Table,
-    pub pen: Pen,
 }
 
-fn unknown(table: Table, out: &mut [u8], pen: Pen) -> Line {
-    Line {
-        table,
-        pen: answer::unknown(out, pen),
-    }
-}
-
-// The table after a set-up or a release, and its answer.
-fn set(r: Lent, out: &mut [u8], pen: Pen) -> Line {
-    let table = r.table;
-    Line {
-        table,
-        pen: answer::setting(out, pen, r.answer),
-    }
-}
-
-// The table after a frame or a tick, and its answer.
-fn found(r: Lent, out: &mut [u8], pen: Pen) -> Line {
-    let table = r.table;
-    Line {
-        table,
-        pen: answer::findings(out, pen, r.answer),
+impl<W: Way> Posts<W> {
+    // What a step left is the table from now on: the step's answer.
+    pub fn keep(&mut self, r: Lent) -> u32
+        ensures answer { result ≡ r.answer }
+        ensures table { self.new.table ≡ r.table }
+        ensures way { self.new.way ≡ self.old.way }
+    {
+        self.table = r.table;
+        r.answer
     }
 }
 
 // `setup POST CHANNEL VOLT CHG DIS W [SENSOR [IFACE]]`
-pub fn setup(lent: bool, table: Table, s: &[u8], at: usize, out: &mut [u8], pen: Pen) -> Line {
-    let Asked::Setup {
-        post,
-        channel,
-        voltage,
-        charge,
-        discharge,
-        silence,
-        sensor,
-        interface,
-    } = setup::setup_line(s, at)
-    else {
-        return unknown(table, out, pen);
+pub fn setup<W: Way>(posts: &mut Posts<W>, fields: Fields, sheet: &mut Sheet) {
+    let Some(s) = setup::setup_line(fields.line, fields.at) else {
+        answer::unknown(sheet);
+        return;
     };
-    let r = both::set_up(
-        lent, table, post, channel, voltage, charge, discharge, silence, sensor, interface,
-    );
-    set(r, out, pen)
+    answer::setting(sheet, posts.keep(posts.way.set_up(posts.table, s)));
 }
 
 // `release POST`
-pub fn release(lent: bool, table: Table, s: &[u8], at: usize, out: &mut [u8], pen: Pen) -> Line {
-    let Last::Is(post) = fields::take_last(s, at) else {
-        return unknown(table, out, pen);
+pub fn release<W: Way>(posts: &mut Posts<W>, fields: Fields, sheet: &mut Sheet) {
+    let Some(post) = fields.last() else {
+        answer::unknown(sheet);
+        return;
     };
-    set(both::release(lent, table, post), out, pen)
+    answer::setting(sheet, posts.keep(posts.way.release(posts.table, post)));
 }
 
 // `frame CHANNEL TIME ID x|s HEX`
-pub fn frame(
-    lent: bool,
-    table: Table,
-    s: &[u8],
-    at: usize,
-    room: &mut [u8],
-    out: &mut [u8],
-    pen: Pen,
-) -> Line {
-    let Heard::Frame {
-        channel,
-        time,
-        id,
-        extended,
-        length,
-    } = heard::frame_line(s, at, room)
-    else {
-        return unknown(table, out, pen);
+pub fn frame<W: Way>(posts: &mut Posts<W>, fields: Fields, bench: Bench) {
+    let Bench { room, output } = bench;
+    let Some(f) = heard::frame_line(fields.line, fields.at, room) else {
+        answer::unknown(&mut output.sheet);
+        return;
     };
-    let payload = front(room, length);
-    let r = both::frame(lent, table, channel, time, id, extended, payload);
-    found(r, out, pen)
+    let payload = front(room, f.length);
+    answer::findings(
+        &mut output.sheet,
+        posts.keep(posts.way.frame(posts.table, f, payload)),
+    );
 }
 
 // `tick CHANNEL TIME`
-pub fn tick(lent: bool, table: Table, s: &[u8], at: usize, out: &mut [u8], pen: Pen) -> Line {
-    let Heard::Tick { channel, time } = heard::tick_line(s, at) else {
-        return unknown(table, out, pen);
+pub fn tick<W: Way>(posts: &mut Posts<W>, fields: Fields, sheet: &mut Sheet) {
+    let Some(k) = heard::tick_line(fields.line, fields.at) else {
+        answer::unknown(sheet);
+        return;
     };
-    found(both::tick(lent, table, channel, time), out, pen)
+    answer::findings(sheet, posts.keep(posts.way.tick(posts.table, k)));
 }

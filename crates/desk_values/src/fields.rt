@@ -1,16 +1,32 @@
-// The fields whose values are no raw numbers, of the messages that documents 000 and 001 lay out alike: temperatures. Each message's others are as the codec
-// takes and makes them.
+// The fields whose values are no raw numbers, of the messages that documents 000 and 001 lay out alike: temperatures and insulation. Each message's others
+// are as the codec takes and makes them.
 use crate::message::MOST;
-use message_fields::{short, short_raw};
+use message_fields::{short, word};
 use message_inputs::{build, take};
-use message_types::{CuiInputs, SeccInputs, SpccInputs};
+use message_types::{CuiInputs, PowerModulesStatus, SeccInputs, SpccInputs};
+
+pub fn of_status(m: PowerModulesStatus) -> [i64; MOST] {
+    let mut f = message_charger::take::status_raws(m);
+    f[2] = i64::from(m.modules);
+    f[3] = i64::from(m.enclosure);
+    f[5] = i64::from(m.insulation);
+    f
+}
+
+pub fn status(f: [i64; MOST]) -> PowerModulesStatus {
+    let mut m = message_parts::status(f);
+    m.modules = short(f[2]);
+    m.enclosure = short(f[3]);
+    m.insulation = word(f[5]);
+    m
+}
 
 pub fn of_cui(m: CuiInputs) -> [i64; MOST] {
     let mut f = take::cui_raws(m);
-    f[7] = short_raw(m.colibri);
-    f[8] = short_raw(m.cpu);
-    f[9] = short_raw(m.pistol1);
-    f[10] = short_raw(m.pistol2);
+    f[7] = i64::from(m.colibri);
+    f[8] = i64::from(m.cpu);
+    f[9] = i64::from(m.pistol1);
+    f[10] = i64::from(m.pistol2);
     f
 }
 
@@ -25,9 +41,9 @@ pub fn cui(f: [i64; MOST]) -> CuiInputs {
 
 pub fn of_secc(m: SeccInputs) -> [i64; MOST] {
     let mut f = take::secc_raws(m);
-    f[5] = short_raw(m.cpu);
-    f[6] = short_raw(m.pistol1);
-    f[7] = short_raw(m.pistol2);
+    f[5] = i64::from(m.cpu);
+    f[6] = i64::from(m.pistol1);
+    f[7] = i64::from(m.pistol2);
     f
 }
 
@@ -41,12 +57,12 @@ pub fn secc(f: [i64; MOST]) -> SeccInputs {
 
 pub fn of_spcc(m: SpccInputs) -> [i64; MOST] {
     let mut f = message_extra::take::spcc_raws(m);
-    f[5] = short_raw(m.cpu0);
-    f[6] = short_raw(m.cpu1);
-    f[7] = short_raw(m.pt1ka);
-    f[8] = short_raw(m.pt1kb);
-    f[9] = short_raw(m.pt1ksc);
-    f[10] = short_raw(m.pt1ksd);
+    f[5] = i64::from(m.cpu0);
+    f[6] = i64::from(m.cpu1);
+    f[7] = i64::from(m.pt1ka);
+    f[8] = i64::from(m.pt1kb);
+    f[9] = i64::from(m.pt1ksc);
+    f[10] = i64::from(m.pt1ksd);
     f
 }
 

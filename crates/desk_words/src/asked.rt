@@ -1,70 +1,33 @@
 // What a line asks to be explained: the findings of an answer, a refusal, or refusal 5 with its start bit.
-use notation_read::fields;
-use notation_read::fields::Last;
+use crate::refused::SENTENCES;
+use desk_buffers::Fields;
 
+// Kept (1): a line names a refusal by its number, and what is told of it is that number with its words: as a `Refusal` it would be turned into one and back.
 #[derive(Clone, Copy)]
 pub enum Asked {
-    Nothing,
     Findings(u32),
     Refusal(u32),
-    Start(u32),
+    Start(u8),
 }
 
-pub fn asked_in(s: &[u8], at: usize) -> Asked {
-    if at >= s.len() {
-        return Asked::Nothing;
-    }
-    if s[at] != b'R' {
-        return findings_of(fields::take_last(s, at));
-    }
-    if has_start(s, at) {
-        return start_of(fields::take_last(s, at + 3));
-    }
-    refusal_of(fields::take_last(s, at + 1))
-}
-
-// `5:` behind the letter at `at`.
-fn has_start(s: &[u8], at: usize) -> bool {
-    if s.len() < 3 {
-        return false;
-    }
-    if at > s.len() - 3 {
-        return false;
-    }
-    if s[at + 1] != b'5' {
-        return false;
-    }
-    s[at + 2] == b':'
-}
-
-fn findings_of(l: Last) -> Asked {
-    let Last::Is(n) = l else {
-        return Asked::Nothing;
-    };
-    if n > 4095 {
-        return Asked::Nothing;
-    }
-    Asked::Findings(n)
-}
-
-// The numbers that refusals have.
-fn refusal_of(l: Last) -> Asked {
-    let Last::Is(n) = l else {
-        return Asked::Nothing;
-    };
-    match n {
-        1..=29 => Asked::Refusal(n),
-        _ => Asked::Nothing,
+// Findings are 12 bits, refusals have the numbers from 1 on, and a start bit is a byte: `Refusal::NoLabel` holds no more.
+pub fn asked_in(fields: Fields) -> Option<Asked> {
+    match fields.rest()? {
+        [b'R', b'5', b':', start @ ..] => { Some(Asked::Start(u8::try_from(number(start)?).ok()?)) }
+        [b'R', refusal @ ..] => {
+            let n = number(refusal)?;
+            (1..=SENTENCES.len() as u32)
+                .contains(&n)
+                .then_some(Asked::Refusal(n))
+        }
+        findings => {
+            let n = number(findings)?;
+            (n <= 4095).then_some(Asked::Findings(n))
+        }
     }
 }
 
-// A start bit is a byte: `Refusal::NoLabel` holds no more.
-fn start_of(l: Last) -> Asked {
-    let Last::Is(n) = l else {
-        return Asked::Nothing;
-    };
-    if n > 255 {
-        return Asked::Nothing;
-    }
-    Asked::Start(n)
+// The number that a text is.
+fn number(line: &[u8]) -> Option<u32> {
+    Fields { line, at: 0 }.last()
 }

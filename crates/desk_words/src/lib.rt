@@ -2,20 +2,21 @@
 #![tactic(auto)]
 
 mod asked; // asked.rt: what a line asks to be explained
-mod sentence; // sentence.rt: a sentence of a list
+mod sentence; // sentence.rt: a name with its sentence
 mod findings; // findings.rt: findings in words
 mod refused; // refused.rt: refusals in words
 
 use asked::Asked;
+use desk_buffers::Fields;
 use notation_answers::answer;
-use text_pen::Pen;
+use text_pen::Sheet;
 
 // `explain N`, `explain R<n>`, `explain R5:<start>`
-pub fn explain(s: &[u8], at: usize, out: &mut [u8], pen: Pen) -> Pen {
-    match asked::asked_in(s, at) {
-        Asked::Nothing => answer::unknown(out, pen),
-        Asked::Findings(n) => findings::put(out, pen, n),
-        Asked::Refusal(n) => refused::put(out, pen, n),
-        Asked::Start(start) => refused::put_start(out, pen, start),
+pub fn explain(fields: Fields, sheet: &mut Sheet) {
+    match asked::asked_in(fields) {
+        None => answer::unknown(sheet),
+        Some(Asked::Findings(n)) => findings::put(sheet, n),
+        Some(Asked::Refusal(n)) => refused::put(sheet, n),
+        Some(Asked::Start(start)) => refused::put_start(sheet, start),
     }
 }

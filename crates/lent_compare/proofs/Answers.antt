@@ -6,8 +6,7 @@ use lib.ListN.{length}
 use lib.Seq.{sets}
 use borrow.Author.Tests.{le-ltb}
 use Rattle.plain_words.specs.Words.{outcome_word}
-use Rattle.compare_rules.specs.declared.Compared.{Compared}
-use Rattle.compare_rules.specs.Compare.{first_after, second_after, places_after}
+use Rattle.compare_rules.specs.Compare.{Compared, first_after, second_after, places_after}
 use Rattle.compare_rules.specs.Words.{outcome_of, numbers_of, compared_for, compared_word, with_numbers, numbers_after}
 
 module _ (a b first second places numbers : List ℕ) where

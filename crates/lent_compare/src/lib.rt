@@ -1,35 +1,16 @@
 // Two night logs compared over lent memory (02, Req 10), for C: `compare_logs::compare`, its answer as a word and two numbers.
 #![tactic(auto)]
 
-ghost use Rattle.std.specs.Prelude.{◌≡◌, ◌≤◌, length};
-ghost use Rattle.std.proofs.lemmas.List.Edits.{sets};
-ghost use Rattle.plain_words.specs.Words.{outcome_word};
+ghost use Rattle.std.specs.Prelude.{◌≡◌, length};
 ghost use Rattle.compare_rules.specs.Compare.{first_after, second_after, places_after};
-ghost use Rattle.compare_rules.specs.Words.{outcome_of, numbers_of, compared_for, compared_word, with_numbers, numbers_after};
+ghost use Rattle.compare_rules.specs.Words.{compared_for, compared_word, with_numbers, numbers_after};
 
 use compare_logs::compare;
-use compare_rules::Compared;
 use plain_words::refusal_word;
 use refusals::Refusal;
 
-fn answer_word(r: Compared, numbers: &mut [u64]) -> u32
-    requires { 2 ≤ length numbers.old }
-    ensures { (result ≡ outcome_word (outcome_of r)) × (numbers.new ≡ sets numbers.old 0 (numbers_of r)) }
-{
-    match r {
-        Compared::Listed { first, second } => {
-            numbers[0] = first as u64;
-            numbers[1] = second as u64;
-            0
-        }
-        Compared::Refused { why, side, at } => {
-            numbers[0] = side as u64;
-            numbers[1] = at as u64;
-            refusal_word(why)
-        }
-    }
-}
-
+// Kept (1): 02 gives the entry one word of 32 bits for the answer and the refusal.
+// Kept (5): the C interface hands these in one by one.
 #[unsafe(no_mangle)]
 pub extern "C" fn rokemaipu_compare(
     a: &[u8],
@@ -48,9 +29,17 @@ pub extern "C" fn rokemaipu_compare(
         (places_after a.now b.now (compared_for a.now b.now first.old second.old places.old) places.old) places.old)
         × (numbers.new ≡ numbers_after (compared_for a.now b.now first.old second.old places.old) numbers.old) }
 {
-    if numbers.len() < 2 {
+    let Some(told) = numbers.first_chunk_mut() else {
         return refusal_word(Refusal::ShortBuffer);
+    };
+    match compare(a, b, first, second, places) {
+        Ok(listed) => {
+            *told = [listed.first as u64, listed.second as u64];
+            0
+        }
+        Err(unlisted) => {
+            *told = [unlisted.side as u64, unlisted.at as u64];
+            refusal_word(unlisted.why)
+        }
     }
-    let r = compare(a, b, first, second, places);
-    answer_word(r, numbers)
 }

@@ -1,5 +1,6 @@
 -- What looking up a post's counts promises: its word tells the answer (`Told` of `plain_words`), a refusal leaves the lent places as they were, and behind
 -- the counts nothing changes. Over accepted steps the counts are those of the post's history, and over requests what was refused is their own count.
+use Rattle.std.specs.Prelude.{Ok}
 use Prim.Native.Nat.{ℕ, ◌+◌, ◌<◌, ◌≤◌, min}
 use native.Mathlib.Omega.{arith}
 use mathlib.Core.Path.{◌≡◌, refl, ◌∙◌}
@@ -14,7 +15,6 @@ use Rattle.rules.specs.Counts.{largest, counts_of}
 use Rattle.rules.specs.Record.{is_set, record_as_of, record_of}
 use Rattle.rules.specs.After.{count_count, post_record}
 use Rattle.watch_rules.specs.declared.Table.{Table}
-use Rattle.watch_rules.specs.declared.Setting.TheVariants as setting
 use Rattle.watch_rules.specs.Table.{post_count, post_in, is_post, not_found, look_up_of}
 use Rattle.watch_rules.specs.Steps.{Steps, held, standing, look_up01, Kept}
 use Rattle.watch_rules.specs.Run.{Request, run, accepted, handed_in, refused_ever, accepted_ever}
@@ -45,7 +45,7 @@ as_many : (t : Table) (i : ℕ) → length (counts_shown (look_up_of t i).shown)
 unfolding look_up_of post_record
 as_many t i = go (is_post i) (is_set (post_in t i).head.used)
   where
-    go : (a b : Bool) → length (counts_shown (cond a (cond b (record { answer = setting.Done; shown = post_record (post_in t i) }) (not_found NotSetUp)) (not_found NoSuchPost)).shown) ≡ count_count
+    go : (a b : Bool) → length (counts_shown (cond a (cond b (record { answer = Ok tt; shown = post_record (post_in t i) }) (not_found NotSetUp)) (not_found NoSuchPost)).shown) ≡ count_count
     go true true = refl
     go true false = refl
     go false b = refl
@@ -57,7 +57,7 @@ counts_kept t i cs = handed_kept count_count (look_up_of t i).answer (counts_sho
 -- ---- over accepted steps
 
 module _ (t : Table) (s : Steps) (kept : Kept t s) (i c : ℕ) (lim : PlainLimits) (h : History) (low : i < post_count) (own : standing i s ≡ held c lim h) where
-  shown : look_up_of t i ≡ record { answer = setting.Done; shown = record_of c lim h }
+  shown : look_up_of t i ≡ record { answer = Ok tt; shown = record_of c lim h }
   unfolding look_up01
   shown = look_up_right t s i kept ∙ rw (lt-ltb i post_count low, own)
 

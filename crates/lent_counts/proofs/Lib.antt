@@ -1,3 +1,3 @@
-pub mod ByCase
 pub mod CountLaws
 pub mod Night
+pub mod Shown

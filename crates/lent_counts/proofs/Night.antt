@@ -1,5 +1,6 @@
 -- The laws of the counts on a night: post 0 on channel 4 opens a session, hears another protocol in it (finding 10), and then nothing for a second
 -- (finding 1); a tick that comes too early and one on channel 9, which nobody holds, are refused. Each premise holds there.
+use Rattle.std.specs.Prelude.{Ok}
 use Prim.Native.Nat.{ℕ, ◌+◌, ◌<◌, ◌≤◌}
 use native.Mathlib.Omega.{arith}
 use mathlib.Core.Path.{◌≡◌, refl, sym, ap, ◌∙◌, subst}
@@ -27,7 +28,6 @@ use Rattle.rules.specs.Rules.{session_status, session_control, session_stop, lim
 use Rattle.rules.specs.Counts.{tallies_of, counts_of}
 use Rattle.rules.specs.After.{count_count}
 use Rattle.watch_rules.specs.declared.LookedUp.{LookedUp}
-use Rattle.watch_rules.specs.declared.Setting.TheVariants as setting
 use Rattle.watch_rules.specs.Table.{post_count, look_up_of}
 use Rattle.watch_rules.specs.Steps.{held, standing, find_from, holder, other_holds, feed01, set_up01, look_up01, feed_steps, set_up_steps}
 use Rattle.watch_rules.specs.Run.{Request, setUp, frame, tick, run, accepted, handed_in, refused_ever, accepted_ever}
@@ -51,7 +51,7 @@ heard = history.tick 1000 ∷ history.frame 10 3 257 ∷ history.frame 0 3 258 �
 abbrev counts : List ℕ
 counts = 3 ∷ 1 ∷ 0 ∷ 0 ∷ 0 ∷ 0 ∷ 0 ∷ 0 ∷ 0 ∷ 0 ∷ 1 ∷ 0 ∷ 0 ∷ []
 
-computed : (standing 0 (accepted night) ≡ held 4 limits heard) × (counts_of limits heard ≡ counts) × (refused_ever night ≡ 2) × ((look_up01 (accepted night) 0).answer ≡ setting.Done)
+computed : (standing 0 (accepted night) ≡ held 4 limits heard) × (counts_of limits heard ≡ counts) × (refused_ever night ≡ 2) × ((look_up01 (accepted night) 0).answer ≡ Ok tt)
     × (accepted_ever night ≡ 3) × (handed_in night ≡ 5)
 unfolding standing find_from holder other_holds feed01 set_up01 look_up01 feed_steps set_up_steps limits_fit accepted since_finished opening in_session earlier_in lowers_badly outside leaking bad_insulation differs session_status session_control session_stop limit_of f1 f2 f3 f4 f5 f6 f7 f8 f9 f10 f11 f12 findings01 tallies_of rows of_kind first_at covered unlabelled stray_below judged_number judge_on is_foreign judge_for wholes_of pad raws_of get_bits le_number to_signed role_of status_by limits_by opening_by command_by status_in parameters_in session_in control_in
 computed = (refl, refl, refl, refl, refl, refl)
@@ -80,7 +80,7 @@ pub night_accounted : 3 + refused_in (run night) ≡ 5
 night_accounted = omega (arith, accounted night (omega (arith, computed.2)), computed.4, computed.5)
 
 -- twelve places are too few: 8, and nothing changes
-answered : (look_up_of (run night) 0).answer ≡ setting.Done
+answered : (look_up_of (run night) 0).answer ≡ Ok tt
 answered = ap (λ (x : LookedUp). x.answer) (every_record night 0) ∙ computed.3
 
 twelve : counts_word (run night) 0 (replicate 12 7) ≡ 65544

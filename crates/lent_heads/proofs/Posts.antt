@@ -20,7 +20,7 @@ use Rattle.rules.specs.After.{keep_in, stored}
 use Rattle.watch_rules.specs.declared.Table.{Table}
 use Rattle.watch_rules.specs.declared.Arrival.{Arrival}
 use Rattle.watch_rules.specs.Table.{channel_count, no_post, post_in, place_named, some_place, Arriving}
-use Rattle.lent_step.specs.lent_words.specs.declared.Lent.{Lent}
+use Rattle.lent_step.specs.lent_words.specs.Lent.{Lent}
 use Rattle.lent_step.specs.One.{heard_on, stored_by, lent_at}
 use Rattle.lent_step.specs.declared.Worded.{Worded}
 use Rattle.lent_step.proofs.Taken.{Apart, heard_apart}

@@ -1,6 +1,6 @@
 -- What asking for a channel's holder promises. Of every table: a post only where it holds the channel, and what comes on the channel goes to it.
 -- Over accepted steps: the post that stands on the channel, whose answer 01's rules give over its own history.
-use Prim.Native.Nat.{ℕ, suc, ◌-◌, ◌%◌, ◌<◌, ◌≤◌}
+use Prim.Native.Nat.{ℕ, suc, ◌%◌, ◌<◌, ◌≤◌}
 use native.Mathlib.Nat.{mod-eq_of_lt}
 use native.Mathlib.Omega.{arith}
 use mathlib.Core.Path.{◌≡◌, refl, ap, sym, subst, ◌∙◌}

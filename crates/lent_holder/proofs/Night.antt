@@ -1,7 +1,7 @@
 -- The laws of a channel's holder on a night: post 3 stands on channel 4, post 0 on channel 9, and nobody holds channel 5. Each premise holds there.
-use Prim.Native.Nat.{ℕ, ◌<◌, ◌≤◌}
+use Prim.Native.Nat.{◌<◌, ◌≤◌}
 use native.Mathlib.Omega.{arith}
-use mathlib.Core.Path.{◌≡◌, refl, ap, sym, ◌∙◌}
+use mathlib.Core.Path.{◌≡◌, refl, ◌∙◌}
 use mathlib.Core.Bool.{true}
 use mathlib.Core.List.{List, [], ◌∷◌}
 use lib.ListN.{get_or}
@@ -9,7 +9,7 @@ use borrow.Author.Tests.{ltb-true}
 use Rattle.refusals.specs.declared.Refusal.TheVariants.{ChannelFree}
 use Rattle.rule_limits.specs.declared.PlainLimits.{PlainLimits}
 use Rattle.rule_limits.specs.Limits.{limits_fit}
-use Rattle.watch_rules.specs.Table.{post_count, is_channel, holds, place_of, post_in, Arriving, refused, feed_at, feed_of, ticking, is_other, set_up_of}
+use Rattle.watch_rules.specs.Table.{post_count, holds, place_of, post_in, refused, feed_at, feed_of, ticking, is_other, set_up_of}
 use Rattle.watch_rules.specs.Steps.{held, standing, find_from, holder, other_holds, answer_in, set_up01, set_up_steps}
 use Rattle.watch_rules.specs.Run.{Request, setUp, run, accepted}
 use Rattle.watch_rules.proofs.Demand.{run_kept}

@@ -1,29 +1,29 @@
 // The post that holds a channel over the C interface, by the index: to whom a frame or tick on it goes. The lent table is only read.
 // For C callers; a caller in Rattle asks `watch_places::some_place`, or searches by `watch_places::place`.
+// Kept (1): the C interface hands the answer out as one word, a number or a refusal (02); below the entry they are a `Result`.
 #![tactic(auto)]
 
 ghost use Rattle.std.specs.Prelude.{◌≡◌, ◌<◌};
 ghost use Rattle.watch_rules.specs.Table.{post_count};
+ghost use Rattle.plain_words.specs.Words.{outcome_word, outcome_of};
 ghost use Rattle.lent_holder.specs.Holder.{holder_at, holder_word};
 
-use plain_words::refusal_word;
+use plain_words::answer_word;
 use refusals::Refusal;
 use rules::Head;
-use watch_places::{holds_channel, place_named};
-use watch_rules::{CHANNELS, Table};
+use watch_places::{indexed_place, is_held};
+use watch_rules::Table;
 
 // 01: "1: channel above 31, or held by no post". The index names place i for the channel, and h is the head of the post there.
-fn holder_at(h: Head, i: usize, channel: u32) -> u32
+#[tactic(auto, unfolding(crate::specs::Holder::holder_at))]
+fn holder_at(h: Head, i: usize, channel: u32) -> Result<u32, Refusal>
     requires { i < post_count }
-    ensures { result ≡ holder_at h i channel }
+    ensures { outcome_word (outcome_of result) ≡ holder_at h i channel }
 {
-    if 31 < channel {
-        return refusal_word(Refusal::ChannelFree);
+    if !is_held(h, channel) {
+        return Err(Refusal::ChannelFree);
     }
-    if !holds_channel(h, channel) {
-        return refusal_word(Refusal::ChannelFree);
-    }
-    i as u32
+    Ok(i as u32)
 }
 
 // One entry of the index and one head are read, so that no table is copied.
@@ -31,8 +31,7 @@ fn holder_at(h: Head, i: usize, channel: u32) -> u32
 pub extern "C" fn rokemaipu_holder(t: &Table, channel: u32) -> u32
     ensures { result ≡ holder_word t.now channel }
 {
-    let c = (channel as usize) % CHANNELS;
-    let i = place_named(t.index[c]);
+    let i = indexed_place(&t.index, channel);
     let h = t.posts[i].head;
-    holder_at(h, i, channel)
+    answer_word(holder_at(h, i, channel))
 }

@@ -1,18 +1,18 @@
 -- What the latest frame of a kind promises: its bytes are those that came, a refusal leaves the lent memory as it was,
 -- behind the places named nothing changes, and the frame handed out is the one whose message the record shows. Over a post's history: LatestLooks.
+use Rattle.std.specs.Prelude.{Ok, Err}
+use Rattle.std.specs.Prelude as std
 use Prim.Native.Nat.{ℕ, ◌<◌, ◌≤◌}
 use native.Mathlib.Omega.{arith}
 use mathlib.Core.Path.{◌≡◌, refl, sym, ap, ◌∙◌, subst}
 use mathlib.Core.Bool.{Bool, true, false, cond, ◌&&◌, true≢false}
 use mathlib.Core.List.{List, ◌∷◌, ◌++◌, map}
-use lib.Dec.{eqb, ltb, leb}
+use lib.Dec.{eqb, leb}
 use lib.ListN.{length, get_or, drop, replicate, get_or-replicate}
 use lib.Seq.{drop_at}
 use borrow.Author.Tests.{leb-true, eqb-true, eq-eqb}
 use Rattle.payload.specs.Payload.{Bytes, bytes_of}
 use Rattle.payload.proofs.Orders.{length_of_lem}
-use Rattle.page_read.specs.declared.Judged.{Judged}
-use Rattle.page_read.specs.declared.Judged.TheVariants.{Frame, Refused}
 use Rattle.refusals.specs.declared.Refusal.TheVariants.{ShortBuffer, OtherInterface}
 use Rattle.page_read.specs.Judge.{judge_on}
 use Rattle.page_interfaces.specs.Foreign.{is_foreign, judge_for}
@@ -22,8 +22,6 @@ use Rattle.page_table.specs.Table.{rows, of_kind, length_of, big_of}
 use Rattle.page_table.proofs.Rules.{short_length}
 use Rattle.page_write.proofs.Trips.{accepted_on, back_on}
 use Rattle.rule_pages.specs.Places.{place_by}
-use Rattle.rules.specs.declared.Dated.TheVariants as dated
-use Rattle.rules.specs.declared.Latest.{Latest}
 use Rattle.rules.specs.declared.Slot.{Slot}
 use Rattle.rules.specs.History.{count_from}
 use Rattle.rules.specs.Times.{received_of, age_of}
@@ -31,27 +29,26 @@ use Rattle.rules.specs.Record.{place_count, is_set, unknown, slot_at}
 use Rattle.rules.specs.After.{latest_in, dated_in, post_record}
 use Rattle.rules.proofs.Counted.{count_at}
 use Rattle.watch_rules.specs.declared.Table.{Table}
-use Rattle.watch_rules.specs.declared.Setting.{Setting}
-use Rattle.watch_rules.specs.declared.Setting.TheVariants as setting
+use Rattle.watch_rules.specs.Setting.{Setting}
 use Rattle.watch_rules.specs.Table.{post_in, is_post, look_up_of}
 use Rattle.plain_words.specs.Words.{Outcome, answers, refuses, outcome_word, is_accepted, Within, Told}
 use Rattle.plain_words.proofs.WordLaws.{either, word_tells, not_accepted}
-use Rattle.lent_latest.specs.Latest.{of_kind_in, kept_of, now_of, is_shown, has_room, is_kind, latest_outcome, hands, hands_out, time_left, bytes_left, latest_word, time_after, frame_after}
+use Rattle.lent_latest.specs.Latest.{kept_of, now_of, is_shown, has_room, is_kind, latest_outcome, hands, hands_out, time_left, bytes_left, latest_word, time_after, frame_after}
 use Rattle.lent_look.proofs.Asked.{set_up, any_look}
 use Rattle.rule_pages.proofs.Places.{place_small}
 
 -- what a post reads, its interface's own pages read
-pub own_read : (iface : Interface) (m : ℕ) (x : Bool) (bs : List ℕ) (k n : ℕ) → judge_for iface m x bs ≡ Frame k n → judge_on iface m x bs ≡ Frame k n
+pub own_read : (iface : Interface) (m : ℕ) (x : Bool) (bs : List ℕ) (k n : ℕ) → judge_for iface m x bs ≡ Ok (k, n) → judge_on iface m x bs ≡ Ok (k, n)
 unfolding judge_for
 own_read iface m x bs k n = go (is_foreign iface m x)
   where
-    go : (b : Bool) → cond b (Refused OtherInterface) (judge_on iface m x bs) ≡ Frame k n → judge_on iface m x bs ≡ Frame k n
+    go : (b : Bool) → cond b (Err OtherInterface) (judge_on iface m x bs) ≡ Ok (k, n) → judge_on iface m x bs ≡ Ok (k, n)
     go true e = absurd (let z : ◌≡◌ {A = ℕ} 0 1 = cc in omega arith)
     go false e = e
 
 -- a frame that a post read to what is kept is handed out byte for byte
 pub slot_came : (iface : Interface) (now : ℕ) (times buf : List ℕ) (id : ℕ) (extended : Bool) (bs : List ℕ) (time k n : ℕ)
-    → judge_for iface id extended bs ≡ Frame k n → Bytes bs
+    → judge_for iface id extended bs ≡ Ok (k, n) → Bytes bs
     → (time_left true now (slot_at time k n) times ≡ received_of time ∷ age_of now time ∷ k ∷ drop 3 times) × (bytes_left true (slot_at time k n) buf ≡ bs ++ drop (length bs) buf)
 slot_came iface now times buf id extended bs time k n e b =
     let o = own_read iface id extended bs k n e in (
@@ -61,7 +58,7 @@ slot_came iface now times buf id extended bs time k n e b =
     )
 
 pub as_it_came : (iface : Interface) (t : Table) (i k : ℕ) (times buf : List ℕ) (id : ℕ) (extended : Bool) (bs : List ℕ) (time n : ℕ)
-    → judge_for iface id extended bs ≡ Frame k n → Bytes bs → kept_of t i k ≡ slot_at time k n → hands_out t i k times buf ≡ true
+    → judge_for iface id extended bs ≡ Ok (k, n) → Bytes bs → kept_of t i k ≡ slot_at time k n → hands_out t i k times buf ≡ true
     → (time_after t i k times buf ≡ received_of time ∷ age_of (now_of t i) time ∷ k ∷ drop 3 times) × (frame_after t i k times buf ≡ bs ++ drop (length bs) buf)
 unfolding time_after frame_after
 as_it_came iface t i k times buf id extended bs time n e b s h = rw (h, s) (slot_came iface (now_of t i) times buf id extended bs time k n e b)
@@ -94,18 +91,18 @@ module _ (t : Table) (i : ℕ) (known : Bool) (l : Slot) (places room : ℕ) whe
       by false b c o e = refl
 
       go : (s : Setting) → is_accepted (latest_outcome s known l places room) ≡ false → hands s known l places room ≡ false
-      go setting.Done e = by known (is_shown l) (has_room l.kind places room) _ e
-      go (setting.Refused w) e = refl
+      go (Ok tt) e = by known (is_shown l) (has_room l.kind places room) _ e
+      go (Err w) e = refl
 
 -- nothing is handed out of a slot in which no frame stands
 unshown : (s : Setting) (known : Bool) (l : Slot) (places room : ℕ) → is_shown l ≡ false → hands s known l places room ≡ false
-unshown setting.Done known l places room e = go known (is_shown l) e
+unshown (Ok tt) known l places room e = go known (is_shown l) e
   where
     go : (a b : Bool) → b ≡ false → a && (b && has_room l.kind places room) ≡ false
     go true true f = absurd (true≢false f)
     go true false f = refl
     go false b f = refl
-unshown (setting.Refused w) known l places room e = refl
+unshown (Err w) known l places room e = refl
 
 module _ (t : Table) (i k : ℕ) (times buf : List ℕ) where
   pub latest_told : Told 8 (latest_outcome (look_up_of t i).answer (is_kind k) (kept_of t i k) (length times) (length buf)) (latest_word t i k times buf)
@@ -151,8 +148,8 @@ some_bytes k l = leb-true 1 (length_of k) (sym (count_at (λ j. leb 1 (length_of
 
 -- where the post keeps a frame of the kind, the record's message in its place is that of the frame
 pub latest_shown_lem : (t : Table) (i k : ℕ) → is_post i ≡ true → is_set (post_in t i).head.used ≡ true → k < message_count → (latest_in (post_in t i) (place_by k)).kind ≡ k
-    → (get_or (look_up_of t i).shown.latest (place_by k) (record { message = dated.Nothing })).message ≡ dated_in (now_of t i) (kept_of t i k)
+    → get_or (look_up_of t i).shown.latest (place_by k) std.None ≡ dated_in (now_of t i) (kept_of t i k)
 unfolding post_record
 latest_shown_lem t i k l u m e =
     rw (set_up t i l u, eq-eqb (latest_in (post_in t i) (place_by k)).kind k e)
-    (ap (λ (x : Latest). x.message) (count_at (λ j. record { message = dated_in (post_in t i).head.time (latest_in (post_in t i) j) }) (record { message = dated.Nothing }) (place_by k) 0 place_count (place_by k) (omega arith) (place_small k m)))
+    (count_at (λ j. dated_in (post_in t i).head.time (latest_in (post_in t i) j)) std.None (place_by k) 0 place_count (place_by k) (omega arith) (place_small k m))

@@ -10,7 +10,7 @@ use lib.Dec.{eqb}
 use lib.ListN.{get_or}
 use Rattle.page_table.specs.Messages.{message_count}
 use Rattle.rule_limits.specs.declared.PlainLimits.{PlainLimits}
-use Rattle.rule_limits.specs.Sensor.{interface_of}
+use Rattle.page_table.specs.Interfaces.{interface_of}
 use Rattle.rule_pages.specs.Places.{place_count, place_by}
 use Rattle.rules.specs.declared.Post.{Post}
 use Rattle.rules.specs.History.{History, Said, newest, of_kind}

@@ -1,3 +1,2 @@
-pub mod ByCase
 pub mod LatestLaws
 pub mod LatestLooks

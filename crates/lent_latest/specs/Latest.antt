@@ -1,6 +1,6 @@
 -- The latest frame of a kind over the C interface: its time as received, its age and its kind, and its bytes as they came, in the message's byte order.
 -- Refused as `watch::look_up` refuses, with 9 and 14.
-use Rattle.std.specs.Prelude.{ℕ, Bool, false, cond, ◌&&◌, List, ◌∷◌, ◌++◌, eqb, ltb, leb, length, drop}
+use Rattle.std.specs.Prelude.{ℕ, Bool, false, cond, ◌&&◌, List, ◌∷◌, ◌++◌, eqb, ltb, leb, length, drop, Ok, Err}
 use Rattle.payload.specs.Payload.{bytes_of}
 use Rattle.refusals.specs.declared.Refusal.TheVariants.{UnknownIdentifier, ShortBuffer}
 use Rattle.page_table.specs.Messages.{message_count}
@@ -11,8 +11,7 @@ use Rattle.rules.specs.Times.{received_of, age_of}
 use Rattle.rules.specs.Record.{is_set, unknown}
 use Rattle.rules.specs.After.{latest_in}
 use Rattle.watch_rules.specs.declared.Table.{Table}
-use Rattle.watch_rules.specs.declared.Setting.{Setting}
-use Rattle.watch_rules.specs.declared.Setting.TheVariants as setting
+use Rattle.watch_rules.specs.Setting.{Setting}
 use Rattle.watch_rules.specs.Table.{post_in, look_up_of}
 use Rattle.plain_words.specs.Words.{Outcome, answers, refuses, outcome_word}
 
@@ -42,13 +41,13 @@ kept_outcome l places room = cond (is_shown l) (cond (has_room l.kind places roo
 
 -- 3 before them, where nothing of the kind is ever kept
 abbrev pub latest_outcome : Setting → Bool → Slot → ℕ → ℕ → Outcome
-latest_outcome setting.Done known l places room = cond known (kept_outcome l places room) (refuses UnknownIdentifier)
-latest_outcome (setting.Refused w) known l places room = refuses w
+latest_outcome (Ok tt) known l places room = cond known (kept_outcome l places room) (refuses UnknownIdentifier)
+latest_outcome (Err w) known l places room = refuses w
 
 -- whether a frame is handed out
 abbrev pub hands : Setting → Bool → Slot → ℕ → ℕ → Bool
-hands setting.Done known l places room = known && (is_shown l && has_room l.kind places room)
-hands (setting.Refused w) known l places room = false
+hands (Ok tt) known l places room = known && (is_shown l && has_room l.kind places room)
+hands (Err w) known l places room = false
 
 abbrev pub time_left : Bool → ℕ → Slot → List ℕ → List ℕ
 time_left b now l times = cond b (received_of l.time ∷ age_of now l.time ∷ l.kind ∷ drop 3 times) times

@@ -6,10 +6,10 @@ ghost use Rattle.std.specs.Prelude.{◌≡◌};
 ghost use Rattle.lent_layout.specs.Layout.{layout_word};
 
 use rules::PLACES;
-use watch_rules::POSTS;
+use watch_rules::{POSTS, Table};
 
 // Bytes of a table.
-const TABLE: u64 = 13576;
+const TABLE: u64 = size_of::<Table>() as u64;
 
 // Another number wherever a place of the table means something else.
 const LAYOUT: u64 = 7;
@@ -18,5 +18,5 @@ const LAYOUT: u64 = 7;
 pub extern "C" fn rokemaipu_layout() -> u64
     ensures { result ≡ layout_word }
 {
-    TABLE + (POSTS as u64) * 4294967296 + (PLACES as u64) * 1099511627776 + LAYOUT * 281474976710656
+    TABLE + ((POSTS as u64) << 32) + ((PLACES as u64) << 40) + (LAYOUT << 48)
 }

@@ -1,2 +1,1 @@
-pub mod ByCase
 pub mod LookLaws

@@ -1,5 +1,6 @@
 -- What looking up a post's numbers promises: its word tells the answer (`Told` of `plain_words`), a refusal leaves the lent numbers as they were, and
 -- behind the places named nothing changes. First of any n numbers, for every look-up that hands out some.
+use Rattle.std.specs.Prelude.{Some, None, Ok, Err}
 use Prim.Native.Nat.{ℕ, ◌≤◌}
 use native.Mathlib.Omega.{arith}
 use mathlib.Core.Path.{◌≡◌, refl}
@@ -9,14 +10,11 @@ use lib.Dec.{leb}
 use lib.ListN.{length, drop}
 use lib.Seq.{drop_at}
 use Rattle.refusals.specs.declared.Refusal.TheVariants.{ShortBuffer}
-use Rattle.rules.specs.declared.LastTime.{LastTime}
-use Rattle.rules.specs.declared.LastTime.TheVariants as last
-use Rattle.rules.specs.declared.SessionPart.{SessionPart}
-use Rattle.rules.specs.declared.SessionPart.TheVariants as part
+use Rattle.rules.specs.LastTime.{LastTime}
+use Rattle.rules.specs.SessionPart.{SessionPart}
 use Rattle.rules.specs.declared.Record.{Record}
 use Rattle.watch_rules.specs.declared.Table.{Table}
-use Rattle.watch_rules.specs.declared.Setting.{Setting}
-use Rattle.watch_rules.specs.declared.Setting.TheVariants as setting
+use Rattle.watch_rules.specs.Setting.{Setting}
 use Rattle.watch_rules.specs.Table.{look_up_of}
 use Rattle.plain_words.specs.Words.{Outcome, answers, refuses, outcome_word, is_accepted, Within, Told}
 use Rattle.plain_words.proofs.WordLaws.{either, word_tells, not_accepted}
@@ -47,16 +45,16 @@ module _ (n : ℕ) (t : Table) (i : ℕ) (xs ns : List ℕ) where
       room false e = refl
 
       go : (s : Setting) → is_accepted (handed_outcome n s (length ns)) ≡ false → handed_left n s xs ns ≡ ns
-      go setting.Done e = room (leb n (length ns)) e
-      go (setting.Refused w) e = refl
+      go (Ok tt) e = room (leb n (length ns)) e
+      go (Err w) e = refl
 
 pub handed_kept : (n : ℕ) (s : Setting) (xs ns : List ℕ) → length xs ≡ n → drop n (handed_left n s xs ns) ≡ drop n ns
-handed_kept n setting.Done xs ns e = room (leb n (length ns))
+handed_kept n (Ok tt) xs ns e = room (leb n (length ns))
   where
     room : (b : Bool) → drop n (cond b (xs ++ drop n ns) ns) ≡ drop n ns
     room true = drop_at xs (drop n ns) n e
     room false = refl
-handed_kept n (setting.Refused w) xs ns e = refl
+handed_kept n (Err w) xs ns e = refl
 
 -- ---- the post's numbers
 
@@ -77,10 +75,10 @@ unfolding numbers_of
 as_many r = go r.last r.session refl refl
   where
     go : (a : LastTime) (b : SessionPart) → r.last ≡ a → r.session ≡ b → length (numbers_of r) ≡ number_count
-    go last.Never part.Closed e f = rw (e, f)
-    go last.Never (part.Opened s) e f = rw (e, f)
-    go (last.At x) part.Closed e f = rw (e, f)
-    go (last.At x) (part.Opened s) e f = rw (e, f)
+    go None None e f = rw (e, f)
+    go None (Some s) e f = rw (e, f)
+    go (Some x) None e f = rw (e, f)
+    go (Some x) (Some s) e f = rw (e, f)
 
 pub look_up_kept : (t : Table) (i : ℕ) (ns : List ℕ) → drop number_count (numbers_after t i ns) ≡ drop number_count ns
 unfolding numbers_after

@@ -1,17 +1,15 @@
 -- A post's numbers over the C interface: of the record that `watch::look_up` hands out, all but the messages.
 -- Refused as `watch::look_up` refuses, with 9 and 14.
-use Rattle.std.specs.Prelude.{ℕ, cond, List, [], ◌∷◌, ◌++◌, leb, length, drop}
+use Rattle.std.specs.Prelude.{ℕ, cond, List, [], ◌∷◌, ◌++◌, leb, length, drop, Some, None, Ok, Err}
 use Rattle.refusals.specs.declared.Refusal.TheVariants.{ShortBuffer}
 use Rattle.message_types.specs.Labels.{protocol_number, plug_number}
-use Rattle.rules.specs.declared.LastTime.{LastTime}
-use Rattle.rules.specs.declared.LastTime.TheVariants as last
-use Rattle.rules.specs.declared.SessionPart.{SessionPart}
-use Rattle.rules.specs.declared.SessionPart.TheVariants as part
+use Rattle.rules.specs.LastTime.{LastTime}
+use Rattle.rules.specs.SessionPart.{SessionPart}
 use Rattle.rules.specs.declared.Record.{Record}
-use Rattle.rule_limits.specs.Sensor.{sensor_number, interface_number}
+use Rattle.page_table.specs.Interfaces.{interface_number}
+use Rattle.rule_limits.specs.Sensor.{sensor_number}
 use Rattle.watch_rules.specs.declared.Table.{Table}
-use Rattle.watch_rules.specs.declared.Setting.{Setting}
-use Rattle.watch_rules.specs.declared.Setting.TheVariants as setting
+use Rattle.watch_rules.specs.Setting.{Setting}
 use Rattle.watch_rules.specs.Table.{look_up_of}
 use Rattle.plain_words.specs.Words.{Outcome, answers, refuses, outcome_word}
 
@@ -20,13 +18,13 @@ number_count = 14
 
 -- 1 and the time, or 0 and 0
 abbrev pub last_numbers : LastTime → List ℕ
-last_numbers last.Never = 0 ∷ 0 ∷ []
-last_numbers (last.At t) = 1 ∷ t ∷ []
+last_numbers None = 0 ∷ 0 ∷ []
+last_numbers (Some t) = 1 ∷ t ∷ []
 
 -- 1, since when, first protocol, first plug and the opening's age, or five times 0
 abbrev pub session_numbers : SessionPart → List ℕ
-session_numbers part.Closed = 0 ∷ 0 ∷ 0 ∷ 0 ∷ 0 ∷ []
-session_numbers (part.Opened s) = 1 ∷ s.since ∷ protocol_number s.protocol ∷ plug_number s.plug ∷ s.age ∷ []
+session_numbers None = 0 ∷ 0 ∷ 0 ∷ 0 ∷ 0 ∷ []
+session_numbers (Some s) = 1 ∷ s.since ∷ protocol_number s.protocol ∷ plug_number s.plug ∷ s.age ∷ []
 
 unfoldable pub numbers_of : Record → List ℕ
 numbers_of r =
@@ -43,12 +41,12 @@ room_left n xs ns = cond (leb n (length ns)) (xs ++ drop n ns) ns
 
 -- by what the look-up answers
 abbrev pub handed_outcome : ℕ → Setting → ℕ → Outcome
-handed_outcome n setting.Done places = room_outcome n places
-handed_outcome n (setting.Refused w) places = refuses w
+handed_outcome n (Ok tt) places = room_outcome n places
+handed_outcome n (Err w) places = refuses w
 
 abbrev pub handed_left : ℕ → Setting → List ℕ → List ℕ → List ℕ
-handed_left n setting.Done xs ns = room_left n xs ns
-handed_left n (setting.Refused w) xs ns = ns
+handed_left n (Ok tt) xs ns = room_left n xs ns
+handed_left n (Err w) xs ns = ns
 
 -- ---- the post's numbers
 

@@ -1,20 +1,21 @@
 // A post's numbers over the C interface: of the record that `watch::look_up` hands out, all but the messages. The lent table is only read.
 // For C callers; a caller in Rattle asks `watch::look_up`.
+// Kept (1): the C interface hands the answer out as one word, a number or a refusal (02); below the entry they are a `Result`.
 #![tactic(auto)]
 
-ghost use Rattle.std.specs.Prelude.{◌≡◌, cond, ◌++◌, ◌≤◌, length, drop};
+ghost use Rattle.std.specs.Prelude.{◌≡◌, cond, length};
 ghost use Rattle.rules.specs.After.{post_record};
-ghost use Rattle.plain_words.specs.Words.{outcome_word};
-ghost use Rattle.lent_numbers.specs.LookUp.{numbers_of, room_outcome, room_left, look_up_word, numbers_after};
+ghost use Rattle.watch_rules.specs.Table.{look_up_of};
+ghost use Rattle.plain_words.specs.Words.{outcome_of};
+ghost use Rattle.lent_numbers.specs.LookUp.{number_count, numbers_of, room_outcome, room_left, handed_outcome, look_up_word, numbers_after};
 
-use message_types::labels::{plug_number, protocol_number};
-use plain_words::{flag, refusal_word};
+use lent_look::post_at;
+use message_types::labels::Label;
+use plain_words::answer_word;
 use post_ages::{age, received};
 use refusals::Refusal;
-use rule_asks::is_set;
-use rule_limits::kept::{interface_number, interface_of, sensor_number, sensor_of};
+use rule_limits::{Interface, Sensor};
 use rules::Post;
-use watch_places::is_post;
 use watch_rules::Table;
 
 fn where_set(b: bool, x: u32) -> u32
@@ -26,79 +27,63 @@ fn where_set(b: bool, x: u32) -> u32
 // How many they are.
 const NUMBERS: usize = 14;
 
-fn numbers_of(p: Post) -> [u32; NUMBERS]
-    ensures { result ≡ numbers_of (post_record p) }
+fn numbers_of(p: &Post) -> [u32; NUMBERS]
+    ensures { result ≡ numbers_of (post_record p.now) }
 {
-    let h = p.head;
+    let h = &p.head;
     let l = h.limits;
-    let sensor = sensor_of(l.sensor);
-    let interface = interface_of(l.interface);
+    let sensor = Sensor::from(l.sensor);
+    let interface = Interface::from(l.interface);
     let s = h.session;
-    let heard = is_set(h.heard as u64);
-    let opened = is_set(s.opened);
+    let heard = h.is_heard();
+    let opened = s.is_open();
     let n = message_parts::session_in(s.first);
-    let protocol = n.protocol;
-    let plug = n.plug;
     [
         h.channel,
         l.voltage,
         l.charge,
         l.discharge,
         l.silence,
-        sensor_number(sensor),
-        flag(heard),
+        u32::from(sensor),
+        u32::from(heard),
         where_set(heard, received(h.time)),
-        flag(opened),
+        u32::from(opened),
         where_set(opened, received(s.since)),
-        where_set(opened, protocol_number(protocol) as u32),
-        where_set(opened, plug_number(plug) as u32),
+        where_set(opened, u32::from(n.protocol.number())),
+        where_set(opened, u32::from(n.plug.number())),
         where_set(opened, age(h.time, s.since)),
-        interface_number(interface),
+        u32::from(interface),
     ]
 }
 
-fn store_numbers(ns: &[u32], numbers: &mut [u32])
-    requires { length ns.now ≤ length numbers.old }
-    ensures { numbers.new ≡ ns.now ++ drop (length ns.now) numbers.old }
-{
-    let mut j: usize = 0;
-    while j < ns.len() {
-        numbers[j] = ns[j];
-        j += 1;
-    }
-}
-
 // Numbers into lent places: a post's own, and its counts (`lent_counts`).
-pub fn hand_out(ns: &[u32], numbers: &mut [u32]) -> u32
-    ensures { (result ≡ outcome_word (room_outcome (length ns.now) (length numbers.old)))
-        × (numbers.new ≡ room_left (length ns.now) ns.now numbers.old) }
+// Kept (1): no `Result<(), Refusal>`: `room_outcome` says the word of the answer, which is 0 where all went well, and `outcome_of` is of a number or a refusal:
+// for another type it would stand twice.
+// Kept (6): by `get_mut(..ns.len())` the proof did not close: that nothing is left changed where it gives none.
+pub fn hand_out(ns: &[u32], numbers: &mut [u32]) -> Result<u32, Refusal>
+    ensures answer { outcome_of result ≡ room_outcome (length ns.now) (length numbers.old) }
+    ensures left { numbers.new ≡ room_left (length ns.now) ns.now numbers.old }
 {
     if numbers.len() < ns.len() {
-        return refusal_word(Refusal::ShortBuffer);
+        return Err(Refusal::ShortBuffer);
     }
-    store_numbers(ns, numbers);
-    0
+    numbers[..ns.len()].copy_from_slice(ns);
+    Ok(0)
 }
 
-fn looked(t: Table, post: u32, numbers: &mut [u32]) -> u32
-    ensures { (result ≡ look_up_word t post numbers.old) × (numbers.new ≡ numbers_after t post numbers.old) }
+#[tactic(auto, unfolding(crate::specs::LookUp::numbers_after))]
+fn looked(t: &Table, post: u32, numbers: &mut [u32]) -> Result<u32, Refusal>
+    ensures answer { outcome_of result ≡ handed_outcome number_count (look_up_of t.now post).answer (length numbers.old) }
+    ensures left { numbers.new ≡ numbers_after t.now post numbers.old }
 {
-    if !is_post(post) {
-        return refusal_word(Refusal::NoSuchPost);
-    }
-    let i = post as usize;
-    let p = t.posts[i];
-    let h = p.head;
-    if !is_set(h.used as u64) {
-        return refusal_word(Refusal::NotSetUp);
-    }
-    let ns = numbers_of(p);
-    hand_out(&ns, numbers)
+    let p = post_at(t, post)?;
+    hand_out(&numbers_of(p), numbers)
 }
 
+#[tactic(auto, unfolding(crate::specs::LookUp::look_up_word))]
 #[unsafe(no_mangle)]
 pub extern "C" fn rokemaipu_look_up(t: &Table, post: u32, numbers: &mut [u32]) -> u32
     ensures { (result ≡ look_up_word t.now post numbers.old) × (numbers.new ≡ numbers_after t.now post numbers.old) }
 {
-    looked(*t, post, numbers)
+    answer_word(looked(t, post, numbers))
 }

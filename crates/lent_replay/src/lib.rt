@@ -1,11 +1,13 @@
 // A replay of a night log over lent memory, for C (02, Req 05): set-ups, and then a record a call, each of which leaves exactly what `playing_words` gives by
 // value.
+// Kept (5): the C interface hands these in one by one.
 #![tactic(auto)]
 
 ghost use Rattle.std.specs.Prelude.{◌≡◌};
 ghost use Rattle.playing_words.specs.Plain.{start_by, set_up_by, line_by, line_left, next_after};
 
 use playing_words::{PlainReplay, line_of, settled, started};
+use rule_limits::PlainLimits;
 
 #[unsafe(no_mangle)]
 pub extern "C" fn rokemaipu_replay_start(r: &mut PlainReplay) -> u32
@@ -30,9 +32,15 @@ pub extern "C" fn rokemaipu_replay_set_up(
 ) -> u32
     ensures { (result ≡ (set_up_by r.old post channel voltage charge discharge silence sensor interface).answer) × (r.new ≡ (set_up_by r.old post channel voltage charge discharge silence sensor interface).replay) }
 {
-    let q = settled(
-        *r, post, channel, voltage, charge, discharge, silence, sensor, interface,
-    );
+    let limits = PlainLimits {
+        voltage,
+        charge,
+        discharge,
+        silence,
+        sensor,
+        interface,
+    };
+    let q = settled(*r, post, channel, limits);
     *r = q.replay;
     q.answer
 }

@@ -1,4 +1,5 @@
 -- A run of lent calls is the run by value, and its words tell the replies: what demand 3 says of `run` holds of the lent table.
+use Rattle.std.specs.Prelude.{Ok, Err}
 use Prim.Native.Nat.{◌≤◌, ◌<◌}
 use native.Mathlib.Omega.{arith}
 use mathlib.Core.Path.{◌≡◌, refl, ap, ◌∙◌, subst}
@@ -9,8 +10,6 @@ use borrow.Author.Tests.{ltb-true}
 use Rattle.plain_words.specs.Words.{answers, is_accepted, Told}
 use Rattle.plain_words.proofs.WordLaws.{word_tells}
 use Rattle.watch_rules.specs.declared.Table.{Table}
-use Rattle.watch_rules.specs.declared.Answer.TheVariants.{Findings, Refused}
-use Rattle.watch_rules.specs.declared.Setting.TheVariants as setting
 use Rattle.watch_rules.specs.Run.{Request, setUp, release, frame, tick, Reply, set, fed, reply, next, run, reply01, accepted, after_refusal, is_refusal}
 use Rattle.watch_rules.proofs.Refusing.{refused_table, refused_posts}
 use Rattle.watch_rules.proofs.Demand.{every_answer}
@@ -50,10 +49,10 @@ unfolding start_of
 start_told t = word_tells 0 (answers 0) (omega arith) (omega arith)
 
 accepted_not : (r : Reply) → is_accepted (outcome_of r) ≡ not (is_refusal r)
-accepted_not (set setting.Done) = refl
-accepted_not (set (setting.Refused w)) = refl
-accepted_not (fed (Findings n)) = refl
-accepted_not (fed (Refused w)) = refl
+accepted_not (set (Ok tt)) = refl
+accepted_not (set (Err w)) = refl
+accepted_not (fed (Ok n)) = refl
+accepted_not (fed (Err w)) = refl
 
 -- "Below 65,536 a call was accepted" (the header), of every table
 pub word_told : (t : Table) (a : Request) → ltb (lent_by t a).answer 65536 ≡ not (is_refusal (reply t a))

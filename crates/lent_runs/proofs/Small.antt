@@ -1,13 +1,13 @@
 -- How large a reply can be, whatever the table holds: the findings of any step are at most 4,095 (`found-small`), and the start that a refusal
 -- carries is one of a payload's 64 bits (`reply-within`).
-use Prim.Native.Nat.{ℕ, ◌+◌, ◌<◌, ◌≤◌}
+use Rattle.std.specs.Prelude.{Ok, Err}
+use Prim.Native.Nat.{ℕ, ◌+◌, ◌≤◌}
 use native.Mathlib.Omega.{arith}
 use mathlib.Core.List.{List}
 use mathlib.Core.Bool.{Bool, true, false, not, ◌&&◌}
 use lib.Dec.{ltb}
 use Rattle.refusals.specs.declared.Refusal.TheVariants.{ChannelFree, Earlier, CountFull}
-use Rattle.page_read.specs.declared.Judged.{Judged}
-use Rattle.page_read.specs.declared.Judged.TheVariants as judged
+use Rattle.page_read.specs.Judged.{Judged}
 use Rattle.page_table.specs.declared.Interface.{Interface}
 use Rattle.page_read.specs.Judge.{judge_on}
 use Rattle.page_interfaces.specs.Foreign.{is_foreign, judge_for}
@@ -18,7 +18,8 @@ use Rattle.watch_rules.specs.rules.specs.declared.Head.{Head}
 use Rattle.message_types.specs.declared.DcPowerControl.{DcPowerControl}
 use Rattle.message_types.specs.declared.PowerModulesStatus.{PowerModulesStatus}
 use Rattle.message_types.specs.declared.NewChargeSession.{NewChargeSession}
-use Rattle.rule_limits.specs.Sensor.{sensor_of, interface_of}
+use Rattle.page_table.specs.Interfaces.{interface_of}
+use Rattle.rule_limits.specs.Sensor.{sensor_of}
 use Rattle.rule_asks.specs.Judgements.{is_close, is_powered, is_off, lowers_badly, outside, bad_insulation, differs, is_set, bit}
 use Rattle.message_parts.specs.Parts.{session_in}
 use Rattle.rule_pages.specs.declared.Role.{Role}
@@ -27,10 +28,8 @@ use Rattle.rule_pages.specs.Roles.{role_of}
 use Rattle.rule_pages.specs.Said.{status_by, opening_by, command_by}
 use Rattle.watch_rules.specs.rules.specs.After.{silent_in, late_after, limit_in, unready_in, stopped_in, carrying_in, any_findings, control_findings, status_findings, opening_findings, finished_findings, findings_by, message_findings, is_full_in, after_tick, after_frame, aged_to, stamp_in, is_early}
 use Rattle.watch_rules.specs.declared.Table.{Table}
-use Rattle.watch_rules.specs.declared.Answer.{Answer}
-use Rattle.watch_rules.specs.declared.Answer.TheVariants.{Findings, Refused}
-use Rattle.watch_rules.specs.declared.Settled.{Settled}
-use Rattle.watch_rules.specs.declared.Fed.{Fed}
+use Rattle.watch_rules.specs.Answer.{Answer, Fed}
+use Rattle.watch_rules.specs.Setting.{Settled}
 use Rattle.watch_rules.specs.declared.Heard.{Heard}
 use Rattle.watch_rules.specs.declared.Arrival.{Arrival}
 use Rattle.watch_rules.specs.declared.Arrival.TheVariants.{Tick, Frame, Unread}
@@ -114,8 +113,8 @@ module _ (p : Head) where
 -- ---- any table
 
 abbrev pub Found : Answer → Type 0
-Found (Findings n) = n ≤ 4095
-Found (Refused w) = Unit {0}
+Found (Ok n) = n ≤ 4095
+Found (Err w) = Unit {0}
 
 tick_small : (p : Head) (t : ℕ) → (after_tick p t).findings ≤ 4095
 unfolding after_tick
@@ -129,17 +128,17 @@ frame_small p t k n = omega (arith, any_small (aged_to p (stamp_in p t)), messag
 abbrev pub Reads : (Answer → Type 0) → Arrival → Type 0
 Reads P Tick = Unit {0}
 Reads P (Frame k n) = Unit {0}
-Reads P (Unread w) = P (Refused w)
+Reads P (Unread w) = P (Err w)
 
 -- what holds of 25, of any findings up to 4,095 and of what is not read holds of a head's answer
-judged_says : (P : Answer → Type 0) → P (Refused CountFull) → ((n : ℕ) → n ≤ 4095 → P (Findings n)) → (p : Head) (t : ℕ) (a : Arrival) → Reads P a
+judged_says : (P : Answer → Type 0) → P (Err CountFull) → ((n : ℕ) → n ≤ 4095 → P (Ok n)) → (p : Head) (t : ℕ) (a : Arrival) → Reads P a
     → P (judged_of p t a).answer
 judged_says P full found p t Tick l = either (λ (r : Heard). P r.answer) (is_full_in p) full (found _ (tick_small p t))
 judged_says P full found p t (Frame k n) l = either (λ (r : Heard). P r.answer) (is_full_in p) full (found _ (frame_small p t k n))
 judged_says P full found p t (Unread w) l = l
 
 -- what holds of 1, of 2 and of whatever a head answers holds of the table's answer
-feed_says : (P : Answer → Type 0) (t : Table) (c time : ℕ) (a : Arriving) → P (Refused ChannelFree) → P (Refused Earlier)
+feed_says : (P : Answer → Type 0) (t : Table) (c time : ℕ) (a : Arriving) → P (Err ChannelFree) → P (Err Earlier)
     → ((p : Head) → P (judged_of p time (a p.limits)).answer) → P (feed_of t c time a).answer
 unfolding feed_of feed_at heard_of
 feed_says P t c time a free early heard =
@@ -165,8 +164,8 @@ FedWithin r = Within 4095 (answer_outcome r)
 
 -- an arrival that is not read is refused with the start of a row, or with none
 frame_readable : (b : ℕ) (j : Judged) → SmallBelow b j → Reads FedWithin (arrival_of j)
-frame_readable b (judged.Frame k n) l = tt
-frame_readable b (judged.Refused w) l = l
+frame_readable b (Ok (k, n)) l = tt
+frame_readable b (Err w) l = l
 
 post_readable : (iface : Interface) (m : ℕ) (x : Bool) (bs : List ℕ) → Reads FedWithin (arrival_of (judge_for iface m x bs))
 unfolding judge_for

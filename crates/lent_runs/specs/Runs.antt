@@ -2,15 +2,14 @@
 use Rattle.std.specs.Prelude.{ℕ, List, [], ◌∷◌}
 use Rattle.watch_rules.specs.declared.Table.{Table}
 use Rattle.watch_rules.specs.Run.{Request, setUp, release, frame, tick, Reply, set, fed}
-use Rattle.lent_step.specs.lent_words.specs.declared.Lent.{Lent}
 use Rattle.plain_words.specs.Words.{Outcome, outcome_word}
 use Rattle.lent_step.specs.lent_words.specs.Words.{answer_outcome, setting_outcome}
-use Rattle.lent_step.specs.lent_words.specs.Lent.{start_of, set_up_word, release_word}
+use Rattle.lent_step.specs.lent_words.specs.Lent.{Lent, start_of, set_up_word, release_word}
 use Rattle.lent_step.specs.Fed.{frame_word, tick_word}
 
 -- what the entry's contract says of a request: the answer's word, and the table at exit
 abbrev pub lent_by : Table → Request → Lent
-lent_by t (setUp i c lim) = set_up_word t i c lim.voltage lim.charge lim.discharge lim.silence lim.sensor lim.interface
+lent_by t (setUp i c lim) = set_up_word t i c lim
 lent_by t (release i) = release_word t i
 lent_by t (frame c time m x bs) = frame_word t c time m x bs
 lent_by t (tick c time) = tick_word t c time

@@ -1,4 +1,3 @@
-pub mod ByCase
 pub mod SessionLaws
 pub mod Night
 pub mod OlderNight

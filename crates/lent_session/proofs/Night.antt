@@ -1,13 +1,15 @@
 -- The laws of an open session's part on a night: post 0 on channel 4, a session opened at 0 ms, a Power_Modules_Status at 10 ms in it, an Emergency_Stop at
 -- 20 ms, and a tick at 25 ms.
 -- Each premise holds there.
+use Rattle.std.specs.Prelude.{Ok}
+use Rattle.std.specs.Prelude as std
 use Prim.Native.Nat.{ℕ, zero, suc, ◌<◌, ◌≤◌}
 use native.Mathlib.Omega.{arith}
 use mathlib.Core.Path.{◌≡◌, refl, sym, ap, ◌∙◌, subst}
 use mathlib.Core.Bool.{true, false}
 use mathlib.Core.List.{List, [], ◌∷◌, ◌++◌}
 use mathlib.Core.Option.{none, some}
-use lib.ListN.{length, get_or, drop, replicate}
+use lib.ListN.{get_or, replicate}
 use borrow.Author.Tests.{ltb-true}
 use Rattle.payload.specs.Payload.{Bytes, le_number}
 use Rattle.signal.specs.Signal.{get_bits}
@@ -15,7 +17,6 @@ use Rattle.signal.specs.Twos.{to_signed}
 use Rattle.page_table.specs.declared.Interface.TheVariants.{Newer}
 use Rattle.page_table.specs.Messages.{message_count}
 use Rattle.page_table.specs.Table.{rows, of_kind, first_at, covered, length_of}
-use Rattle.page_read.specs.declared.Judged.TheVariants as judged
 use Rattle.page_read.specs.Judge.{unlabelled, stray_below, judged_number, judge_on}
 use Rattle.page_interfaces.specs.Foreign.{is_foreign, judge_for}
 use Rattle.page_write.specs.Raws.{wholes_of, pad, raws_of}
@@ -30,14 +31,12 @@ use Rattle.rules.specs.Times.{earlier_in}
 use Rattle.rules.specs.History as history
 use Rattle.rule_asks.specs.Judgements.{lowers_badly, outside, leaking, bad_insulation, differs}
 use Rattle.rules.specs.Rules.{session_status, session_control, session_stop, limit_of, f1, f2, f3, f4, f5, f6, f7, f8, f9, f10, f11, f12, findings01}
-use Rattle.rules.specs.declared.Latest.{Latest}
+use Rattle.rules.specs.declared.Dated.{Dated}
 use Rattle.rules.specs.declared.Post.{Post}
-use Rattle.rules.specs.declared.Dated.TheVariants as dated
 use Rattle.rules.specs.Record.{is_set, unknown, slot_at, session01, head_at, latests}
 use Rattle.rules.proofs.Excludes.{excludes}
-use Rattle.rules.specs.After.{status_place, control_place, stop_place, kept_count, dated_in, shown_in}
-use Rattle.watch_rules.specs.declared.Setting.TheVariants as setting
-use Rattle.watch_rules.specs.declared.Setting.{Setting}
+use Rattle.rules.specs.After.{status_place, control_place, stop_place, kept_count, dated_in}
+use Rattle.watch_rules.specs.Setting.{Setting}
 use Rattle.watch_rules.specs.declared.LookedUp.{LookedUp}
 use Rattle.watch_rules.specs.Table.{post_count, no_post, post_in, look_up_of}
 use Rattle.watch_rules.specs.Steps.{held, standing, kept_post, find_from, holder, other_holds, feed01, set_up01, look_up01, feed_steps, set_up_steps}
@@ -71,7 +70,7 @@ abbrev buffer : List ℕ
 buffer = replicate 10 7
 
 computed : (standing 0 (accepted night) ≡ held 4 limits heard) × (opening heard ≡ some (said_at 0 3 258)) × (session_status heard ≡ some (said_at 10 0 allowed)) × (session_control heard ≡ none)
-    × (judge_for Newer 0x63000 true status ≡ judged.Frame 0 allowed) × ((look_up01 (accepted night) 0).answer ≡ setting.Done) × (hands setting.Done true (slot_at 10 0 allowed) 3 10 ≡ true)
+    × (judge_for Newer 0x63000 true status ≡ Ok (0, allowed)) × ((look_up01 (accepted night) 0).answer ≡ Ok tt) × (hands (Ok tt) true (slot_at 10 0 allowed) 3 10 ≡ true)
     × (session_stop heard ≡ some (said_at 20 7 3))
 unfolding standing find_from holder other_holds feed01 set_up01 look_up01 feed_steps set_up_steps limits_fit accepted since_finished opening in_session earlier_in lowers_badly outside leaking bad_insulation differs session_status session_control session_stop limit_of f1 f2 f3 f4 f5 f6 f7 f8 f9 f10 f11 f12 findings01 rows of_kind first_at covered length_of unlabelled stray_below judged_number judge_on is_foreign judge_for wholes_of pad raws_of get_bits le_number to_signed role_of status_by limits_by opening_by command_by status_in parameters_in session_in control_in
 computed = (refl, refl, refl, refl, refl, refl, refl, refl)
@@ -108,7 +107,7 @@ each_byte (suc (suc (suc (suc (suc (suc (suc (suc i)))))))) = omega arith
 
 -- ---- the other laws' premises
 
-answered : (look_up_of (run night) 0).answer ≡ setting.Done
+answered : (look_up_of (run night) 0).answer ≡ Ok tt
 answered = ap (λ (x : LookedUp). x.answer) (every_record night 0) ∙ computed.5
 
 -- no place for the time: 8, and nothing changes
@@ -147,7 +146,7 @@ pub status_out : (part_time (run night) 0 status_place (99 ∷ 99 ∷ 99 ∷ [])
 status_out = rw latest_time_lem at (as_it_came Newer (run night) 0 status_place (99 ∷ 99 ∷ 99 ∷ []) buffer 0x63000 true status 10 0 allowed computed.4 each_byte kept_status handed)
 
 -- the record shows the status that is handed out
-pub status_shown : (d : Latest) → get_or (look_up_of (run night) 0).shown.kept status_place d ≡ shown_in (post_in (run night) 0).head.time (part_of (run night) 0 status_place)
+pub status_shown : (d : std.Option Dated) → get_or (look_up_of (run night) 0).shown.kept status_place d ≡ dated_in (post_in (run night) 0).head.time (part_of (run night) 0 status_place)
 status_shown = part_shown (run night) 0 status_place refl (used_in night heard computed.0) (ltb-true status_place kept_count refl)
 
 shut : is_set (post_in (run quiet) 0).head.session.opened ≡ false
@@ -175,7 +174,7 @@ latest_8 = rw (answered, kept_latest_lem)
 pub latest_no_place : (time_after (run night) 0 0 [] buffer ≡ []) × (frame_after (run night) 0 0 [] buffer ≡ buffer)
 latest_no_place = latest_refused (run night) 0 0 [] buffer (subst (λ (a : ℕ). 65536 ≤ a) (sym latest_8) (omega arith))
 
-pub latest_in_record : (get_or (look_up_of (run night) 0).shown.latest (place_by 0) (record { message = dated.Nothing })).message ≡ dated_in (post_in (run night) 0).head.time (kept_of (run night) 0 0)
+pub latest_in_record : get_or (look_up_of (run night) 0).shown.latest (place_by 0) std.None ≡ dated_in (post_in (run night) 0).head.time (kept_of (run night) 0 0)
 latest_in_record = latest_shown_lem (run night) 0 0 refl (used_in night heard computed.0) (ltb-true 0 message_count refl) in_place
 
 pub probes_have_bytes : 1 ≤ length_of 11

@@ -1,11 +1,12 @@
 -- The same on a night of a post of the older interface: a session opened at 0 ms by 001's New_Charge_Session, an Insulation_Test at 10 ms in it, and a
 -- Power_Modules_Status of the newer pages at 20 ms, which is refused with 29 and is part of no history.
 -- Insulation_Test stands for DC_Power_Control, and in the place that DC_Power_Control has on a post of the newer interface.
+use Rattle.std.specs.Prelude.{Err}
 use Prim.Native.Nat.{ℕ, ◌<◌}
-use mathlib.Core.Path.{◌≡◌, refl, ap, ◌∙◌}
+use mathlib.Core.Path.{◌≡◌, refl, ◌∙◌}
 use mathlib.Core.Bool.{true}
 use mathlib.Core.List.{List, [], ◌∷◌}
-use mathlib.Core.Option.{none, some}
+use mathlib.Core.Option.{some}
 use borrow.Author.Tests.{ltb-true}
 use Rattle.payload.specs.Payload.{le_number}
 use Rattle.signal.specs.Signal.{get_bits}
@@ -30,10 +31,9 @@ use Rattle.rule_asks.specs.Judgements.{lowers_badly, outside, leaking, bad_insul
 use Rattle.rules.specs.Rules.{session_status, session_control, session_stop, limit_of, f1, f2, f3, f4, f5, f6, f7, f8, f9, f10, f11, f12, findings01}
 use Rattle.rules.specs.Record.{unknown, slot_at}
 use Rattle.rules.specs.After.{control_place, kept_count}
-use Rattle.watch_rules.specs.declared.Answer.TheVariants.{Refused}
 use Rattle.watch_rules.specs.Table.{post_count}
 use Rattle.watch_rules.specs.Steps.{held, standing, find_from, holder, other_holds, feed01, set_up01, look_up01, feed_steps, set_up_steps}
-use Rattle.watch_rules.specs.Run.{Request, setUp, frame, Reply, fed, reply, run, reply01, accepted}
+use Rattle.watch_rules.specs.Run.{Request, setUp, frame, fed, reply, run, reply01, accepted}
 use Rattle.watch_rules.proofs.Demand.{run_kept, every_answer}
 use Rattle.lent_latest.specs.Latest.{kept_of}
 use Rattle.lent_latest.proofs.LatestLooks.{latest_of_run}
@@ -65,11 +65,11 @@ abbrev heard : History
 heard = history.frame 10 older.insulation_kind tested ∷ history.frame 0 older.session_kind 258 ∷ []
 
 computed : (standing 0 (accepted night) ≡ held 4 limits heard) × (opening heard ≡ some (said_at 0 older.session_kind 258)) × (session_control heard ≡ some (said_at 10 older.insulation_kind tested))
-    × (reply01 (accepted before) foreign ≡ fed (Refused OtherInterface))
+    × (reply01 (accepted before) foreign ≡ fed (Err OtherInterface))
 unfolding standing find_from holder other_holds feed01 set_up01 look_up01 feed_steps set_up_steps limits_fit accepted since_finished opening in_session earlier_in lowers_badly outside leaking bad_insulation differs session_status session_control session_stop limit_of f1 f2 f3 f4 f5 f6 f7 f8 f9 f10 f11 f12 findings01 rows of_kind first_at covered length_of unlabelled stray_below judged_number judge_on is_foreign judge_for wholes_of pad raws_of get_bits le_number to_signed role_of status_by limits_by opening_by command_by status_in parameters_in session_in control_in
 computed = (refl, refl, refl, refl)
 
-pub foreign_29 : reply (run before) foreign ≡ fed (Refused OtherInterface)
+pub foreign_29 : reply (run before) foreign ≡ fed (Err OtherInterface)
 foreign_29 = every_answer before foreign ∙ computed.3
 
 first : 0 < post_count

@@ -1,9 +1,11 @@
 -- What the open session's part promises, by the laws of `lent_latest` over what is kept: its bytes are those that came, a refusal leaves the lent memory as it
 -- was, behind the places named nothing changes.
 -- What is handed out is what the record shows, and over a post's history the latest accepted in the session.
+use Rattle.std.specs.Prelude.{Ok}
+use Rattle.std.specs.Prelude as std
 use Prim.Native.Nat.{ℕ, ◌<◌, ◌≤◌}
 use native.Mathlib.Omega.{arith}
-use mathlib.Core.Path.{◌≡◌, refl, ap, sym, ◌∙◌}
+use mathlib.Core.Path.{◌≡◌, refl, ap, ◌∙◌}
 use mathlib.Core.Bool.{Bool, true, false, cond}
 use mathlib.Core.List.{List, ◌∷◌, ◌++◌}
 use mathlib.Core.Option.{Option, none, some}
@@ -11,18 +13,17 @@ use lib.Dec.{eqb}
 use lib.ListN.{length, get_or, drop}
 use borrow.Author.Tests.{lt-ltb, eqb-true, eqb-false}
 use Rattle.payload.specs.Payload.{Bytes}
-use Rattle.page_read.specs.declared.Judged.TheVariants.{Frame}
 use Rattle.page_table.specs.declared.Interface.{Interface}
 use Rattle.page_interfaces.specs.Foreign.{judge_for}
 use Rattle.page_table.specs.Table.{length_of}
 use Rattle.rule_limits.specs.declared.PlainLimits.{PlainLimits}
-use Rattle.rules.specs.declared.Latest.{Latest}
+use Rattle.rules.specs.declared.Dated.{Dated}
 use Rattle.rules.specs.declared.Post.{Post}
-use Rattle.rules.specs.History.{History, Said, opening, in_session}
+use Rattle.rules.specs.History.{History, Said, opening}
 use Rattle.rules.specs.Times.{received_of, age_of}
 use Rattle.rules.specs.Rules.{session_status, session_control, session_stop}
-use Rattle.rules.specs.Record.{is_set, unknown, slot_at, slot_of, kept_of, session01, head_at, post_of}
-use Rattle.rules.specs.After.{status_place, control_place, stop_place, kept_count, shown_in, open_kept, post_record}
+use Rattle.rules.specs.Record.{is_set, unknown, slot_at, slot_of, session01, head_at}
+use Rattle.rules.specs.After.{status_place, control_place, stop_place, kept_count, dated_in, open_kept, post_record}
 use Rattle.rules.proofs.Counted.{count_at}
 use Rattle.watch_rules.specs.declared.Table.{Table}
 use Rattle.watch_rules.specs.Table.{post_count, no_post, post_in, is_post, look_up_of}
@@ -36,7 +37,7 @@ use Rattle.lent_session.specs.InSession.{is_part, part_of, hands_part, part_outc
 
 -- a frame that was read to what the session keeps is handed out byte for byte
 pub as_it_came : (iface : Interface) (t : Table) (i j : ℕ) (times buf : List ℕ) (id : ℕ) (extended : Bool) (bs : List ℕ) (time k n : ℕ)
-    → judge_for iface id extended bs ≡ Frame k n → Bytes bs → part_of t i j ≡ slot_at time k n → hands_part t i j times buf ≡ true
+    → judge_for iface id extended bs ≡ Ok (k, n) → Bytes bs → part_of t i j ≡ slot_at time k n → hands_part t i j times buf ≡ true
     → (part_time t i j times buf ≡ received_of time ∷ age_of (now_of t i) time ∷ k ∷ drop 3 times) × (part_frame t i j times buf ≡ bs ++ drop (length bs) buf)
 unfolding part_time part_frame
 as_it_came iface t i j times buf id extended bs time k n e b s h = rw (h, s) (slot_came iface (now_of t i) times buf id extended bs time k n e b)
@@ -67,9 +68,9 @@ third j l f g =
     omega arith
 
 pub part_shown : (t : Table) (i j : ℕ) → is_post i ≡ true → is_set (post_in t i).head.used ≡ true → j < kept_count
-    → (d : Latest) → get_or (look_up_of t i).shown.kept j d ≡ shown_in (now_of t i) (part_of t i j)
+    → (d : std.Option Dated) → get_or (look_up_of t i).shown.kept j d ≡ dated_in (now_of t i) (part_of t i j)
 unfolding post_record
-part_shown t i j l u m d = rw (set_up t i l u) (count_at (λ k. shown_in (now_of t i) (part_of t i k)) d j 0 kept_count j (omega arith) m)
+part_shown t i j l u m d = rw (set_up t i l u) (count_at (λ k. dated_in (now_of t i) (part_of t i k)) d j 0 kept_count j (omega arith) m)
 
 -- 01: "With no session open all of the session's part is none": the answer is 0
 pub closed : (t : Table) (i j : ℕ) (times buf : List ℕ) → is_post i ≡ true → is_set (post_in t i).head.used ≡ true → j < kept_count → is_set (post_in t i).head.session.opened ≡ false

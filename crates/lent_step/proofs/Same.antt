@@ -6,8 +6,8 @@ use mathlib.Core.Bool.{Bool}
 use Rattle.watch_hear.specs.watch_rules.specs.declared.Table.{Table}
 use Rattle.watch_hear.specs.watch_rules.specs.Table.{Arriving, post_in, framing, ticking, feed_at, feed_of, some_place}
 use Rattle.watch_hear.specs.watch_rules.proofs.Same.{feed_same}
-use Rattle.lent_words.specs.declared.Lent.{Lent}
-use Rattle.lent_step.specs.Fed.{lent_fed, frame_word, tick_word}
+use Rattle.lent_words.specs.Lent.{Lent, lent_fed}
+use Rattle.lent_step.specs.Fed.{frame_word, tick_word}
 use Rattle.lent_step.specs.One.{heard_on, lent_at}
 
 module _ (t : Table) (c time : ℕ) where

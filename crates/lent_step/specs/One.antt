@@ -1,22 +1,21 @@
 -- Inner step: what comes, over one post's head, so that a frame or tick copies one head and not the table.
 -- `feed-same` (watch_rules) shows that it is the table's step.
-use Rattle.std.specs.Prelude.{ℕ, Bool, true, false, set}
+use Rattle.std.specs.Prelude.{ℕ, Bool, true, false, set, Ok, Err}
 use Rattle.rules.specs.declared.Head.{Head}
 use Rattle.rules.specs.declared.Post.{Post}
 use Rattle.rules.specs.After.{stored}
 use Rattle.watch_hear.specs.watch_rules.specs.declared.Table.{Table}
 use Rattle.watch_hear.specs.watch_rules.specs.declared.Heard.{Heard}
-use Rattle.watch_hear.specs.watch_rules.specs.declared.Answer.{Answer}
-use Rattle.watch_hear.specs.watch_rules.specs.declared.Answer.TheVariants.{Findings, Refused}
+use Rattle.watch_hear.specs.watch_rules.specs.Answer.{Answer}
 use Rattle.watch_hear.specs.watch_rules.specs.declared.Arrival.{Arrival}
 use Rattle.watch_hear.specs.watch_rules.specs.Table.{post_in, heard_of, refused_after}
-use Rattle.lent_words.specs.declared.Lent.{Lent}
+use Rattle.lent_words.specs.Lent.{Lent}
 use Rattle.lent_words.specs.Words.{answer_word}
 use Rattle.lent_step.specs.declared.Worded.{Worded}
 
 abbrev pub is_taken : Answer → Bool
-is_taken (Findings f) = true
-is_taken (Refused w) = false
+is_taken (Ok f) = true
+is_taken (Err w) = false
 
 -- n of the table's frames and ticks were refused before
 abbrev pub worded_by : ℕ → Heard → Worded

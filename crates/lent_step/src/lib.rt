@@ -4,19 +4,18 @@
 #![tactic(auto)]
 
 ghost use Rattle.std.specs.Prelude.{◌≡◌};
-ghost use Rattle.watch_hear.specs.watch_rules.specs.declared.Arrival.TheVariants.{Tick};
-ghost use Rattle.lent_step.specs.One.{is_taken, worded_by, heard_on};
+ghost use Rattle.lent_step.specs.One.{worded_by, heard_on};
 
 // The crates among these are passed on to those above, which name them through this one.
 pub use lent_words;
 use lent_words::answer_word;
-use rule_limits::PlainLimits;
 use rules::{Head, Slot};
-use watch_hear::watch_rules::{Answer, Arrival, Heard};
+use watch_hear::watch_rules::{Arrival, Heard};
 use watch_hear::{hear, refused_after};
 
 // What a post heard, with the table's count of refused frames and ticks afterwards, the answer as a word, and whether it was taken.
-// Where it was, the count is as it was; where it was not, the head is, and no slot is filled (`heard-apart`, proofs/Taken.antt).
+// Where it was, the count is as it was; where it was not, the head is, and no slot is filled (`heard_apart`, proofs/Taken.antt).
+// Kept (1): heard_apart, and lent_at, of which frame_same speaks, are over these fields.
 #[derive(Clone, Copy)]
 pub struct Worded {
     pub head: Head,
@@ -27,36 +26,17 @@ pub struct Worded {
     pub taken: bool,
 }
 
-fn is_taken(a: Answer) -> bool
-    ensures { result ≡ is_taken a }
-{
-    match a {
-        Answer::Findings(_) => true,
-        Answer::Refused(_) => false,
-    }
-}
-
 fn in_words(n: u64, r: Heard) -> Worded
     ensures { result ≡ worded_by n r }
 {
-    let head = r.head;
-    let slot = r.slot;
-    let answer = r.answer;
     Worded {
-        head,
-        slot,
+        head: r.head,
+        slot: r.slot,
         at: r.at,
-        refused: refused_after(n, answer),
-        answer: answer_word(answer),
-        taken: is_taken(answer),
+        refused: refused_after(n, r.answer),
+        answer: answer_word(r.answer),
+        taken: r.answer.is_ok(),
     }
-}
-
-// What a tick is to a post, whatever its limits: beside `watch_hear::arrival_for`, so that a tick goes as a frame does.
-pub fn tick_for(_limits: PlainLimits) -> Arrival
-    ensures { result ≡ Tick }
-{
-    Arrival::Tick
 }
 
 pub fn heard_on(h: Head, refused: u64, channel: u32, time: u32, a: Arrival) -> Worded

@@ -1,2 +1,1 @@
-// Nothing stands here now: functions that are lent a value, and change it in place, look at it or lend it on, had walks by hand here, over any types.
-// Rattle makes their proofs itself today (docs/PORT.md); the crate is kept for its name.
+// Nothing stands here: a function that is lent a value needs no more than its contract. The crate is its name, which callers may list.

@@ -1,93 +1,75 @@
 // The operations of `watch` that set posts up and release them, by value and with their answers as words:
 // what `lent_settings` hands the whole of a lent table to.
 // Whoever calls from Rattle and wants words may use them too.
+// Kept (2): alike are the two fields of `Lent`: the answer is of another type in each `From`, and 0 of a start, which `watch` answers with nothing.
 #![tactic(auto)]
 
 ghost use Rattle.std.specs.Prelude.{◌≡◌};
-ghost use Rattle.lent_words.specs.Words.{answer_word, setting_word};
-ghost use Rattle.lent_words.specs.Lent.{start_of, set_up_word, release_word};
+ghost use Rattle.lent_words.specs.Words.{setting_word};
+ghost use Rattle.lent_words.specs.Lent.{lent_fed, lent_settled, start_of, set_up_word, release_word};
 
-use plain_words::refusal_word;
+// A frame's or a tick's answer as a word.
+pub use plain_words::answer_word;
+use refusals::Refusal;
 use rule_limits::PlainLimits;
-use watch_rules::{Answer, Setting, Table};
+use watch_rules::{Fed, Settled, Stepped, Table};
 
-#[derive(Clone, Copy)]
-pub struct Lent {
-    pub table: Table,
-    pub answer: u32,
+// A table after a step whose answer is a word.
+pub type Lent = Stepped<u32>;
+
+// A set-up or a release that was taken answers 0.
+// Kept (1): the C interface: 02 gives each entry's answer as a word of 32 bits.
+fn setting_word(a: Result<(), Refusal>) -> u32
+    ensures { result ≡ setting_word a }
+{
+    answer_word(a.and(Ok(0)))
 }
 
-// ---- answers as words
-
-pub fn answer_word(a: Answer) -> u32
-    ensures { result ≡ answer_word a }
+// What a frame or a tick left, the answer as a word.
+// Kept (4): no `From`, since `Lent` is a type of another crate's (`Stepped`).
+pub fn fed_word(r: Fed) -> Lent
+    ensures { result ≡ lent_fed r }
 {
-    match a {
-        Answer::Findings(n) => n,
-        Answer::Refused(w) => refusal_word(w),
+    Stepped {
+        table: r.table,
+        answer: answer_word(r.answer),
     }
 }
 
-fn setting_word(a: Setting) -> u32
-    ensures { result ≡ setting_word a }
+// What a set-up or a release left.
+// Kept (4): as `fed_word`.
+fn set_word(r: Settled) -> Lent
+    ensures { result ≡ lent_settled r }
 {
-    match a {
-        Setting::Done => 0,
-        Setting::Refused(w) => refusal_word(w),
+    Stepped {
+        table: r.table,
+        answer: setting_word(r.answer),
     }
 }
 
 // ---- by value, with words
 
 // The empty table; what the lent one was is forgotten.
+#[tactic(auto, unfolding(crate::specs::Lent::start_of))]
 pub fn started(t: Table) -> Lent
     ensures { result ≡ start_of t }
 {
-    let u = watch::empty();
-    Lent {
-        table: u,
+    Stepped {
+        table: watch::empty(),
         answer: 0,
     }
 }
 
-pub fn settled(
-    t: Table,
-    post: u32,
-    channel: u32,
-    voltage: u32,
-    charge: u32,
-    discharge: u32,
-    silence: u32,
-    sensor: u32,
-    interface: u32,
-) -> Lent
-    ensures { result ≡ set_up_word t post channel voltage charge discharge silence sensor interface }
+#[tactic(auto, unfolding(crate::specs::Lent::set_up_word))]
+pub fn settled(t: Table, post: u32, channel: u32, limits: PlainLimits) -> Lent
+    ensures { result ≡ set_up_word t post channel limits }
 {
-    let limits = PlainLimits {
-        voltage,
-        charge,
-        discharge,
-        silence,
-        sensor,
-        interface,
-    };
-    let r = watch::set_up_plain(t, post, channel, limits);
-    let a = r.answer;
-    let u = r.table;
-    Lent {
-        table: u,
-        answer: setting_word(a),
-    }
+    set_word(watch::set_up_plain(t, post, channel, limits))
 }
 
+#[tactic(auto, unfolding(crate::specs::Lent::release_word))]
 pub fn released(t: Table, post: u32) -> Lent
     ensures { result ≡ release_word t post }
 {
-    let r = watch::release(t, post);
-    let a = r.answer;
-    let u = r.table;
-    Lent {
-        table: u,
-        answer: setting_word(a),
-    }
+    set_word(watch::release(t, post))
 }

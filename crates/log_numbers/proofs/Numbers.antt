@@ -10,9 +10,9 @@ use lib.ListN.{length, take, drop, get_or, length-drop}
 use lib.Seq.{drop-append_seam}
 use lib.Dec.{ltb, eqb}
 use borrow.Author.Tests.{ltb-true, ltb-false, lt-ltb, le-ltb, ne_eqb, eqb-false}
-use Rattle.log_numbers.specs.declared.Num.{Num}
-use Rattle.log_numbers.specs.declared.Num.TheVariants.{Value, Cut, Ill}
-use Rattle.log_numbers.specs.Number.{groups, number_bytes, size_of, more_of, read_groups, read_number, top}
+use Rattle.std.specs.Prelude.{Ok, Err}
+use Rattle.log_numbers.specs.declared.NumberError.TheVariants.{Cut, Ill}
+use Rattle.log_numbers.specs.Number.{Num, groups, number_bytes, size_of, more_of, read_groups, read_number, top}
 
 -- the low seven bits of a group whose high bit is set
 low_of : (x : ℕ) → x < 128 → (x + 128) % 128 ≡ x
@@ -20,9 +20,9 @@ low_of x h = omega arith
 
 -- one group, then those of n / 128
 written_more : (k n : ℕ) (r : List ℕ) (t : Bool) → ltb n 128 ≡ t
-    → (128 ≤ n → read_groups k (groups k (n / 128) ++ r) ≡ Value (n / 128) (length (groups k (n / 128))))
+    → (128 ≤ n → read_groups k (groups k (n / 128) ++ r) ≡ Ok (n / 128, length (groups k (n / 128))))
     → read_groups (suc k) (cond t (n ∷ []) ((n % 128 + 128) ∷ groups k (n / 128)) ++ r)
-    ≡ Value n (length (cond t (n ∷ []) ((n % 128 + 128) ∷ groups k (n / 128))))
+    ≡ Ok (n, length (cond t (n ∷ []) ((n % 128 + 128) ∷ groups k (n / 128))))
 unfolding read_groups
 written_more k n r true e ih = rw e
 written_more k n r false e ih =
@@ -34,15 +34,15 @@ written_more k n r false e ih =
     rw (high, ih big, some, low, all, add-one)
 
 -- what is written reads back, followed by anything
-pub written : (k n : ℕ) (r : List ℕ) → n < top k → read_groups k (groups k n ++ r) ≡ Value n (length (groups k n))
+pub written : (k n : ℕ) (r : List ℕ) → n < top k → read_groups k (groups k n ++ r) ≡ Ok (n, length (groups k n))
 unfolding groups read_groups top
 written zero n r h = rw (lt-ltb n 16 h)
 written (suc k) n r h = written_more k n r (ltb n 128) refl (λ big. written k (n / 128) r (omega arith))
 
 cut_more : (k n i : ℕ) (t : Bool) → ltb n 128 ≡ t
-    → ((j : ℕ) → j < length (groups k (n / 128)) → read_groups k (take j (groups k (n / 128))) ≡ Cut)
+    → ((j : ℕ) → j < length (groups k (n / 128)) → read_groups k (take j (groups k (n / 128))) ≡ Err Cut)
     → i < length (cond t (n ∷ []) ((n % 128 + 128) ∷ groups k (n / 128)))
-    → read_groups (suc k) (take i (cond t (n ∷ []) ((n % 128 + 128) ∷ groups k (n / 128)))) ≡ Cut
+    → read_groups (suc k) (take i (cond t (n ∷ []) ((n % 128 + 128) ∷ groups k (n / 128)))) ≡ Err Cut
 unfolding read_groups
 cut_more k n zero true e ih h = refl
 cut_more k n (suc i) true e ih h = absurd (omega arith)
@@ -52,7 +52,7 @@ cut_more k n (suc i) false e ih h =
     rw (high, ih i (omega arith))
 
 -- a proper prefix of a written number reads as cut
-pub cut_short : (k n i : ℕ) → i < length (groups k n) → read_groups k (take i (groups k n)) ≡ Cut
+pub cut_short : (k n i : ℕ) → i < length (groups k n) → read_groups k (take i (groups k n)) ≡ Err Cut
 unfolding groups read_groups
 cut_short zero n zero h = refl
 cut_short zero n (suc i) h = absurd (omega arith)
@@ -60,20 +60,18 @@ cut_short (suc k) n i h = cut_more k n i (ltb n 128) refl (cut_short k (n / 128)
 
 -- ---- what was read is small
 abbrev pub Under : ℕ → ℕ → Num → Type 0
-Under m l (Value n j) = (n < m) × (j ≤ l)
-Under m l Cut = Unit {0}
-Under m l Ill = Unit {0}
+Under m l (Ok (n, j)) = (n < m) × (j ≤ l)
+Under m l (Err e) = Unit {0}
 
 under_cond : (t : Bool) (m l : ℕ) (x y : Num) → (t ≡ true → Under m l x) → (t ≡ false → Under m l y) → Under m l (cond t x y)
 under_cond true m l x y p q = p refl
 under_cond false m l x y p q = q refl
 
 under_more : (b m l : ℕ) (r : Num) → Under m l r → Under (m * 128) (suc l) (more_of b r)
-under_more b m l (Value x y) h =
-    under_cond (eqb x 0) (m * 128) (suc l) Ill (Value (x * 128 + b % 128) (y + 1)) (λ e. tt)
+under_more b m l (Ok (x, y)) h =
+    under_cond (eqb x 0) (m * 128) (suc l) (Err Ill) (Ok (x * 128 + b % 128, y + 1)) (λ e. tt)
     (λ e. (omega (arith, mod-lt b (zero-lt-suc 127), h.0), omega (arith, h.1)))
-under_more b m l Cut h = tt
-under_more b m l Ill h = tt
+under_more b m l (Err e) h = tt
 
 pub top_some : (k : ℕ) → 16 ≤ top k
 unfolding top
@@ -84,17 +82,17 @@ top_some (suc k) = omega (arith, top_some k)
 pub prefix_free : (a b : ℕ) (x y : List ℕ) → a < 4294967296 → b < 4294967296 → number_bytes a ++ x ≡ number_bytes b ++ y → (a ≡ b) × (x ≡ y)
 unfolding top
 prefix_free a b x y ha hb e =
-    let ra : read_groups 4 (groups 4 a ++ x) ≡ Value a (length (groups 4 a)) = written 4 a x ha in
-    let rb : read_groups 4 (groups 4 b ++ y) ≡ Value b (length (groups 4 b)) = written 4 b y hb in
-    let ab : a ≡ b = (cc (ap (read_groups 4) e)) in
-    let lab : length (groups 4 a) ≡ length (groups 4 b) = (cc (ap (read_groups 4) e)) in
+    let ra : read_groups 4 (groups 4 a ++ x) ≡ Ok (a, length (groups 4 a)) = written 4 a x ha in
+    let rb : read_groups 4 (groups 4 b ++ y) ≡ Ok (b, length (groups 4 b)) = written 4 b y hb in
+    let same : (a, length (groups 4 a)) ≡ (b, length (groups 4 b)) = (cc (ap (read_groups 4) e)) in
+    let ab : a ≡ b = ap (λ (p : ℕ × ℕ). p.0) same in
+    let lab : length (groups 4 a) ≡ length (groups 4 b) = ap (λ (p : ℕ × ℕ). p.1) same in
     (ab, sym (drop-append_seam (groups 4 a) x) ∙ ap (drop (length (groups 4 a))) e ∙ ap (λ (n : ℕ). drop n (groups 4 b ++ y)) lab ∙ drop-append_seam (groups 4 b) y)
 
 -- ---- whatever reads as a number is what is written for it: no two forms of one number
 abbrev pub Sound : ℕ → List ℕ → Num → Type 0
-Sound k s (Value n j) = groups k n ++ drop j s ≡ s
-Sound k s Cut = Unit {0}
-Sound k s Ill = Unit {0}
+Sound k s (Ok (n, j)) = groups k n ++ drop j s ≡ s
+Sound k s (Err e) = Unit {0}
 
 sound_cond : (t : Bool) (k : ℕ) (s : List ℕ) (x y : Num) → (t ≡ true → Sound k s x) → (t ≡ false → Sound k s y) → Sound k s (cond t x y)
 sound_cond true k s x y p q = p refl
@@ -102,24 +100,23 @@ sound_cond false k s x y p q = q refl
 
 sound_more : (k b : ℕ) (bs : List ℕ) (r : Num) → 128 ≤ b → b < 256 → Sound k bs r → Sound (suc k) (b ∷ bs) (more_of b r)
 unfolding groups
-sound_more k b bs (Value x y) h g ih =
-    sound_cond (eqb x 0) (suc k) (b ∷ bs) Ill (Value (x * 128 + b % 128) (y + 1)) (λ e. tt)
+sound_more k b bs (Ok (x, y)) h g ih =
+    sound_cond (eqb x 0) (suc k) (b ∷ bs) (Err Ill) (Ok (x * 128 + b % 128, y + 1)) (λ e. tt)
     (λ e.
     let some : x ≡ 0 → ⊥ = eqb-false x 0 e in
     let big : ltb (x * 128 + b % 128) 128 ≡ false = le-ltb (x * 128 + b % 128) 128 (omega arith) in
     let low : (x * 128 + b % 128) % 128 + 128 ≡ b = omega arith in
     let rest : (x * 128 + b % 128) / 128 ≡ x = omega arith in
     rw (big, low, rest, add-one y) (ap (λ (l : List ℕ). b ∷ l) ih))
-sound_more k b bs Cut h g ih = tt
-sound_more k b bs Ill h g ih = tt
+sound_more k b bs (Err e) h g ih = tt
 
 pub sound : (k : ℕ) (s : List ℕ) → ((i : ℕ) → get_or s i 0 < 256) → Sound k s (read_groups k s)
 unfolding read_groups groups
 sound zero [] f = tt
 sound (suc k) [] f = tt
-sound zero (b ∷ bs) f = sound_cond (ltb b 16) zero (b ∷ bs) (Value b 1) Ill (λ e. refl) (λ e. tt)
+sound zero (b ∷ bs) f = sound_cond (ltb b 16) zero (b ∷ bs) (Ok (b, 1)) (Err Ill) (λ e. refl) (λ e. tt)
 sound (suc k) (b ∷ bs) f =
-    sound_cond (ltb b 128) (suc k) (b ∷ bs) (Value b 1) (more_of b (read_groups k bs)) (λ e. rw e)
+    sound_cond (ltb b 128) (suc k) (b ∷ bs) (Ok (b, 1)) (more_of b (read_groups k bs)) (λ e. rw e)
     (λ e. sound_more k b bs (read_groups k bs) (ltb-false b 128 e) (f 0) (sound k bs (λ i. f (suc i))))
 
 -- ---- one group more, with no count of groups in sight
@@ -155,37 +152,35 @@ size_le (suc k) n = size-pick (ltb n 128) (size_le k (n / 128)) where
 
 -- ---- a number takes a byte at least
 abbrev pub Some : Num → Type 0
-Some (Value n j) = 0 < j
-Some Cut = Unit {0}
-Some Ill = Unit {0}
+Some (Ok (n, j)) = 0 < j
+Some (Err e) = Unit {0}
 
 some_cond : (t : Bool) (x y : Num) → Some x → Some y → Some (cond t x y)
 some_cond true x y p q = p
 some_cond false x y p q = q
 
 some_more : (b : ℕ) (r : Num) → Some (more_of b r)
-some_more b (Value n j) = some_cond (eqb n 0) Ill (Value (n * 128 + b % 128) (j + 1)) tt (omega arith)
-some_more b Cut = tt
-some_more b Ill = tt
+some_more b (Ok (n, j)) = some_cond (eqb n 0) (Err Ill) (Ok (n * 128 + b % 128, j + 1)) tt (omega arith)
+some_more b (Err e) = tt
 
 pub some : (k : ℕ) (s : List ℕ) → Some (read_groups k s)
 unfolding read_groups
 some zero [] = tt
 some (suc k) [] = tt
-some zero (b ∷ bs) = some_cond (ltb b 16) (Value b 1) Ill (omega arith) tt
-some (suc k) (b ∷ bs) = some_cond (ltb b 128) (Value b 1) (more_of b (read_groups k bs)) (omega arith) (some_more b (read_groups k bs))
+some zero (b ∷ bs) = some_cond (ltb b 16) (Ok (b, 1)) (Err Ill) (omega arith) tt
+some (suc k) (b ∷ bs) = some_cond (ltb b 128) (Ok (b, 1)) (more_of b (read_groups k bs)) (omega arith) (some_more b (read_groups k bs))
 
 -- a number that was read lies within the bytes
 pub within : (k : ℕ) (s : List ℕ) → Under (top k) (length s) (read_groups k s)
 unfolding read_groups top
 within zero [] = tt
 within (suc k) [] = tt
-within zero (b ∷ bs) = under_cond (ltb b 16) 16 (length (b ∷ bs)) (Value b 1) Ill (λ e. (ltb-true b 16 e, omega arith)) (λ e. tt)
+within zero (b ∷ bs) = under_cond (ltb b 16) 16 (length (b ∷ bs)) (Ok (b, 1)) (Err Ill) (λ e. (ltb-true b 16 e, omega arith)) (λ e. tt)
 within (suc k) (b ∷ bs) =
-    under_cond (ltb b 128) (top k * 128) (length (b ∷ bs)) (Value b 1) (more_of b (read_groups k bs))
+    under_cond (ltb b 128) (top k * 128) (length (b ∷ bs)) (Ok (b, 1)) (more_of b (read_groups k bs))
     (λ e. (omega (arith, ltb-true b 128 e, top_some k), omega arith)) (λ e. under_more b (top k) (length bs) (read_groups k bs) (within k bs))
 
-pub within_at : (s : List ℕ) (i n j : ℕ) (r : Num) → r ≡ read_number (drop i s) → r ≡ Value n j → i ≤ length s → i + j ≤ length s
+pub within_at : (s : List ℕ) (i n j : ℕ) (r : Num) → r ≡ read_number (drop i s) → r ≡ Ok (n, j) → i ≤ length s → i + j ≤ length s
 within_at s i n j r p e h =
-    let u : Under (top 4) (length (drop i s)) (Value n j) = subst (Under (top 4) (length (drop i s))) (sym p ∙ e) (within 4 (drop i s)) in
+    let u : Under (top 4) (length (drop i s)) (Ok (n, j)) = subst (Under (top 4) (length (drop i s))) (sym p ∙ e) (within 4 (drop i s)) in
     omega (arith, u.1, length-drop i s)

@@ -7,7 +7,7 @@ use native.Mathlib.Omega.{arith}
 use lib.Dec.{ltb}
 use lib.ListN.{get_or}
 use borrow.Author.Tests.{ltb-true}
-use Rattle.log_numbers.specs.Number.{groups, number_bytes, read_groups, read_number}
+use Rattle.log_numbers.specs.Number.{groups, number_bytes, read_groups}
 use Rattle.log_numbers.proofs.Numbers.{sound, prefix_free}
 
 -- a list's bytes, by computing

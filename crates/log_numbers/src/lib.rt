@@ -1,76 +1,71 @@
 // Numbers of a night log (02, Req 01): "numbers in groups of seven bits, low group first, high bit set on all but the last, shortest form only, at
 // most five groups and 32 bits". For log_read and log_write; any bytes may be read.
+#![tactic(auto)]
+
 ghost use Rattle.std.specs.Prelude.{◌≡◌, cond, ◌+◌, ◌*◌, ◌≤◌, ◌<◌, length, drop, get_or, eqb};
-ghost use Rattle.log_numbers.specs.declared.Num.TheVariants.{Value, Ill};
+ghost use Rattle.log_numbers.specs.declared.NumberError.TheVariants.{Ill};
 ghost use Rattle.log_numbers.specs.Number.{InWord, read_number};
 
-// What reading a number finds: its value and how many bytes it takes; or the bytes end in it; or it is ill-formed.
+// Why no number is read: the bytes end in it, or it is ill-formed.
 #[derive(Clone, Copy)]
-pub enum Num {
-    Value { n: u32, size: usize },
+pub enum NumberError {
     Cut,
     Ill,
 }
 
-// One more than the largest last group behind i others: "at most five groups and 32 bits", so the fifth holds four bits.
-fn group_bound(i: usize) -> u8
-    ensures { result ≡ cond (eqb i 4) 16 128 }
-{
-    if i == 4 { 16 } else { 128 }
-}
-
 // The last group b, behind i others that hold n. "Shortest form only": it is not 0.
-fn last_group(n: u32, weight: u32, i: usize, b: u8) -> Num
+fn last_group(n: u32, weight: u32, i: usize, b: u8) -> Result<(u32, usize), NumberError>
     requires { InWord (n + b * weight) × (i ≤ 4) }
-    ensures { result ≡ cond (eqb b 0) Ill (Value (n + b * weight) (i + 1)) }
+    ensures { result ≡ cond (eqb b 0) (Err Ill) (Ok (n + b * weight, i + 1)) }
 {
     if b == 0 {
-        return Num::Ill;
+        return Err(NumberError::Ill);
     }
-    Num::Value {
-        n: n + (b as u32) * weight,
-        size: i + 1,
-    }
+    Ok((n + (b as u32) * weight, i + 1))
 }
 
-// A number of several groups, from the low one up: the first i hold n, and the next weighs 128 to the i. (By recursion each group would be a call.)
-fn groups_at(s: &[u8], at: usize) -> Num
-    requires { (at < length s.now) × (128 ≤ get_or s.now at 0) }
-    ensures { result ≡ read_number (drop at s.now) }
+// A number of several groups, from the low one up: the first i hold n, and the next weighs 128 to the i.
+// Kept (1): here and in `number_at` tried with `get(..)` and let-else: it proves, and a batch is fed a twentieth more slowly.
+#[inline(always)]
+fn several_groups(s: &[u8]) -> Result<(u32, usize), NumberError>
+    requires { (0 < length s.now) × (128 ≤ get_or s.now 0 0) }
+    ensures { result ≡ read_number s.now }
 {
-    let mut n = (s[at] - 128) as u32;
+    let mut n = (s[0] - 128) as u32;
     let mut weight: u32 = 128;
-    let mut i: usize = 1;
-    loop {
-        if s.len() - at <= i {
-            return Num::Cut;
+    for i in 1..4 {
+        if s.len() <= i {
+            return Err(NumberError::Cut);
         }
-        let b = s[at + i];
-        if b < group_bound(i) {
+        let b = s[i];
+        if b < 128 {
             return last_group(n, weight, i, b);
         }
-        if i == 4 {
-            return Num::Ill;
-        }
-        n = n + ((b - 128) as u32) * weight;
-        weight = weight * 128;
-        i = i + 1;
+        n += ((b - 128) as u32) * weight;
+        weight *= 128;
     }
+    if s.len() <= 4 {
+        return Err(NumberError::Cut);
+    }
+    // "At most five groups and 32 bits", so the fifth holds four bits.
+    let b = s[4];
+    if 16 <= b {
+        return Err(NumberError::Ill);
+    }
+    last_group(n, weight, 4, b)
 }
 
-// The number at a place. Most have one group.
-pub fn number_at(s: &[u8], at: usize) -> Num
+// The number at a place, and how many bytes it takes. Most have one group. Built in, as `several_groups` is: by calls a batch is slower.
+#[inline(always)]
+pub fn number_at(s: &[u8], at: usize) -> Result<(u32, usize), NumberError>
     ensures { result ≡ read_number (drop at s.now) }
 {
     if s.len() <= at {
-        return Num::Cut;
+        return Err(NumberError::Cut);
     }
     let b = s[at];
     if b < 128 {
-        return Num::Value {
-            n: b as u32,
-            size: 1,
-        };
+        return Ok((b as u32, 1));
     }
-    groups_at(s, at)
+    several_groups(&s[at..])
 }

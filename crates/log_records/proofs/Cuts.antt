@@ -10,54 +10,53 @@ use lib.ListN.{length, drop, length-drop}
 use lib.Seq.{length-take-le}
 use lib.Dec.{ltb, leb, eqb}
 use borrow.Author.Tests.{ltb-true, ltb-false, leb-true, leb-false, eqb-false}
-use Rattle.log_numbers.specs.declared.Num.{Num}
-use Rattle.log_numbers.specs.declared.Num.TheVariants as num
-use Rattle.log_records.specs.declared.Taken.{Taken}
-use Rattle.log_records.specs.declared.Taken.TheVariants.{Whole, Cut, Bad}
+use Rattle.std.specs.Prelude.{Ok, Err}
+use Rattle.log_numbers.specs.declared.NumberError.TheVariants as num
+use Rattle.log_records.specs.declared.RecordError.TheVariants.{Cut, Bad}
 use Rattle.log_records.specs.declared.Found.{Found}
 use Rattle.log_records.specs.declared.Found.TheVariants as found
-use Rattle.log_numbers.specs.Number.{more_of, read_groups, read_number}
+use Rattle.log_numbers.specs.Number.{Num, more_of, read_groups, read_number}
 use Rattle.log_records.specs.Record.{identifiers, longest_record}
-use Rattle.log_records.specs.Reading.{on_number, part, length_part, identifier_part, channel_part, time_part, record_at, placed, found_at}
+use Rattle.log_records.specs.Reading.{Taken, on_number, part, length_part, identifier_part, channel_part, time_part, record_at, placed, found_at}
 use Rattle.log_records.specs.Pieces.{piece_of, is_firm}
 use Rattle.log_records.proofs.Wholes.{by_test}
 
 -- ---- a number among l bytes, of which k more groups may follow the first
 abbrev Few : ℕ → ℕ → Num → Type 0
-Few k l (num.Value n j) = (j ≤ suc k) × (n < 128 → j ≡ 1)
-Few k l num.Cut = l ≤ k
-Few k l num.Ill = Unit {0}
+Few k l (Ok (n, j)) = (j ≤ suc k) × (n < 128 → j ≡ 1)
+Few k l (Err num.Cut) = l ≤ k
+Few k l (Err num.Ill) = Unit {0}
 
 few_test : (k l : ℕ) (t : Bool) (x y : Num) → Few k l x → (t ≡ false → Few k l y) → Few k l (cond t x y)
 few_test k l true x y p q = p
 few_test k l false x y p q = q refl
 
 few_more : (k l b : ℕ) (x : Num) → Few k l x → Few (suc k) (suc l) (more_of b x)
-few_more k l b (num.Value n j) h =
-    few_test (suc k) (suc l) (eqb n 0) num.Ill (num.Value (n * 128 + b % 128) (j + 1)) tt
+few_more k l b (Ok (n, j)) h =
+    few_test (suc k) (suc l) (eqb n 0) (Err num.Ill) (Ok (n * 128 + b % 128, j + 1)) tt
     (λ e. let some : n ≡ 0 → ⊥ = eqb-false n 0 e in (omega (arith, h.0), λ lt. absurd (omega arith)))
-few_more k l b num.Cut h = omega arith
-few_more k l b num.Ill h = tt
+few_more k l b (Err num.Cut) h = omega arith
+few_more k l b (Err num.Ill) h = tt
 
 few : (k : ℕ) (s : List ℕ) → Few k (length s) (read_groups k s)
 unfolding read_groups
 few zero [] = omega arith
 few (suc k) [] = omega arith
-few zero (b ∷ bs) = few_test zero (length (b ∷ bs)) (ltb b 16) (num.Value b 1) num.Ill (omega arith, λ lt. refl) (λ e. tt)
-few (suc k) (b ∷ bs) = few_test (suc k) (length (b ∷ bs)) (ltb b 128) (num.Value b 1) (more_of b (read_groups k bs)) (omega arith, λ lt. refl) (λ e. few_more k (length bs) b (read_groups k bs) (few k bs))
+few zero (b ∷ bs) = few_test zero (length (b ∷ bs)) (ltb b 16) (Ok (b, 1)) (Err num.Ill) (omega arith, λ lt. refl) (λ e. tt)
+few (suc k) (b ∷ bs) = few_test (suc k) (length (b ∷ bs)) (ltb b 128) (Ok (b, 1)) (more_of b (read_groups k bs)) (omega arith, λ lt. refl) (λ e. few_more k (length bs) b (read_groups k bs) (few k bs))
 
 -- ---- a cut record ends before byte m of the log s
 abbrev Lacks : List ℕ → ℕ → Taken → Type 0
-Lacks s m (Whole e) = Unit {0}
-Lacks s m Cut = length s < m
-Lacks s m (Bad w) = Unit {0}
+Lacks s m (Ok e) = Unit {0}
+Lacks s m (Err Cut) = length s < m
+Lacks s m (Err (Bad w)) = Unit {0}
 
 module _ (s : List ℕ) (m : ℕ) where
   lacks-number : (i : ℕ) (go : ℕ → ℕ → Taken) (x : Num) → i + 4 < m → Few 4 (length (drop i s)) x → ((n j : ℕ) → j ≤ i + 5 → (n < 128 → j ≡ i + 1) → Lacks s m (go n j))
       → Lacks s m (on_number i go x)
-  lacks-number i go (num.Value n j) le h f = f n (i + j) (omega (arith, h.0)) (λ lt. omega (arith, h.1 lt))
-  lacks-number i go num.Cut le h f = omega (arith, length-drop i s)
-  lacks-number i go num.Ill le h f = tt
+  lacks-number i go (Ok (n, j)) le h f = f n (i + j) (omega (arith, h.0)) (λ lt. omega (arith, h.1 lt))
+  lacks-number i go (Err num.Cut) le h f = omega (arith, length-drop i s)
+  lacks-number i go (Err num.Ill) le h f = tt
 
   lacks-part : (i : ℕ) (go : ℕ → ℕ → Taken) → i + 4 < m → ((n j : ℕ) → j ≤ i + 5 → (n < 128 → j ≡ i + 1) → Lacks s m (go n j)) → Lacks s m (part s i go)
   lacks-part i go le f = lacks-number i go (read_number (drop i s)) le (few 4 (drop i s)) f
@@ -105,9 +104,9 @@ lies : (s : List ℕ) (at : ℕ) → Lies s (at + longest_record) (found_at s at
 lies s at = go (leb (length s) at) refl
   where
     by : (x : Taken) → Lacks s (at + longest_record) x → Lies s (at + longest_record) (placed at x)
-    by (Whole e) h = inl refl
-    by Cut h = inr h
-    by (Bad w) h = inl refl
+    by (Ok e) h = inl refl
+    by (Err Cut) h = inr h
+    by (Err (Bad w)) h = inl refl
 
     go : (t : Bool) → leb (length s) at ≡ t → Lies s (at + longest_record) (cond t found.End (placed at (record_at s at)))
     go true e = inr (omega (arith, leb-true (length s) at e))

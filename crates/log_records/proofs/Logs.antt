@@ -9,13 +9,11 @@ use lib.ListN.{length, take, drop, length-append, length-drop}
 use lib.Seq.{drop-append_seam, drop-drop, take-append-le, take-append-add, take-nil, take_all, take-length, length-take-le}
 use lib.Dec.{leb, eqb}
 use borrow.Author.Tests.{leb-true, leb-false, le-leb, lt-leb, ne_eqb}
-use Rattle.log_records.specs.declared.Entry.{Entry}
-use Rattle.log_records.specs.declared.Taken.{Taken}
-use Rattle.log_records.specs.declared.Taken.TheVariants.{Whole, Cut, Bad}
-use Rattle.log_records.specs.declared.Found.{Found}
+use Rattle.std.specs.Prelude.{Ok, Err}
+use Rattle.log_records.specs.declared.RecordError.TheVariants.{Cut, Bad}
 use Rattle.log_records.specs.declared.Found.TheVariants as found
 use Rattle.log_records.specs.Record.{Rec, Loggable, AllLoggable, record_bytes, log_bytes}
-use Rattle.log_records.specs.Reading.{rec_of, placed, found_at, record_at, Log, ends, then, clean, piece, refused, onward, read_from, log_of, whole, wholly, records_in, end_in}
+use Rattle.log_records.specs.Reading.{Taken, rec_of, placed, found_at, record_at, Log, ends, then, clean, piece, onward, read_from, log_of, whole, wholly, records_in, end_in}
 use Rattle.log_records.proofs.Records.{entry_at, record_reads, record_of_lem, next_is, record_cut, record_some}
 use Rattle.log_records.proofs.Wholes.{Bytes, Exact, exact}
 
@@ -47,7 +45,7 @@ module _ (x : Rec) (s : List ℕ) (at : ℕ) (r : List ℕ) (h : Loggable x) (e 
   -- a whole record in front
   step : (k : ℕ) → read_from (suc k) s at ≡ then x (read_from k s (at + length (record_bytes x)))
   step k =
-      turn_some k s at (Whole (entry_at at x)) (within s at _ e (omega (arith, length-append (record_bytes x) r, record_some x))) (record_reads x s at r h e)
+      turn_some k s at (Ok (entry_at at x)) (within s at _ e (omega (arith, length-append (record_bytes x) r, record_some x))) (record_reads x s at r h e)
       ∙ ap₂ (λ (y : Rec) (n : ℕ). then y (read_from k s n)) (record_of_lem x s at r h e) (next_is x at)
 
   rest : drop (at + length (record_bytes x)) s ≡ r
@@ -59,7 +57,7 @@ left_over : (x : Rec) (s : List ℕ) (at i k : ℕ) → Loggable x → i < lengt
 left_over x s at zero k h lt le e = turn_end k s at (past s at e)
 left_over x s at (suc i) zero h lt le e = absurd (omega arith)
 left_over x s at (suc i) (suc k) h lt le e =
-    turn_some k s at Cut (within s at _ e (omega (arith, length-take-le (suc i) (record_bytes x) (omega arith)))) (record_cut x s at (suc i) h lt e)
+    turn_some k s at (Err Cut) (within s at _ e (omega (arith, length-take-le (suc i) (record_bytes x) (omega arith)))) (record_cut x s at (suc i) h lt e)
     ∙ ap (λ (b : Bool). ends (cond b clean (piece at))) (sym (ne_eqb (suc i) 0 (λ z. omega arith)))
 
 cut_turn : (x : Rec) (rs : List Rec) (s : List ℕ) (at i k : ℕ) (t : Bool) → leb (length (record_bytes x)) i ≡ t → Loggable x → i ≤ k
@@ -125,12 +123,12 @@ told_end s at h = (tt, take-length s ∙ sym (take_all at s h) ∙ told_nothing 
 told_turn : (s : List ℕ) (at : ℕ) (go : ℕ → Log) (t : Taken) → Bytes s → Exact s at t
     → ((n : ℕ) → at < n → n ≤ length s → Told s n (go n)) → Told s at (onward s go (placed at t))
 unfolding records_in end_in log_bytes
-told_turn s at go (Whole e) b x f =
+told_turn s at go (Ok e) b x f =
     let k = x.2 b in
     let g = f e.next x.0 x.1 in
     ((k.0, g.0), g.1 ∙ ap (λ (l : List ℕ). l ++ log_bytes (records_in (go e.next))) k.1 ∙ append_assoc (take at s) (record_bytes (rec_of s e)) _)
-told_turn s at go Cut b x f = (tt, told_nothing s at)
-told_turn s at go (Bad w) b x f = (tt, told_nothing s at)
+told_turn s at go (Err Cut) b x f = (tt, told_nothing s at)
+told_turn s at go (Err (Bad w)) b x f = (tt, told_nothing s at)
 
 told_by_lem : (k : ℕ) (s : List ℕ) (at : ℕ) (t : Bool) → leb (length s) at ≡ t → Bytes s → at ≤ length s
     → ((n : ℕ) → at < n → n ≤ length s → Told s n (read_from k s n)) → Told s at (read_from (suc k) s at)

@@ -1,19 +1,20 @@
 -- The laws of a log on one that was written: a frame and a tick, cut in the tick, in pieces, and with a byte too many.
-use mathlib.Core.Path.{◌≡◌, refl, ◌∙◌}
+use mathlib.Core.Path.{◌≡◌, refl}
 use mathlib.Core.Bool.{true}
-use mathlib.Core.List.{List, [], ◌∷◌, ◌++◌}
+use mathlib.Core.List.{List, [], ◌∷◌}
 use mathlib.Core.Logic.{◌⊎◌, inl, inr}
-use Prim.Native.Nat.{ℕ, ◌≤◌}
+use Prim.Native.Nat.{◌≤◌}
 use native.Mathlib.Omega.{arith}
 use lib.ListN.{length, take}
+use Rattle.std.specs.Prelude.{Err}
 use Rattle.refusals.specs.declared.Refusal.TheVariants.{LogChannel}
-use Rattle.log_records.specs.declared.Taken.TheVariants.{Bad}
+use Rattle.log_records.specs.declared.RecordError.TheVariants.{Bad}
 use Rattle.log_records.specs.declared.Found.TheVariants as found
 use Rattle.log_numbers.specs.Number.{groups, read_groups}
 use Rattle.log_numbers.proofs.Worked.{each_byte}
 use Rattle.log_records.specs.Record.{Rec, tick, frame, AllLoggable, record_bytes, log_bytes}
 use Rattle.log_records.specs.Reading.{tick_entry, rec_of, length_part, identifier_part, channel_part, time_part, record_at, found_at, log_of, ends, then, clean, piece, whole, wholly}
-use Rattle.log_records.specs.Pieces.{piece_of, moved_entry, is_firm}
+use Rattle.log_records.specs.Pieces.{piece_of, is_firm}
 use Rattle.log_records.specs.Malformed.{Malformed}
 use Rattle.log_records.proofs.Logs.{log_cut, log_reads, logs_differ}
 use Rattle.log_records.proofs.Bads.{malformed_refused, refused_malformed}
@@ -41,7 +42,7 @@ unfolding wholly log_bytes record_bytes groups
 night_seam = log_cut night 8 loggable (omega arith)
 
 -- time 0, then channel 32, and nothing behind it
-pub night_bad : record_at (0 ∷ 32 ∷ []) 0 ≡ Bad LogChannel
+pub night_bad : record_at (0 ∷ 32 ∷ []) 0 ≡ Err (Bad LogChannel)
 unfolding Malformed groups
 night_bad = malformed_refused (0 ∷ 32 ∷ []) LogChannel 0 (inr (0, 32 ∷ [], omega arith, refl, inr (32, [], omega arith, refl, inl (omega arith, refl))))
 

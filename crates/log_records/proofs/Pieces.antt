@@ -10,27 +10,26 @@ use lib.ListN.{length, take, drop, length-append, length-drop, drop_of_length-le
 use lib.Seq.{drop-drop, drop-append-le, take-append-le}
 use lib.Dec.{ltb, leb, eqb}
 use borrow.Author.Tests.{ltb-true, ltb-false, lt-ltb, le-ltb, leb-true, leb-false, le-leb, lt-leb}
-use Rattle.log_numbers.specs.declared.Num.{Num}
-use Rattle.log_numbers.specs.declared.Num.TheVariants as num
+use Rattle.std.specs.Prelude.{Ok, Err}
+use Rattle.log_numbers.specs.declared.NumberError.TheVariants as num
 use Rattle.log_records.specs.declared.Entry.{Entry}
-use Rattle.log_records.specs.declared.Taken.{Taken}
-use Rattle.log_records.specs.declared.Taken.TheVariants.{Whole, Cut, Bad}
+use Rattle.log_records.specs.declared.RecordError.TheVariants.{Cut, Bad}
 use Rattle.log_records.specs.declared.Found.{Found}
 use Rattle.log_records.specs.declared.Found.TheVariants as found
-use Rattle.log_numbers.specs.Number.{more_of, read_groups, read_number, top}
+use Rattle.log_numbers.specs.Number.{Num, more_of, read_groups, read_number, top}
 use Rattle.log_records.specs.Record.{identifiers, frame}
-use Rattle.log_records.specs.Reading.{on_number, part, frame_entry, rec_of, length_part, identifier_part, channel_part, time_part, record_at, placed, found_at}
+use Rattle.log_records.specs.Reading.{Taken, on_number, part, frame_entry, rec_of, length_part, identifier_part, channel_part, time_part, record_at, placed, found_at}
 use Rattle.log_records.specs.Pieces.{piece_of, moved_entry, moved, is_firm}
 use Rattle.log_numbers.proofs.Numbers.{Under, within}
 
 -- ---- a number: more bytes change nothing but a cut
-steady_by : (k b : ℕ) (bs r : List ℕ) (t : Bool) → (read_groups k bs ≡ num.Cut) ⊎ (read_groups k (bs ++ r) ≡ read_groups k bs)
-    → (cond t (num.Value b 1) (more_of b (read_groups k bs)) ≡ num.Cut)
-    ⊎ (cond t (num.Value b 1) (more_of b (read_groups k (bs ++ r))) ≡ cond t (num.Value b 1) (more_of b (read_groups k bs)))
+steady_by : (k b : ℕ) (bs r : List ℕ) (t : Bool) → (read_groups k bs ≡ Err num.Cut) ⊎ (read_groups k (bs ++ r) ≡ read_groups k bs)
+    → (cond t (Ok (b, 1)) (more_of b (read_groups k bs)) ≡ Err num.Cut)
+    ⊎ (cond t (Ok (b, 1)) (more_of b (read_groups k (bs ++ r))) ≡ cond t (Ok (b, 1)) (more_of b (read_groups k bs)))
 steady_by k b bs r true h = inr refl
 steady_by k b bs r false h = ⊎_elim (λ e. inl (ap (more_of b) e)) (λ e. inr (ap (more_of b) e)) h
 
-steady : (k : ℕ) (s r : List ℕ) → (read_groups k s ≡ num.Cut) ⊎ (read_groups k (s ++ r) ≡ read_groups k s)
+steady : (k : ℕ) (s r : List ℕ) → (read_groups k s ≡ Err num.Cut) ⊎ (read_groups k (s ++ r) ≡ read_groups k s)
 unfolding read_groups
 steady zero [] r = inl refl
 steady (suc k) [] r = inl refl
@@ -39,9 +38,9 @@ steady (suc k) (b ∷ bs) r = steady_by k b bs r (ltb b 128) (steady k bs r)
 
 -- ---- a record: what the piece v shows (x), and the log s from its byte b on (y); r stands behind the piece
 abbrev Seen : List ℕ → List ℕ → ℕ → List ℕ → Taken → Taken → Type 0
-Seen v s b r (Whole d) y = (y ≡ Whole (moved_entry b d)) × (rec_of s (moved_entry b d) ≡ rec_of v d)
-Seen v s b r Cut y = r ≡ [] → y ≡ Cut
-Seen v s b r (Bad w) y = y ≡ Bad w
+Seen v s b r (Ok d) y = (y ≡ Ok (moved_entry b d)) × (rec_of s (moved_entry b d) ≡ rec_of v d)
+Seen v s b r (Err Cut) y = r ≡ [] → y ≡ Err Cut
+Seen v s b r (Err (Bad w)) y = y ≡ Err (Bad w)
 
 module _ (v s : List ℕ) (b : ℕ) (r : List ℕ) (h : drop b s ≡ v ++ r) where
   behind : (i : ℕ) → i ≤ length v → drop (b + i) s ≡ drop i v ++ r
@@ -56,14 +55,14 @@ module _ (v s : List ℕ) (b : ℕ) (r : List ℕ) (h : drop b s ≡ v ++ r) whe
 
   seen-number : (i : ℕ) (f g : ℕ → ℕ → Taken) (x : Num) → Under (top 4) (length (drop i v)) x → i ≤ length v
       → ((n j : ℕ) → j ≤ length v → Seen v s b r (f n j) (g n (b + j))) → Seen v s b r (on_number i f x) (on_number (b + i) g x)
-  seen-number i f g (num.Value n j) u le k =
+  seen-number i f g (Ok (n, j)) u le k =
       let sum : b + (i + j) ≡ b + i + j = omega arith in
       subst (λ (z : ℕ). Seen v s b r (f n (i + j)) (g n z)) sum (k n (i + j) (omega (arith, u.1, length-drop i v)))
-  seen-number i f g num.Cut u le k = λ none. refl
-  seen-number i f g num.Ill u le k = refl
+  seen-number i f g (Err num.Cut) u le k = λ none. refl
+  seen-number i f g (Err num.Ill) u le k = refl
 
   -- a number that the last piece cuts is cut
-  cut-last : (i : ℕ) (g : ℕ → ℕ → Taken) → i ≤ length v → read_number (drop i v) ≡ num.Cut → r ≡ [] → part s (b + i) g ≡ Cut
+  cut-last : (i : ℕ) (g : ℕ → ℕ → Taken) → i ≤ length v → read_number (drop i v) ≡ Err num.Cut → r ≡ [] → part s (b + i) g ≡ Err Cut
   cut-last i g le e none =
       ap (on_number (b + i) g) (ap read_number (behind i le ∙ ap (λ (x : List ℕ). drop i v ++ x) none ∙ append-nil (drop i v)) ∙ e)
 
@@ -90,7 +89,7 @@ module _ (v s : List ℕ) (b : ℕ) (r : List ℕ) (h : drop b s ≡ v ++ r) whe
   room-last i l f none = omega (arith, length-drop b s, ap length h, length-append v r, ap length none)
 
   seen-payload : (t c p l i : ℕ) (z : Bool) → ltb (length v - i) l ≡ z → i ≤ length v
-      → Seen v s b r (cond z Cut (Whole (frame_entry t c p l i))) (cond (ltb (length s - (b + i)) l) Cut (Whole (frame_entry t c p l (b + i))))
+      → Seen v s b r (cond z (Err Cut) (Ok (frame_entry t c p l i))) (cond (ltb (length s - (b + i)) l) (Err Cut) (Ok (frame_entry t c p l (b + i))))
   seen-payload t c p l i true e le = λ none. rw (lt-ltb (length s - (b + i)) l (room-last i l (ltb-true (length v - i) l e) none))
   seen-payload t c p l i false e le =
       let f : l ≤ length v - i = ltb-false (length v - i) l e in
@@ -139,9 +138,9 @@ module _ (v s : List ℕ) (b : ℕ) (r : List ℕ) (h : drop b s ≡ v ++ r) whe
       here = rw (lt-leb (length s) (b + i) (⊎_elim (λ e. omega arith) (λ e. omega arith) long))
 
       go : (x : Taken) → Seen v s b r x (record_at s (b + i)) → Shown i (placed i x)
-      go (Whole d) w = (λ z. here ∙ ap (placed (b + i)) w.0, λ e z. let same : d ≡ e = cc in subst (λ (x : Entry). rec_of s (moved_entry b x) ≡ rec_of v x) same w.1)
-      go Cut w = (⊎_elim (λ e. absurd (true≢false (sym e))) (λ none. here ∙ ap (placed (b + i)) (w none)), λ e z. cc)
-      go (Bad k) w = (λ z. here ∙ ap (placed (b + i)) w, λ e z. cc)
+      go (Ok d) w = (λ z. here ∙ ap (placed (b + i)) w.0, λ e z. let same : d ≡ e = cc in subst (λ (x : Entry). rec_of s (moved_entry b x) ≡ rec_of v x) same w.1)
+      go (Err Cut) w = (⊎_elim (λ e. absurd (true≢false (sym e))) (λ none. here ∙ ap (placed (b + i)) (w none)), λ e z. cc)
+      go (Err (Bad k)) w = (λ z. here ∙ ap (placed (b + i)) w, λ e z. cc)
 
   shown : (i : ℕ) → Shown i (found_at v i)
   shown i = go (leb (length v) i) refl

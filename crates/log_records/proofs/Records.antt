@@ -3,25 +3,24 @@ use mathlib.Core.Path.{◌≡◌, refl, sym, ap, ◌∙◌}
 use mathlib.Core.Logic.{◌⊎◌, inl, inr, ⊎_elim}
 use mathlib.Core.Bool.{Bool, true, false, cond}
 use mathlib.Core.List.{List, [], ◌∷◌, ◌++◌, append_assoc}
-use Prim.Native.Nat.{ℕ, zero, suc, ◌+◌, ◌-◌, ◌*◌, ◌/◌, ◌%◌, ◌≤◌, ◌<◌}
+use Prim.Native.Nat.{ℕ, zero, suc, ◌+◌, ◌-◌, ◌/◌, ◌%◌, ◌≤◌, ◌<◌}
 use native.Mathlib.Omega.{arith}
 use lib.ListN.{length, take, drop, length-append, length-drop}
 use lib.Seq.{drop-append_seam, take-append_seam, take-append-le, take-append-add, drop-drop, length-take-le}
-use lib.Dec.{ltb, leb, eqb}
+use lib.Dec.{ltb, eqb}
 use borrow.Author.Tests.{ltb-true, ltb-false, lt-ltb, le-ltb, lt-leb, eq-eqb, ne_eqb}
+use Rattle.std.specs.Prelude.{Ok, Err}
 use Rattle.refusals.specs.declared.Refusal.TheVariants.{LogChannel}
-use Rattle.log_numbers.specs.declared.Num.{Num}
-use Rattle.log_numbers.specs.declared.Num.TheVariants as num
+use Rattle.log_numbers.specs.declared.NumberError.TheVariants as num
 use Rattle.log_records.specs.declared.Entry.{Entry}
-use Rattle.log_records.specs.declared.Taken.{Taken}
-use Rattle.log_records.specs.declared.Taken.TheVariants.{Whole, Cut, Bad}
+use Rattle.log_records.specs.declared.RecordError.TheVariants.{Cut, Bad}
 use Rattle.log_numbers.specs.Number.{groups, number_bytes, size_of, read_number, top, InWord}
 use Rattle.log_records.specs.Record.{Rec, tick, frame, part_of, identifiers, Loggable, parts_bytes, record_bytes}
-use Rattle.log_records.specs.Reading.{on_number, part, above_of, tick_entry, frame_entry, rec_of, length_part, identifier_part, channel_part, time_part, record_at}
+use Rattle.log_records.specs.Reading.{Taken, on_number, part, above_of, tick_entry, frame_entry, rec_of, length_part, identifier_part, channel_part, time_part, record_at}
 use Rattle.log_numbers.proofs.Numbers.{written, cut_short}
 
 -- ---- a number at i of s
-reads : (s : List ℕ) (i n : ℕ) (r : List ℕ) → InWord n → drop i s ≡ number_bytes n ++ r → read_number (drop i s) ≡ num.Value n (size_of n)
+reads : (s : List ℕ) (i n : ℕ) (r : List ℕ) → InWord n → drop i s ≡ number_bytes n ++ r → read_number (drop i s) ≡ Ok (n, size_of n)
 unfolding top
 reads s i n r h e = ap read_number e ∙ written 4 n r h
 
@@ -60,17 +59,17 @@ module _ (s : List ℕ) where
       let e2 : drop (at + size_of t + size_of c) s ≡ number_bytes p ++ r = next s (at + size_of t) c _ e1 in (
         part_reads s at t _ (time_part s) ht e
             ∙ part_reads s (at + size_of t) c _ (channel_part s t) (omega arith) e1
-            ∙ ap (λ (b : Bool). cond b (Bad LogChannel) (part s (at + size_of t + size_of c) (identifier_part s t c))) (le-ltb 31 c hc)
+            ∙ ap (λ (b : Bool). cond b (Err (Bad LogChannel)) (part s (at + size_of t + size_of c) (identifier_part s t c))) (le-ltb 31 c hc)
             ∙ part_reads s (at + size_of t + size_of c) p _ (identifier_part s t c) hw e2
-            ∙ ap (λ (b : Bool). cond b (Bad (above_of (eqb (p % 2) 1))) (part s (at + size_of t + size_of c + size_of p) (length_part s t c p))) (lt-leb (identifiers (eqb (p % 2) 1)) (p / 2) hp),
+            ∙ ap (λ (b : Bool). cond b (Err (Bad (above_of (eqb (p % 2) 1)))) (part s (at + size_of t + size_of c + size_of p) (length_part s t c p))) (lt-leb (identifiers (eqb (p % 2) 1)) (p / 2) hp),
         next s (at + size_of t + size_of c) p _ e2,
       )
 
-  tick_is : (t c i : ℕ) (r : List ℕ) → drop i s ≡ number_bytes 9 ++ r → part s i (length_part s t c 0) ≡ Whole (tick_entry t c (i + size_of 9))
+  tick_is : (t c i : ℕ) (r : List ℕ) → drop i s ≡ number_bytes 9 ++ r → part s i (length_part s t c 0) ≡ Ok (tick_entry t c (i + size_of 9))
   unfolding length_part
   tick_is t c i r e = part_reads s i 9 r (length_part s t c 0) (omega arith) e
 
-  frame_is : (t c p i l : ℕ) (r : List ℕ) → l ≤ 8 → l ≤ length r → drop i s ≡ number_bytes l ++ r → part s i (length_part s t c p) ≡ Whole (frame_entry t c p l (i + size_of l))
+  frame_is : (t c p i l : ℕ) (r : List ℕ) → l ≤ 8 → l ≤ length r → drop i s ≡ number_bytes l ++ r → part s i (length_part s t c p) ≡ Ok (frame_entry t c p l (i + size_of l))
   unfolding length_part
   frame_is t c p i l r h room e =
       let rest : length s - (i + size_of l) ≡ length r = sym (length-drop (i + size_of l) s) ∙ ap length (next s i l r e) in
@@ -84,7 +83,7 @@ parts_length : (t c p l : ℕ) (b : List ℕ) → length (parts_bytes t c p l b)
 parts_length t c p l b = simp length-append (omega arith)
 
 -- a record's bytes, followed by anything, read as its entry
-pub record_reads : (x : Rec) (s : List ℕ) (at : ℕ) (r : List ℕ) → Loggable x → drop at s ≡ record_bytes x ++ r → record_at s at ≡ Whole (entry_at at x)
+pub record_reads : (x : Rec) (s : List ℕ) (at : ℕ) (r : List ℕ) → Loggable x → drop at s ≡ record_bytes x ++ r → record_at s at ≡ Ok (entry_at at x)
 unfolding record_bytes entry_at
 record_reads (tick t c) s at r h e =
     let k = to-length s at t c 0 (number_bytes 9 ++ r) h.0 h.1 (omega arith) (omega arith) (e ∙ parts_then t c 0 9 [] r) in
@@ -132,10 +131,10 @@ record_some (frame t c x i b) = omega (arith, parts_length t c (part_of x i) (le
 abbrev Short : List ℕ → ℕ → ℕ → List ℕ → Type 0
 Short s i m r = (m < length r) × (drop i s ≡ take m r)
 
-cut_or : (n m : ℕ) (r : List ℕ) → (read_number (take m (number_bytes n ++ r)) ≡ num.Cut) ⊎ ((size_of n ≤ m) × (take m (number_bytes n ++ r) ≡ number_bytes n ++ take (m - size_of n) r))
+cut_or : (n m : ℕ) (r : List ℕ) → (read_number (take m (number_bytes n ++ r)) ≡ Err num.Cut) ⊎ ((size_of n ≤ m) × (take m (number_bytes n ++ r) ≡ number_bytes n ++ take (m - size_of n) r))
 cut_or n m r = by (ltb m (size_of n)) refl where
   by : (b : Bool) → ltb m (size_of n) ≡ b
-      → (read_number (take m (number_bytes n ++ r)) ≡ num.Cut) ⊎ ((size_of n ≤ m) × (take m (number_bytes n ++ r) ≡ number_bytes n ++ take (m - size_of n) r))
+      → (read_number (take m (number_bytes n ++ r)) ≡ Err num.Cut) ⊎ ((size_of n ≤ m) × (take m (number_bytes n ++ r) ≡ number_bytes n ++ take (m - size_of n) r))
   by true e =
       let lt : m < size_of n = ltb-true m (size_of n) e in
       inl (ap read_number (take-append-le m (number_bytes n) r (omega arith)) ∙ cut_short 4 n m lt)
@@ -146,7 +145,7 @@ cut_or n m r = by (ltb m (size_of n)) refl where
 
 module _ (s : List ℕ) where
   -- the cut is in this number, or behind it
-  part_cut : (i n m : ℕ) (r : List ℕ) (go : ℕ → ℕ → Taken) → InWord n → Short s i m (number_bytes n ++ r) → ((j k : ℕ) → Short s j k r → go n j ≡ Cut) → part s i go ≡ Cut
+  part_cut : (i n m : ℕ) (r : List ℕ) (go : ℕ → ℕ → Taken) → InWord n → Short s i m (number_bytes n ++ r) → ((j k : ℕ) → Short s j k r → go n j ≡ Err Cut) → part s i go ≡ Err Cut
   part_cut i n m r go h w f =
       ⊎_elim (λ z. ap (on_number i go) (ap read_number w.1 ∙ z))
       (λ y.
@@ -154,24 +153,24 @@ module _ (s : List ℕ) where
       part_reads s i n _ go h e ∙ f (i + size_of n) (m - size_of n) (omega (arith, length-append (number_bytes n) r, w.0, y.0), next s i n _ e))
       (cut_or n m r)
 
-  payload_cut : (t c p i l m : ℕ) (b : List ℕ) → l ≤ 8 → length b ≡ l → Short s i m b → length_part s t c p l i ≡ Cut
+  payload_cut : (t c p i l m : ℕ) (b : List ℕ) → l ≤ 8 → length b ≡ l → Short s i m b → length_part s t c p l i ≡ Err Cut
   unfolding length_part
   payload_cut t c p i l m b h g w =
       let few : length s - i < l = omega (arith, w.0, length-take-le m b (omega (arith, w.0)), sym (length-drop i s) ∙ ap length w.1) in
       rw (le-ltb 9 l (omega arith), ne_eqb l 9 (λ z. omega arith), lt-ltb (length s - i) l few)
 
   to-length-cut : (at t c p m : ℕ) (r : List ℕ) → InWord t → c ≤ 31 → InWord p → p / 2 < identifiers (eqb (p % 2) 1)
-      → Short s at m (number_bytes t ++ (number_bytes c ++ (number_bytes p ++ r))) → ((j k : ℕ) → Short s j k r → part s j (length_part s t c p) ≡ Cut) → record_at s at ≡ Cut
+      → Short s at m (number_bytes t ++ (number_bytes c ++ (number_bytes p ++ r))) → ((j k : ℕ) → Short s j k r → part s j (length_part s t c p) ≡ Err Cut) → record_at s at ≡ Err Cut
   unfolding record_at time_part channel_part identifier_part
   to-length-cut at t c p m r ht hc hw hp w f =
       part_cut at t m _ (time_part s) ht w
       (λ j k w1. part_cut j c k _ (channel_part s t) (omega arith) w1
-      (λ j k w2. ap (λ (b : Bool). cond b (Bad LogChannel) (part s j (identifier_part s t c))) (le-ltb 31 c hc)
+      (λ j k w2. ap (λ (b : Bool). cond b (Err (Bad LogChannel)) (part s j (identifier_part s t c))) (le-ltb 31 c hc)
       ∙ part_cut j p k _ (identifier_part s t c) hw w2
-      (λ j k w3. ap (λ (b : Bool). cond b (Bad (above_of (eqb (p % 2) 1))) (part s j (length_part s t c p))) (lt-leb (identifiers (eqb (p % 2) 1)) (p / 2) hp) ∙ f j k w3)))
+      (λ j k w3. ap (λ (b : Bool). cond b (Err (Bad (above_of (eqb (p % 2) 1)))) (part s j (length_part s t c p))) (lt-leb (identifiers (eqb (p % 2) 1)) (p / 2) hp) ∙ f j k w3)))
 
 -- a record that is cut anywhere reads as cut
-pub record_cut : (x : Rec) (s : List ℕ) (at m : ℕ) → Loggable x → m < length (record_bytes x) → drop at s ≡ take m (record_bytes x) → record_at s at ≡ Cut
+pub record_cut : (x : Rec) (s : List ℕ) (at m : ℕ) → Loggable x → m < length (record_bytes x) → drop at s ≡ take m (record_bytes x) → record_at s at ≡ Err Cut
 unfolding record_bytes
 record_cut (tick t c) s at m h lt e =
     to-length-cut s at t c 0 m _ h.0 h.1 (omega arith) (omega arith) (lt, e)

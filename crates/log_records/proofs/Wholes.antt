@@ -2,22 +2,20 @@
 use mathlib.Core.Path.{◌≡◌, refl, sym, ap, ap₂, ◌∙◌}
 use mathlib.Core.Bool.{Bool, true, false, cond}
 use mathlib.Core.List.{List, [], ◌++◌, append_assoc, append-nil}
-use Prim.Native.Nat.{ℕ, ◌+◌, ◌-◌, ◌*◌, ◌/◌, ◌%◌, ◌≤◌, ◌<◌}
+use Prim.Native.Nat.{ℕ, ◌+◌, ◌-◌, ◌/◌, ◌%◌, ◌≤◌, ◌<◌}
 use native.Mathlib.Omega.{arith}
 use lib.ListN.{length, get_or, take, drop, length-append, length-drop}
 use lib.Seq.{take-append_seam, take-add, length-take-le, get_or-drop}
 use lib.Dec.{ltb, leb, eqb}
 use borrow.Author.Tests.{ltb-false, leb-false, eqb-true, eqb-false}
+use Rattle.std.specs.Prelude.{Ok, Err}
 use Rattle.refusals.specs.declared.Refusal.{Refusal}
 use Rattle.refusals.specs.declared.Refusal.TheVariants.{IllNumber}
-use Rattle.log_numbers.specs.declared.Num.{Num}
-use Rattle.log_numbers.specs.declared.Num.TheVariants as num
-use Rattle.log_records.specs.declared.Entry.{Entry}
-use Rattle.log_records.specs.declared.Taken.{Taken}
-use Rattle.log_records.specs.declared.Taken.TheVariants.{Whole, Cut, Bad}
-use Rattle.log_numbers.specs.Number.{number_bytes, size_of, read_number, top, InWord}
-use Rattle.log_records.specs.Record.{Rec, tick, frame, part_of, identifiers, Loggable, parts_bytes, record_bytes}
-use Rattle.log_records.specs.Reading.{on_number, part, rec_of, length_part, identifier_part, channel_part, time_part, record_at}
+use Rattle.log_numbers.specs.declared.NumberError.TheVariants as num
+use Rattle.log_records.specs.declared.RecordError.TheVariants.{Cut, Bad}
+use Rattle.log_numbers.specs.Number.{Num, number_bytes, size_of, read_number, top, InWord}
+use Rattle.log_records.specs.Record.{tick, frame, part_of, identifiers, Loggable, parts_bytes, record_bytes}
+use Rattle.log_records.specs.Reading.{Taken, on_number, part, rec_of, length_part, identifier_part, channel_part, time_part, record_at}
 use Rattle.log_numbers.proofs.Numbers.{Sound, sound, Under, within, Some, some}
 
 abbrev pub Bytes : List ℕ → Type 0
@@ -28,11 +26,11 @@ abbrev pub Number : List ℕ → ℕ → ℕ → ℕ → Type 0
 Number s i n j = (i < j) × (j ≤ length s) × InWord n × (Bytes s → take j s ≡ take i s ++ number_bytes n)
 
 abbrev AsRead : List ℕ → ℕ → Num → Type 0
-AsRead s i (num.Value n j) = Number s i n (i + j)
-AsRead s i num.Cut = Unit {0}
-AsRead s i num.Ill = Unit {0}
+AsRead s i (Ok (n, j)) = Number s i n (i + j)
+AsRead s i (Err num.Cut) = Unit {0}
+AsRead s i (Err num.Ill) = Unit {0}
 
-same_bytes_lem : (s : List ℕ) (i n j : ℕ) → j ≤ length (drop i s) → Sound 4 (drop i s) (num.Value n j) → take (i + j) s ≡ take i s ++ number_bytes n
+same_bytes_lem : (s : List ℕ) (i n j : ℕ) → j ≤ length (drop i s) → Sound 4 (drop i s) (Ok (n, j)) → take (i + j) s ≡ take i s ++ number_bytes n
 same_bytes_lem s i n j h e =
     let l : size_of n ≡ j = omega (arith, sym (length-append (number_bytes n) (drop j (drop i s))) ∙ ap length e, length-drop j (drop i s)) in
     let t : take j (drop i s) ≡ number_bytes n =
@@ -41,19 +39,19 @@ same_bytes_lem s i n j h e =
 
 as_read_of : (s : List ℕ) (i : ℕ) (r : Num) → i ≤ length s → Some r → Under (top 4) (length (drop i s)) r → (Bytes s → Sound 4 (drop i s) r) → AsRead s i r
 unfolding top
-as_read_of s i (num.Value n j) h p u f = (omega arith, omega (arith, u.1, length-drop i s), u.0, λ b. same_bytes_lem s i n j u.1 (f b))
-as_read_of s i num.Cut h p u f = tt
-as_read_of s i num.Ill h p u f = tt
+as_read_of s i (Ok (n, j)) h p u f = (omega arith, omega (arith, u.1, length-drop i s), u.0, λ b. same_bytes_lem s i n j u.1 (f b))
+as_read_of s i (Err num.Cut) h p u f = tt
+as_read_of s i (Err num.Ill) h p u f = tt
 
 as_read : (s : List ℕ) (i : ℕ) → i ≤ length s → AsRead s i (read_number (drop i s))
 as_read s i h = as_read_of s i (read_number (drop i s)) h (some 4 (drop i s)) (within 4 (drop i s)) (λ b. sound 4 (drop i s) (λ k. rw (get_or-drop i s k 0) (b (i + k))))
 
 -- ---- a fact of the records that are read goes through the parts one by one
-module _ (P : Taken → Type 0) (cut : P Cut) (bad : (w : Refusal) → P (Bad w)) (s : List ℕ) where
+module _ (P : Taken → Type 0) (cut : P (Err Cut)) (bad : (w : Refusal) → P (Err (Bad w))) (s : List ℕ) where
   on-number : (i : ℕ) (go : ℕ → ℕ → Taken) (r : Num) → AsRead s i r → ((n j : ℕ) → Number s i n j → P (go n j)) → P (on_number i go r)
-  on-number i go (num.Value n j) h f = f n (i + j) h
-  on-number i go num.Cut h f = cut
-  on-number i go num.Ill h f = bad IllNumber
+  on-number i go (Ok (n, j)) h f = f n (i + j) h
+  on-number i go (Err num.Cut) h f = cut
+  on-number i go (Err num.Ill) h f = bad IllNumber
 
   pub by_part : (i : ℕ) (go : ℕ → ℕ → Taken) → i ≤ length s → ((n j : ℕ) → Number s i n j → P (go n j)) → P (part s i go)
   by_part i go h f = on-number i go (read_number (drop i s)) (as_read s i h) f
@@ -64,9 +62,9 @@ by_test P false x y p q = q refl
 
 -- ---- the record that was read from `at` on
 abbrev pub Exact : List ℕ → ℕ → Taken → Type 0
-Exact s at (Whole e) = (at < e.next) × (e.next ≤ length s) × (Bytes s → Loggable (rec_of s e) × (take e.next s ≡ take at s ++ record_bytes (rec_of s e)))
-Exact s at Cut = Unit {0}
-Exact s at (Bad w) = Unit {0}
+Exact s at (Ok e) = (at < e.next) × (e.next ≤ length s) × (Bytes s → Loggable (rec_of s e) × (take e.next s ≡ take at s ++ record_bytes (rec_of s e)))
+Exact s at (Err Cut) = Unit {0}
+Exact s at (Err (Bad w)) = Unit {0}
 
 part_back : (p : ℕ) (t : Bool) → eqb (p % 2) 1 ≡ t → part_of t (p / 2) ≡ p
 part_back p true e = omega (arith, eqb-true (p % 2) 1 e)

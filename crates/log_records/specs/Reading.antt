@@ -1,28 +1,35 @@
 -- Reading a log. 02, Req 01: "Lengths above 9, length 9 with another identifier part, channels above 31, standard identifiers above 2,047,
 -- extended ones above 29 bits and ill-formed numbers each get a refusal above 15, the earliest bad part deciding and going before a cut."
-use Rattle.std.specs.Prelude.{ℕ, zero, suc, ◌+◌, ◌-◌, ◌/◌, ◌%◌, Bool, true, false, cond, List, [], ◌∷◌, length, drop, take, ltb, leb, eqb}
+use Rattle.std.specs.Prelude.{ℕ, zero, suc, ◌+◌, ◌-◌, ◌/◌, ◌%◌, Bool, true, false, cond, List, [], ◌∷◌, length, drop, take, ltb, leb, eqb, Result, Ok, Err}
 use Rattle.refusals.specs.declared.Refusal.{Refusal}
 use Rattle.refusals.specs.declared.Refusal.TheVariants.{IllNumber, LogChannel, LogStandard, LogExtended, LogLength, LogTick}
-use Rattle.log_numbers.specs.declared.Num.{Num}
-use Rattle.log_numbers.specs.declared.Num.TheVariants as num
+use Rattle.log_numbers.specs.declared.NumberError.{NumberError}
+use Rattle.log_numbers.specs.declared.NumberError.TheVariants as num
 use Rattle.log_records.specs.declared.Entry.{Entry}
-use Rattle.log_records.specs.declared.Taken.{Taken}
-use Rattle.log_records.specs.declared.Taken.TheVariants.{Whole, Cut, Bad}
+use Rattle.log_records.specs.declared.RecordError.{RecordError}
+use Rattle.log_records.specs.declared.RecordError.TheVariants.{Cut, Bad}
 use Rattle.log_records.specs.declared.Found.{Found}
 use Rattle.log_records.specs.declared.Found.TheVariants as found
-use Rattle.log_numbers.specs.Number.{read_number}
+use Rattle.log_numbers.specs.Number.{Num, read_number}
 use Rattle.log_records.specs.Record.{Rec, tick, frame, identifiers, record_bytes}
 
 -- ---- a record, part by part
 
--- a part is the number at i: where the bytes end in it the record is cut, an ill-formed one is refused, and otherwise what follows it goes by
--- its value and the place behind it
-abbrev pub on_number : ℕ → (ℕ → ℕ → Taken) → Num → Taken
-on_number i go (num.Value n j) = go n (i + j)
-on_number i go num.Cut = Cut
-on_number i go num.Ill = Bad IllNumber
+-- a record from a place on, or why there is none
+abbrev pub Taken : Type 0
+Taken = Result Entry RecordError
 
-abbrev pub part : List ℕ → ℕ → (ℕ → ℕ → Taken) → Taken
+-- where the bytes end in a number the record is cut, and an ill-formed one is refused
+abbrev pub error_of : NumberError → RecordError
+error_of num.Cut = Cut
+error_of num.Ill = Bad IllNumber
+
+-- a part is the number at i, and what follows it goes by its value and the place behind it
+abbrev pub on_number : {A : Type 0} → ℕ → (ℕ → ℕ → Result A RecordError) → Num → Result A RecordError
+on_number i go (Ok (n, j)) = go n (i + j)
+on_number i go (Err e) = Err (error_of e)
+
+abbrev pub part : {A : Type 0} → List ℕ → ℕ → (ℕ → ℕ → Result A RecordError) → Result A RecordError
 part s i go = on_number i go (read_number (drop i s))
 
 abbrev pub tick_entry : ℕ → ℕ → ℕ → Entry
@@ -34,19 +41,19 @@ frame_entry t c p l i = record { tick = false; time = t; channel = c; id = p / 2
 -- in the log s, after time t, channel c and identifier part p, the length l, with the payload at i
 unfoldable pub length_part : List ℕ → ℕ → ℕ → ℕ → ℕ → ℕ → Taken
 length_part s t c p l i =
-    cond (ltb 9 l) (Bad LogLength)
-    (cond (eqb l 9) (cond (eqb p 0) (Whole (tick_entry t c i)) (Bad LogTick))
-    (cond (ltb (length s - i) l) Cut (Whole (frame_entry t c p l i))))
+    cond (ltb 9 l) (Err (Bad LogLength))
+    (cond (eqb l 9) (cond (eqb p 0) (Ok (tick_entry t c i)) (Err (Bad LogTick)))
+    (cond (ltb (length s - i) l) (Err Cut) (Ok (frame_entry t c p l i))))
 
 abbrev pub above_of : Bool → Refusal
 above_of true = LogExtended
 above_of false = LogStandard
 
 unfoldable pub identifier_part : List ℕ → ℕ → ℕ → ℕ → ℕ → Taken
-identifier_part s t c p i = cond (leb (identifiers (eqb (p % 2) 1)) (p / 2)) (Bad (above_of (eqb (p % 2) 1))) (part s i (length_part s t c p))
+identifier_part s t c p i = cond (leb (identifiers (eqb (p % 2) 1)) (p / 2)) (Err (Bad (above_of (eqb (p % 2) 1)))) (part s i (length_part s t c p))
 
 unfoldable pub channel_part : List ℕ → ℕ → ℕ → ℕ → Taken
-channel_part s t c i = cond (ltb 31 c) (Bad LogChannel) (part s i (identifier_part s t c))
+channel_part s t c i = cond (ltb 31 c) (Err (Bad LogChannel)) (part s i (identifier_part s t c))
 
 unfoldable pub time_part : List ℕ → ℕ → ℕ → Taken
 time_part s t i = part s i (channel_part s t)
@@ -58,9 +65,9 @@ record_at s at = part s at (time_part s)
 
 -- a cut or refused record is named by its first byte
 abbrev pub placed : ℕ → Taken → Found
-placed at (Whole e) = found.Record e
-placed at Cut = found.Cut at
-placed at (Bad w) = found.Refused w at
+placed at (Ok e) = found.Record e
+placed at (Err Cut) = found.Cut at
+placed at (Err (Bad w)) = found.Refused w at
 
 abbrev pub found_at : List ℕ → ℕ → Found
 found_at s at = cond (leb (length s) at) found.End (placed at (record_at s at))

@@ -2,7 +2,7 @@
 use Rattle.std.specs.Prelude.{◌≡◌, refl, true, false, List, [], ◌∷◌, map, ℕ}
 use Rattle.refusals.specs.declared.Refusal.TheVariants.{IllNumber, LogChannel, LogStandard, LogExtended, LogLength, LogTick}
 use Rattle.log_numbers.specs.Number.{groups, read_groups}
-use Rattle.log_records.specs.Record.{Rec, tick, frame, record_bytes}
+use Rattle.log_records.specs.Record.{tick, frame, record_bytes}
 use Rattle.log_records.specs.Reading.{length_part, identifier_part, channel_part, time_part, record_at, read_from, log_of, Log, ends, then, clean, piece, refused}
 
 -- "Time 300, channel 2, extended 0x6b000, payload 01 is AC 02 02 81 C0 35 01 01."

@@ -1,15 +1,13 @@
 -- The laws of a walk on a log that was written: a frame and a tick, whole, cut in the tick and malformed, in pieces of one length and another.
-use Rattle.std.proofs.Common.{◌≡◌, ℕ, ◌^◌, ◌<◌, false, List, [], ◌∷◌, ◌++◌, length, take, sym, refl, ap, ◌∙◌, subst, arith}
+use Rattle.std.proofs.Common.{◌≡◌, ℕ, false, List, [], ◌∷◌, take, refl, subst, arith}
 use Rattle.refusals.specs.declared.Refusal.TheVariants.{LogChannel}
 use Rattle.log_numbers.specs.Number.{read_groups}
 use Rattle.log_numbers.proofs.Worked.{each_byte}
 use Rattle.log_records.specs.Record.{log_bytes}
-use Rattle.log_records.specs.Reading.{length_part, identifier_part, channel_part, time_part, record_at, log_of, records_in, end_in}
+use Rattle.log_records.specs.Reading.{length_part, identifier_part, channel_part, time_part, record_at, log_of, records_in}
 use Rattle.log_records.specs.Pieces.{piece_of}
-use Rattle.log_read.specs.declared.Scan.TheVariants as scan
-use Rattle.log_read.specs.Scan.{scan_of}
+use Rattle.log_read.specs.declared.Ending.TheVariants as ending
 use Rattle.log_walk.specs.declared.Stand.TheVariants as stand
-use Rattle.log_walk.specs.declared.Walk.{Walk}
 use Rattle.log_walk.specs.Walk.{is_short, start_of, open_by, step_of}
 use Rattle.log_walk.specs.Walked.{Ended, Walked, over}
 use Rattle.log_walk.proofs.Walks.{begins, walk, goes_on, left}
@@ -48,12 +46,12 @@ unfolding over open_by record_at time_part channel_part identifier_part length_p
 bad_in_nines = refl
 
 -- so the whole log has one record, is cut, and 8 is the byte behind its last whole record
-pub torn_told : Ended torn 8 (scan.Cut 1 8)
+pub torn_told : Ended torn 8 (record { records = 1; ending = ending.Cut 8 })
 torn_told = (subst (Walked torn) torn_in_nines (walk torn (9 ∷ 9 ∷ 9 ∷ []) (omega arith))).5
 
 -- the frame alone stands before that byte
 pub torn_left : take 8 torn ≡ log_bytes (records_in (log_of torn))
-torn_left = left torn (record { size = 10; records = 1; at = 8; from = 8; stand = stand.Cut }) (scan.Cut 1 8) (each_byte torn refl) torn_told
+torn_left = left torn (record { size = 10; records = 1; at = 8; from = 8; stand = stand.Cut }) (record { records = 1; ending = ending.Cut 8 }) (each_byte torn refl) torn_told
 
 -- with room for a record the first piece is not too short, as one of 7 bytes is
 pub torn_goes_on : is_short (step_of (start_of 10) (piece_of torn 0 20)).walk.stand ≡ false

@@ -1,21 +1,21 @@
 -- A walk over the pieces of a log keeps what it says of the log, whatever pieces it is handed; and with 20 bytes in each it does not stand short.
-use Rattle.std.proofs.Common.{◌≡◌, ℕ, ◌+◌, ◌-◌, ◌%◌, ◌^◌, ◌<◌, ◌≤◌, Bool, true, false, cond, eqb, leb, ◌⊎◌, List, [], ◌∷◌, length, take, drop, sym, refl, ap, ◌∙◌, subst, ap₂, inl, inr, ⊎_elim, true≢false, arith, length-drop, length-take-le, take_all, eqb-true, leb-false, leb-true}
-use borrow.Author.Tests.{eqb-false}
+use Rattle.std.specs.Prelude.{Ok, Err}
+use Rattle.std.proofs.Common.{◌≡◌, ℕ, ◌+◌, ◌^◌, ◌<◌, ◌≤◌, Bool, true, false, cond, eqb, leb, ◌⊎◌, List, [], ◌∷◌, length, take, drop, sym, refl, ap, ◌∙◌, subst, ap₂, inl, inr, ⊎_elim, true≢false, arith, length-drop, length-take-le, take_all, eqb-true, leb-false, leb-true}
 use Rattle.refusals.specs.declared.Refusal.{Refusal}
 use Rattle.log_records.specs.declared.Entry.{Entry}
-use Rattle.log_records.specs.declared.Taken.{Taken}
-use Rattle.log_records.specs.declared.Taken.TheVariants.{Whole, Cut, Bad}
+use Rattle.log_records.specs.declared.RecordError.TheVariants.{Cut, Bad}
 use Rattle.log_records.specs.declared.Found.{Found}
 use Rattle.log_records.specs.declared.Found.TheVariants as found
 use Rattle.log_records.specs.Record.{longest_record, log_bytes}
-use Rattle.log_records.specs.Reading.{rec_of, placed, found_at, record_at, Log, ends, then, clean, piece, refused, onward, log_of, records_in, end_in}
+use Rattle.log_records.specs.Reading.{Taken, placed, found_at, record_at, Log, ends, then, clean, piece, refused, onward, log_of, records_in, end_in}
 use Rattle.log_records.specs.Pieces.{piece_of, moved_entry, moved, is_firm}
 use Rattle.log_records.proofs.Wholes.{Bytes, Exact, exact}
 use Rattle.log_records.proofs.Logs.{turn_end, log_exact}
 use Rattle.log_records.proofs.Pieces.{in_pieces}
 use Rattle.log_records.proofs.Cuts.{enough}
 use Rattle.log_read.specs.declared.Scan.{Scan}
-use Rattle.log_read.specs.declared.Scan.TheVariants as scan
+use Rattle.log_read.specs.declared.Ending.{Ending}
+use Rattle.log_read.specs.declared.Ending.TheVariants as ending
 use Rattle.log_read.specs.Scan.{scan_of}
 use Rattle.log_read.proofs.Scans.{unroll}
 use Rattle.log_walk.specs.declared.Stand.{Stand}
@@ -46,22 +46,25 @@ sits : (s : List ℕ) (at : ℕ) → at ≤ length s → Sits s at (found_at s a
 sits s at le = by (leb (length s) at) refl
   where
     whole : (x : Taken) → Exact s at x → Sits s at (placed at x)
-    whole (Whole e) x = (x.0, x.1)
-    whole Cut x = refl
-    whole (Bad w) x = refl
+    whole (Ok e) x = (x.0, x.1)
+    whole (Err Cut) x = refl
+    whole (Err (Bad w)) x = refl
 
     by : (t : Bool) → leb (length s) at ≡ t → Sits s at (cond t found.End (placed at (record_at s at)))
     by true e = leb-true (length s) at e
     by false e = whole (record_at s at) (exact s at le)
 
 -- ---- an answer tells the byte behind the last whole record
-end_of : ℕ → Scan → ℕ
-end_of m (scan.End n) = m
-end_of m (scan.Cut n at) = at
-end_of m (scan.Refused n why at) = at
+end_by : ℕ → Ending → ℕ
+end_by m ending.Clean = m
+end_by m (ending.Cut at) = at
+end_by m (ending.Refused why at) = at
+
+abbrev end_of : ℕ → Scan → ℕ
+end_of m x = end_by m x.ending
 
 end_told : (l : Log) (n m : ℕ) → end_in m l ≡ end_of m (scan_of n l)
-unfolding scan_of end_in end_of
+unfolding scan_of end_in end_by
 end_told (ends clean) n m = refl
 end_told (ends (piece at)) n m = refl
 end_told (ends (refused w at)) n m = refl
@@ -90,17 +93,17 @@ module _ (s : List ℕ) (fits : length s < 2 ^ 64) (k : ℕ) (w : Walk) (h : Wal
   ended_by : (x : Scan) → scan_of 0 (log_of s) ≡ x → end_of (length s) x ≡ w.at → Ended s w.at x
   ended_by x e f = (e, end_told (log_of s) 0 (length s) ∙ ap (end_of (length s)) e ∙ f)
 
-  says-end : found_at s w.at ≡ found.End → length s ≤ w.at → Ended s w.at (scan.End w.records)
-  unfolding scan_of end_of
-  says-end e le = ended_by (scan.End w.records) (sym (rest-by found.End e)) (omega (arith, h.2))
+  says-end : found_at s w.at ≡ found.End → length s ≤ w.at → Ended s w.at (record { records = w.records; ending = ending.Clean })
+  unfolding scan_of end_by
+  says-end e le = ended_by (record { records = w.records; ending = ending.Clean }) (sym (rest-by found.End e)) (omega (arith, h.2))
 
-  says-cut : (b : ℕ) → found_at s w.at ≡ found.Cut b → b ≡ w.at → Ended s w.at (scan.Cut w.records w.at)
-  unfolding scan_of end_of
-  says-cut b e f = ended_by (scan.Cut w.records w.at) (sym (rest-by (found.Cut w.at) (e ∙ ap found.Cut f))) refl
+  says-cut : (b : ℕ) → found_at s w.at ≡ found.Cut b → b ≡ w.at → Ended s w.at (record { records = w.records; ending = ending.Cut w.at })
+  unfolding scan_of end_by
+  says-cut b e f = ended_by (record { records = w.records; ending = ending.Cut w.at }) (sym (rest-by (found.Cut w.at) (e ∙ ap found.Cut f))) refl
 
-  says-bad : (why : Refusal) (b : ℕ) → found_at s w.at ≡ found.Refused why b → b ≡ w.at → Ended s w.at (scan.Refused w.records why w.at)
-  unfolding scan_of end_of
-  says-bad why b e f = ended_by (scan.Refused w.records why w.at) (sym (rest-by (found.Refused why w.at) (e ∙ ap (found.Refused why) f))) refl
+  says-bad : (why : Refusal) (b : ℕ) → found_at s w.at ≡ found.Refused why b → b ≡ w.at → Ended s w.at (record { records = w.records; ending = ending.Refused why w.at })
+  unfolding scan_of end_by
+  says-bad why b e f = ended_by (record { records = w.records; ending = ending.Refused why w.at }) (sym (rest-by (found.Refused why w.at) (e ∙ ap (found.Refused why) f))) refl
 
   -- how many bytes the piece has
   size-read : (length read ≤ k) × (w.from + length read ≤ length s) × (k ≤ length read ⊎ length s ≤ w.from + length read)

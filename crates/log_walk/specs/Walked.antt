@@ -3,7 +3,7 @@ use Rattle.std.specs.Prelude.{◌≡◌, ℕ, ◌≤◌, List, [], ◌∷◌, le
 use Rattle.log_records.specs.Reading.{Log, read_from, log_of, end_in}
 use Rattle.log_records.specs.Pieces.{piece_of}
 use Rattle.log_read.specs.declared.Scan.{Scan}
-use Rattle.log_read.specs.declared.Scan.TheVariants as scan
+use Rattle.log_read.specs.declared.Ending.TheVariants as ending
 use Rattle.log_read.specs.Scan.{scan_of}
 use Rattle.log_walk.specs.declared.Stand.{Stand}
 use Rattle.log_walk.specs.declared.Stand.TheVariants as stand
@@ -21,9 +21,9 @@ Ended s a x = (scan_of 0 (log_of s) ≡ x) × (end_in (length s) (log_of s) ≡ 
 abbrev pub Says : List ℕ → ℕ → ℕ → Stand → Type 0
 Says s n a stand.Within = Unit {0}
 Says s n a stand.Seam = Unit {0}
-Says s n a stand.End = Ended s a (scan.End n)
-Says s n a stand.Cut = Ended s a (scan.Cut n a)
-Says s n a (stand.Bad why) = Ended s a (scan.Refused n why a)
+Says s n a stand.End = Ended s a (record { records = n; ending = ending.Clean })
+Says s n a stand.Cut = Ended s a (record { records = n; ending = ending.Cut a })
+Says s n a (stand.Bad why) = Ended s a (record { records = n; ending = ending.Refused why a })
 Says s n a stand.Short = Unit {0}
 
 -- and wherever it stands: the rest of the log, behind the records so far, gives the answer for the whole

@@ -1,5 +1,6 @@
 -- The laws of the writer on 02's frame of 8 bytes, "AC 02 02 81 C0 35 01 01", in a buffer with one byte more and in one with one byte less.
-use mathlib.Core.Path.{◌≡◌, refl}
+use Rattle.std.specs.Prelude.{Ok, Err}
+use mathlib.Core.Path.{◌≡◌}
 use mathlib.Core.Bool.{true}
 use mathlib.Core.List.{List, [], ◌∷◌}
 use Prim.Native.Nat.{ℕ, ◌<◌}
@@ -8,7 +9,6 @@ use lib.ListN.{length, take, drop}
 use Rattle.refusals.specs.declared.Refusal.TheVariants.{ShortBuffer}
 use Rattle.log_numbers.specs.Number.{groups}
 use Rattle.log_records.specs.Record.{Rec, frame, Loggable, record_bytes}
-use Rattle.log_write.specs.declared.Logged.TheVariants.{Bytes, Refused}
 use Rattle.log_write.specs.Writing.{written_of, buffer_after}
 use Rattle.log_write.proofs.Writings.{loggable_written, written_loggable, short_last, short_loggable, buffer_record, buffer_refused}
 
@@ -24,7 +24,7 @@ seven = 7 ∷ 7 ∷ 7 ∷ 7 ∷ 7 ∷ 7 ∷ 7 ∷ []
 loggable : Loggable worked
 loggable = (omega arith, omega arith, omega arith, omega arith)
 
-pub eight_bytes : written_of worked nine ≡ Bytes 8
+pub eight_bytes : written_of worked nine ≡ Ok 8
 unfolding record_bytes groups
 eight_bytes = loggable_written worked nine loggable (omega arith)
 
@@ -40,7 +40,7 @@ can_hold = (written_loggable worked nine 8 eight_bytes).0 (omega arith)
 
 -- ---- one byte less
 
-pub too_short : written_of worked seven ≡ Refused ShortBuffer
+pub too_short : written_of worked seven ≡ Err ShortBuffer
 unfolding record_bytes groups
 too_short = short_last worked seven loggable (omega arith)
 

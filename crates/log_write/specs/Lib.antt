@@ -1,1 +1,2 @@
+pub mod Logged
 pub mod Writing

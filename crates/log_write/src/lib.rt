@@ -1,42 +1,18 @@
 // A record of a night log is written into a lent buffer (02, Req 01). For every program that keeps a log. Every public function takes any input.
-ghost use Rattle.std.specs.Prelude.{◌≡◌, ltb};
-ghost use Rattle.log_records.specs.Record.{tick, frame, identifiers};
-ghost use Rattle.log_records.specs.Reading.{above_of};
+#![tactic(auto)]
+
+ghost use Rattle.std.specs.Prelude.{◌≡◌};
+ghost use Rattle.log_records.specs.Record.{tick, frame};
 ghost use Rattle.log_write.specs.Writing.{written_of, buffer_after};
 
 mod number; // number.rt: a number's groups into a buffer
 mod store; // store.rt: a record's bytes into a buffer
 
+use log_records::{LAST_CHANNEL, above, identifiers};
 use refusals::Refusal;
 use store::{head_size, part_of, store_bytes, store_head};
 
-// An accepted record answers the number of its bytes.
-#[derive(Clone, Copy)]
-pub enum Logged {
-    Bytes(usize),
-    Refused(Refusal),
-}
-
-// 02 refuses "channels above 31".
-const LAST_CHANNEL: u32 = 31;
-
-fn above(extended: bool) -> Refusal
-    ensures { result ≡ above_of extended }
-{
-    if extended {
-        Refusal::LogExtended
-    } else {
-        Refusal::LogStandard
-    }
-}
-
-fn has_identifier(id: u32, extended: bool) -> bool
-    ensures { result ≡ ltb id (identifiers extended) }
-{
-    if extended { id < 536870912 } else { id < 2048 }
-}
-
-// 02: "in the writer 9 payload bytes count as above 9, and a short buffer gives 8, last".
+// The number of the record's bytes. 02: "in the writer 9 payload bytes count as above 9, and a short buffer gives 8, last".
 pub fn write_frame(
     time: u32,
     channel: u32,
@@ -44,41 +20,41 @@ pub fn write_frame(
     extended: bool,
     payload: &[u8],
     out: &mut [u8],
-) -> Logged
+) -> Result<usize, Refusal>
     ensures { (result ≡ written_of (frame time channel extended id payload.now) out.old)
         × (out.new ≡ buffer_after (frame time channel extended id payload.now) out.old) }
 {
     if LAST_CHANNEL < channel {
-        return Logged::Refused(Refusal::LogChannel);
+        return Err(Refusal::LogChannel);
     }
-    if !has_identifier(id, extended) {
-        return Logged::Refused(above(extended));
+    if identifiers(extended) <= id {
+        return Err(above(extended));
     }
     if 8 < payload.len() {
-        return Logged::Refused(Refusal::LogLength);
+        return Err(Refusal::LogLength);
     }
     let p = part_of(id, extended);
     let n = payload.len() as u32;
     let size = head_size(time, channel, p, n) + payload.len();
     if out.len() < size {
-        return Logged::Refused(Refusal::ShortBuffer);
+        return Err(Refusal::ShortBuffer);
     }
     let at = store_head(out, time, channel, p, n);
     store_bytes(out, at, payload);
-    Logged::Bytes(size)
+    Ok(size)
 }
 
 // 02: "A tick has length 9, identifier part 0 and no payload."
-pub fn write_tick(time: u32, channel: u32, out: &mut [u8]) -> Logged
+pub fn write_tick(time: u32, channel: u32, out: &mut [u8]) -> Result<usize, Refusal>
     ensures { (result ≡ written_of (tick time channel) out.old) × (out.new ≡ buffer_after (tick time channel) out.old) }
 {
     if LAST_CHANNEL < channel {
-        return Logged::Refused(Refusal::LogChannel);
+        return Err(Refusal::LogChannel);
     }
     let size = head_size(time, channel, 0, 9);
     if out.len() < size {
-        return Logged::Refused(Refusal::ShortBuffer);
+        return Err(Refusal::ShortBuffer);
     }
     store_head(out, time, channel, 0, 9);
-    Logged::Bytes(size)
+    Ok(size)
 }

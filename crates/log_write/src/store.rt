@@ -11,10 +11,11 @@ pub fn part_of(id: u32, extended: bool) -> u32
     requires { id < identifiers extended }
     ensures { result ≡ part_of extended id }
 {
-    if extended { id * 2 + 1 } else { id * 2 }
+    id * 2 + u32::from(extended)
 }
 
 // How many bytes stand before the payload.
+// Kept (5): tried as one struct of the four numbers, here and in `store_head`; a record is written a tenth slower, since it goes through memory.
 pub fn head_size(time: u32, channel: u32, p: u32, n: u32) -> usize
     ensures { result ≡ size_of time + size_of channel + size_of p + size_of n }
 {
@@ -33,13 +34,12 @@ pub fn store_head(out: &mut [u8], time: u32, channel: u32, p: u32, n: u32) -> us
 }
 
 // The bytes from `at` on; the rest of `out` stays.
+// Kept (3): tried as `copy_from_slice`; at most eight bytes are stored, and by its call a record is written a tenth slower.
 pub fn store_bytes(out: &mut [u8], at: usize, bytes: &[u8])
     requires { at + length bytes.now ≤ length out.old }
     ensures { out.new ≡ sets out.old at bytes.now }
 {
-    let mut i = 0;
-    while i < bytes.len() {
+    for i in 0..bytes.len() {
         out[at + i] = bytes[i];
-        i += 1;
     }
 }

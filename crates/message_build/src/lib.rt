@@ -1,35 +1,30 @@
 // A message of its kind's number: of its signals' raw numbers, and of a payload number. For the reader, and for what hands out messages that it keeps by
 // number.
+#![tactic(auto)]
+
 ghost use Rattle.std.specs.Prelude.{◌≡◌};
 ghost use Rattle.message_fields.specs.Fields.{at};
 ghost use Rattle.message_build.specs.Built.{built_of, message_of};
 
 use message_charger::message_parts;
-use message_fields::natural;
-use message_types::labels::*;
 use message_types::*;
+use page_write::Raws;
 
 // The message of a kind; for a number that is no kind, the last one.
-pub fn built(kind: usize, f: [i64; 16]) -> Message
+// Kept (7): a kind says which message is made, and each case has a type and a maker of its own, so no table can hold these.
+#[tactic(auto, unfolding(crate::specs::Built::built_of))]
+pub fn built(kind: usize, f: Raws) -> Message
     ensures { result ≡ built_of kind (at f) }
 {
     match kind {
         STATUS => Message::Status(message_parts::status(f)),
         PARAMETERS => Message::Parameters(message_parts::parameters(f)),
-        CONTROLLER => Message::Controller(ControllerStatus {
-            state: state_of(natural(f[0])),
-        }),
+        CONTROLLER => Message::Controller(message_charger::build::controller(f)),
         SESSION => Message::Session(message_parts::session(f)),
-        CHANGE => Message::Change(ChargeStatusChange {
-            status: status_of(natural(f[0])),
-        }),
+        CHANGE => Message::Change(message_charger::build::change(f)),
         CONTROL => Message::Control(message_parts::control(f)),
-        FINISHED => Message::Finished(ChargeSessionFinished {
-            state: end_of(natural(f[0])),
-        }),
-        STOP => Message::Stop(EmergencyStop {
-            origin: origin_of(natural(f[0])),
-        }),
+        FINISHED => Message::Finished(message_charger::build::finished(f)),
+        STOP => Message::Stop(message_charger::build::stop(f)),
         ID => Message::Id(message_charger::build::ev_id(f)),
         SAFETY_CONTROL => Message::SafetyControl(message_safety::build::safety_control(f)),
         SAFETY_STATE => Message::SafetyState(message_safety::build::safety_state(f)),
@@ -51,6 +46,8 @@ pub fn built(kind: usize, f: [i64; 16]) -> Message
 }
 
 // The message that a payload number of a kind reads as.
+// Kept (2): no plainer as one function with older_build's: a trait over both enums would serve this line alone.
+#[tactic(auto, unfolding(crate::specs::Built::message_of))]
 pub fn message_of(kind: usize, number: u64) -> Message
     ensures { result ≡ message_of kind number }
 {

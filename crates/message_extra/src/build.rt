@@ -4,10 +4,11 @@ ghost use Rattle.message_fields.specs.Fields.{at};
 ghost use Rattle.message_extra.specs.Build.{spcc_of, ccs_of, mcs_of};
 
 use message_fields::{celsius, flag, natural, word};
-use message_types::labels::*;
+use message_types::labels::Label;
 use message_types::{CcsExtraInformation, McsExtraInformation, SpccInputs};
+use page_write::Raws;
 
-pub fn spcc(f: [i64; 16]) -> SpccInputs
+pub fn spcc(f: Raws) -> SpccInputs
     ensures { result ≡ spcc_of (at f) }
 {
     SpccInputs {
@@ -25,22 +26,22 @@ pub fn spcc(f: [i64; 16]) -> SpccInputs
     }
 }
 
-pub fn ccs(f: [i64; 16]) -> CcsExtraInformation
+pub fn ccs(f: Raws) -> CcsExtraInformation
     ensures { result ≡ ccs_of (at f) }
 {
     CcsExtraInformation {
-        state: pilot_of(natural(f[0])),
+        state: Label::of_raw(f[0]),
         duty: word(f[1]),
         reserved: natural(f[2]),
     }
 }
 
-pub fn mcs(f: [i64; 16]) -> McsExtraInformation
+pub fn mcs(f: Raws) -> McsExtraInformation
     ensures { result ≡ mcs_of (at f) }
 {
     McsExtraInformation {
-        ce: ce_of(natural(f[0])),
-        id: mating_of(natural(f[1])),
+        ce: Label::of_raw(f[0]),
+        id: Label::of_raw(f[1]),
         reserved: natural(f[2]),
     }
 }

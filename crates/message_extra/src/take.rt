@@ -4,47 +4,37 @@ ghost use Rattle.page_write.specs.Raws.{pad};
 ghost use Rattle.page_write.specs.page_table.specs.Table.{signal_count};
 ghost use Rattle.message_extra.specs.Take.{spcc_raws, ccs_raws, mcs_raws};
 
-use message_fields::{byte_raw, celsius_raw, flag_raw, wide_raw, word_raw};
-use message_types::labels::*;
-use message_types::{CcsExtraInformation, McsExtraInformation, SpccInputs};
+use message_fields::{celsius_raw, wide_raw};
+use message_types::labels::Label;
+use message_types::{CcsExtraInformation, McsExtraInformation, SpccInputs, padded};
+use page_write::Raws;
 
-pub fn spcc_raws(m: SpccInputs) -> [i64; 16]
+pub fn spcc_raws(m: SpccInputs) -> Raws
     ensures { result ≡ pad signal_count (spcc_raws m) }
 {
-    let mut f = [0i64; 16];
-    f[0] = flag_raw(m.input1);
-    f[1] = flag_raw(m.input2);
-    f[2] = flag_raw(m.input3);
-    f[3] = flag_raw(m.input4);
-    f[4] = wide_raw(m.reserved);
-    f[5] = celsius_raw(m.cpu0);
-    f[6] = celsius_raw(m.cpu1);
-    f[7] = celsius_raw(m.pt1ka);
-    f[8] = celsius_raw(m.pt1kb);
-    f[9] = celsius_raw(m.pt1ksc);
-    f[10] = celsius_raw(m.pt1ksd);
-    f
+    padded([
+        i64::from(m.input1),
+        i64::from(m.input2),
+        i64::from(m.input3),
+        i64::from(m.input4),
+        wide_raw(m.reserved),
+        celsius_raw(m.cpu0),
+        celsius_raw(m.cpu1),
+        celsius_raw(m.pt1ka),
+        celsius_raw(m.pt1kb),
+        celsius_raw(m.pt1ksc),
+        celsius_raw(m.pt1ksd),
+    ])
 }
 
-pub fn ccs_raws(m: CcsExtraInformation) -> [i64; 16]
+pub fn ccs_raws(m: CcsExtraInformation) -> Raws
     ensures { result ≡ pad signal_count (ccs_raws m) }
 {
-    let state = m.state;
-    let mut f = [0i64; 16];
-    f[0] = byte_raw(pilot_number(state));
-    f[1] = word_raw(m.duty);
-    f[2] = wide_raw(m.reserved);
-    f
+    padded([m.state.raw(), i64::from(m.duty), wide_raw(m.reserved)])
 }
 
-pub fn mcs_raws(m: McsExtraInformation) -> [i64; 16]
+pub fn mcs_raws(m: McsExtraInformation) -> Raws
     ensures { result ≡ pad signal_count (mcs_raws m) }
 {
-    let ce = m.ce;
-    let id = m.id;
-    let mut f = [0i64; 16];
-    f[0] = byte_raw(ce_number(ce));
-    f[1] = byte_raw(mating_number(id));
-    f[2] = wide_raw(m.reserved);
-    f
+    padded([m.ce.raw(), m.id.raw(), wide_raw(m.reserved)])
 }

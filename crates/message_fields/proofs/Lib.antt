@@ -1,3 +1,3 @@
-pub mod Signs
 pub mod FieldLaws
 pub mod Wides
+pub mod Flags

@@ -5,8 +5,9 @@ ghost use Rattle.message_inputs.specs.Build.{cui_of, secc_of};
 
 use message_fields::{celsius, flag, natural};
 use message_types::{CuiInputs, SeccInputs};
+use page_write::Raws;
 
-pub fn cui(f: [i64; 16]) -> CuiInputs
+pub fn cui(f: Raws) -> CuiInputs
     ensures { result ≡ cui_of (at f) }
 {
     CuiInputs {
@@ -24,7 +25,7 @@ pub fn cui(f: [i64; 16]) -> CuiInputs
     }
 }
 
-pub fn secc(f: [i64; 16]) -> SeccInputs
+pub fn secc(f: Raws) -> SeccInputs
     ensures { result ≡ secc_of (at f) }
 {
     SeccInputs {

@@ -4,38 +4,39 @@ ghost use Rattle.page_write.specs.Raws.{pad};
 ghost use Rattle.page_write.specs.page_table.specs.Table.{signal_count};
 ghost use Rattle.message_inputs.specs.Take.{cui_raws, secc_raws};
 
-use message_fields::{celsius_raw, flag_raw, wide_raw};
-use message_types::{CuiInputs, SeccInputs};
+use message_fields::{celsius_raw, wide_raw};
+use message_types::{CuiInputs, SeccInputs, padded};
+use page_write::Raws;
 
-pub fn cui_raws(m: CuiInputs) -> [i64; 16]
+pub fn cui_raws(m: CuiInputs) -> Raws
     ensures { result ≡ pad signal_count (cui_raws m) }
 {
-    let mut f = [0i64; 16];
-    f[0] = flag_raw(m.switch0);
-    f[1] = flag_raw(m.switch1);
-    f[2] = flag_raw(m.switch2);
-    f[3] = flag_raw(m.switch3);
-    f[4] = flag_raw(m.switch4);
-    f[5] = flag_raw(m.switch5);
-    f[6] = wide_raw(m.reserved);
-    f[7] = celsius_raw(m.colibri);
-    f[8] = celsius_raw(m.cpu);
-    f[9] = celsius_raw(m.pistol1);
-    f[10] = celsius_raw(m.pistol2);
-    f
+    padded([
+        i64::from(m.switch0),
+        i64::from(m.switch1),
+        i64::from(m.switch2),
+        i64::from(m.switch3),
+        i64::from(m.switch4),
+        i64::from(m.switch5),
+        wide_raw(m.reserved),
+        celsius_raw(m.colibri),
+        celsius_raw(m.cpu),
+        celsius_raw(m.pistol1),
+        celsius_raw(m.pistol2),
+    ])
 }
 
-pub fn secc_raws(m: SeccInputs) -> [i64; 16]
+pub fn secc_raws(m: SeccInputs) -> Raws
     ensures { result ≡ pad signal_count (secc_raws m) }
 {
-    let mut f = [0i64; 16];
-    f[0] = flag_raw(m.input1);
-    f[1] = flag_raw(m.input2);
-    f[2] = flag_raw(m.input3);
-    f[3] = flag_raw(m.input4);
-    f[4] = wide_raw(m.reserved);
-    f[5] = celsius_raw(m.cpu);
-    f[6] = celsius_raw(m.pistol1);
-    f[7] = celsius_raw(m.pistol2);
-    f
+    padded([
+        i64::from(m.input1),
+        i64::from(m.input2),
+        i64::from(m.input3),
+        i64::from(m.input4),
+        wide_raw(m.reserved),
+        celsius_raw(m.cpu),
+        celsius_raw(m.pistol1),
+        celsius_raw(m.pistol2),
+    ])
 }

@@ -1,6 +1,7 @@
 -- 01: "Changing one signal .. gives the bytes of the changed message", of any type of messages over the pages: the bytes of an accepted change are those of the
 -- message of the same kind whose raw numbers are the first one's with the number that was asked for in the signal's place (`changed-message`, `changed-bytes`).
 -- Assumes nothing.
+use Rattle.std.specs.Prelude.{Ok}
 use mathlib.Core.Path.{◌≡◌, sym, ap, ap₂, ◌∙◌, subst}
 use mathlib.Core.Bool.{Bool, true, ◌&&◌}
 use mathlib.Core.List.{List}
@@ -11,9 +12,7 @@ use Rattle.page_change.specs.payload.specs.Payload.{number_of, bytes_of, Bytes}
 use Rattle.page_change.specs.payload.proofs.Orders.{are_of}
 use Rattle.page_change.specs.page_table.specs.declared.Interface.{Interface}
 use Rattle.page_change.specs.page_table.specs.Table.{no_row, rows_of, identifier_of, extended_of, length_of, big_of}
-use Rattle.page_change.specs.page_read.specs.declared.Judged.TheVariants.{Frame}
-use Rattle.page_change.specs.page_read.specs.Judge.{judge_on}
-use Rattle.page_change.specs.page_write.specs.Raws.{wholes_of, packed_on, raws_of}
+use Rattle.page_change.specs.page_write.specs.Raws.{packed_on, raws_of}
 use Rattle.page_change.specs.page_write.proofs.Trips.{accepted_on}
 use Rattle.page_change.specs.Change.{change_on, bytes_after}
 use Rattle.page_change.proofs.Changes.{changed, change_read, change_wholes}
@@ -23,7 +22,7 @@ use Rattle.message_laws.specs.WithRaw.{WithRaw}
 use Rattle.message_laws.proofs.Codec.{Codec, Same, same, back_is}
 
 module _ {M : Type 0} {kind : M → ℕ} {raws : M → List ℤ} {valued : M → Bool} {built : ℕ → (ℕ → ℤ) → M} {own : ℕ → Type 0} (c : Codec kind raws valued built own) where
-  module _ (iface : Interface) (m : ℕ) (extended : Bool) (bs : List ℕ) (s : ℕ) (z : ℤ) (k n : ℕ) (e : change_on iface m extended bs s z ≡ Frame k n) (hb : Bytes bs) (o : own k) where
+  module _ (iface : Interface) (m : ℕ) (extended : Bool) (bs : List ℕ) (s : ℕ) (z : ℤ) (k n : ℕ) (e : change_on iface m extended bs s z ≡ Ok (k, n)) (hb : Bytes bs) (o : own k) where
     -- the frame's message before and after
     abbrev pub before : M
     before = built k (at (raws_of k (number_of (big_of k) bs)))

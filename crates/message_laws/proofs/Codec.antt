@@ -1,6 +1,7 @@
 -- A type of messages over the table whose raw numbers go there and back: what it writes (`answers`, `buffers`), an accepted frame as its message writes it
 -- (`same`), and what is written is accepted and is the message again (`reads`). Of any such type, so of the messages of any document, on any
 -- interface that has them. Assumes nothing.
+use Rattle.std.specs.Prelude.{Ok, Err}
 use mathlib.Core.Path.{◌≡◌, refl, sym, ap, ap₂, ◌∙◌, subst}
 use mathlib.Core.Bool.{Bool, true, false, cond, ◌&&◌}
 use mathlib.Core.List.{List}
@@ -12,10 +13,8 @@ use lib.IntN.{ℤ}
 use lib.Seq.{take_all}
 use borrow.Author.Tests.{le-leb}
 use Rattle.page_change.specs.payload.specs.Payload.{bytes_of, stored_in, Bytes}
-use Rattle.page_change.specs.page_read.specs.declared.Judged.TheVariants.{Frame}
 use Rattle.refusals.specs.declared.Refusal.TheVariants.{NoRawNumber}
-use Rattle.page_change.specs.page_write.specs.declared.Written.{Written}
-use Rattle.page_change.specs.page_write.specs.declared.Written.TheVariants.{Refused}
+use Rattle.page_change.specs.page_write.specs.Written.{Written}
 use Rattle.page_change.specs.page_table.specs.declared.Interface.{Interface}
 use Rattle.page_change.specs.page_table.specs.Interfaces.{is_on}
 use Rattle.page_change.specs.page_table.specs.Table.{rows_of, identifier_of, extended_of, length_of, big_of}
@@ -78,11 +77,11 @@ module _ {M : Type 0} {kind : M → ℕ} {raws : M → List ℤ} {valued : M →
   abbrev answer : M → List ℕ → Bool → Written
   answer x buf fits = written_by (kind x) fits (leb (length_of (kind x)) (length buf))
 
-  pub answers : (x : M) (buf : List ℕ) → cond (valued x) (write_raws_of (kind x) (pad signal_count (raws x)) buf) (Refused NoRawNumber) ≡ answer x buf (writable x)
+  pub answers : (x : M) (buf : List ℕ) → cond (valued x) (write_raws_of (kind x) (pad signal_count (raws x)) buf) (Err NoRawNumber) ≡ answer x buf (writable x)
   unfolding write_raws_of
   answers x buf = go (valued x)
     where
-      go : (a : Bool) → cond a (answer x buf (can_write (kind x) (pad signal_count (raws x)))) (Refused NoRawNumber) ≡ answer x buf (a && all_fit (rows_of (kind x)) (raws x))
+      go : (a : Bool) → cond a (answer x buf (can_write (kind x) (pad signal_count (raws x)))) (Err NoRawNumber) ≡ answer x buf (a && all_fit (rows_of (kind x)) (raws x))
       go true = ap (answer x buf) (can-is x)
       go false = refl
 
@@ -112,7 +111,7 @@ module _ {M : Type 0} {kind : M → ℕ} {raws : M → List ℤ} {valued : M →
   pub back_is : (k n : ℕ) → own k → unlabelled n (rows_of k) ≡ false → Back kind raws valued k (wholes_of n (rows_of k)) (built k (at (raws_of k n)))
   back_is k n o u = subst (Back kind raws valued k (wholes_of n (rows_of k))) (sym (of_wholes built k n)) (c.back k n o u)
 
-  pub same : (iface : Interface) (m : ℕ) (extended : Bool) (bs : List ℕ) (k n : ℕ) → judge_on iface m extended bs ≡ Frame k n → own k → Bytes bs
+  pub same : (iface : Interface) (m : ℕ) (extended : Bool) (bs : List ℕ) (k n : ℕ) → judge_on iface m extended bs ≡ Ok (k, n) → own k → Bytes bs
       → Same m extended bs (built k (at (raws_of k n)))
   unfolding raws_of
   same iface m extended bs k n j o hb =
@@ -137,7 +136,7 @@ module _ {M : Type 0} {kind : M → ℕ} {raws : M → List ℤ} {valued : M →
   -- ---- a message, as its bytes are read
 
   pub reads : (iface : Interface) (x : M) → is_on iface (kind x) ≡ true → writable x ≡ true
-      → (judge_on iface (identifier_of (kind x)) (extended_of (kind x)) (bytes x) ≡ Frame (kind x) (payload x)) × (built (kind x) (at (raws_of (kind x) (payload x))) ≡ x)
+      → (judge_on iface (identifier_of (kind x)) (extended_of (kind x)) (bytes x) ≡ Ok (kind x, payload x)) × (built (kind x) (at (raws_of (kind x) (payload x))) ≡ x)
   reads iface x on w =
       let k = kind x in
       let rs = rows_of k in

@@ -1,7 +1,7 @@
 -- A message's raw numbers at its kind's signals: where its labels are those of the signals, a signal refuses only a number that does not fit (`take-fit`), and
 -- the numbers of an array are those of its list (`at-pad`). Assumes nothing.
 use mathlib.Core.Path.{◌≡◌, refl, ap, ap₂, ◌∙◌, fun_ext}
-use mathlib.Core.Bool.{Bool, true, false, ◌&&◌, and-true}
+use mathlib.Core.Bool.{Bool, true, ◌&&◌, and-true}
 use mathlib.Core.List.{List, [], ◌∷◌}
 use Prim.Native.Nat.{◌≤◌}
 use lib.ListN.{length}

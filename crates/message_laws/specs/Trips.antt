@@ -1,8 +1,7 @@
 -- Bytes and the message that they are, of any type of messages: as it is written, and with one signal changed.
-use Rattle.std.specs.Prelude.{ℕ, ◌≤◌, ◌≡◌, Bool, true, ◌&&◌, List, ◌++◌, ℤ, length, drop}
+use Rattle.std.specs.Prelude.{ℕ, ◌≤◌, ◌≡◌, Bool, true, ◌&&◌, List, ◌++◌, ℤ, length, drop, Ok}
 use Rattle.page_change.specs.page_table.specs.Table.{rows_of}
-use Rattle.page_change.specs.page_write.specs.declared.Written.{Written}
-use Rattle.page_change.specs.page_write.specs.declared.Written.TheVariants.{Wrote}
+use Rattle.page_change.specs.page_write.specs.Written.{Written}
 use Rattle.message_laws.specs.Fits.{all_fit}
 use Rattle.message_laws.specs.WithRaw.{WithRaw}
 
@@ -14,7 +13,7 @@ module _ {M R : Type 0} (kind : M → ℕ) (raws : M → List ℤ) (valued : M �
 
   -- x is written under the identifier m as the bytes bs, into any buffer with room for them, whose other bytes stay
   abbrev pub WrittenAs : ℕ → List ℕ → M → Type 0
-  WrittenAs m bs x = (buf : List ℕ) → length bs ≤ length buf → (write x buf ≡ Wrote m (length bs)) × (after x buf ≡ bs ++ drop (length bs) buf)
+  WrittenAs m bs x = (buf : List ℕ) → length bs ≤ length buf → (write x buf ≡ Ok (m, length bs)) × (after x buf ≡ bs ++ drop (length bs) buf)
 
   -- the bytes bs are those of x with the raw number z at signal j: they read as it, it is written as them, and so is every writable message that is x so
   -- changed

@@ -1,20 +1,23 @@
 // The four messages whose fields the session watch's rules ask, of their signals' raw numbers and straight of a payload number. For the rules,
 // which ask no other field, and for the reader of all messages.
+#![tactic(auto)]
+
 ghost use Rattle.std.specs.Prelude.{◌≡◌};
 ghost use Rattle.message_fields.specs.Fields.{at};
 ghost use Rattle.message_parts.specs.Watched.{status_of, parameters_of, session_of, control_of};
 ghost use Rattle.message_parts.specs.Parts.{status_in, parameters_in, session_in, control_in};
 
-use message_fields::{celsius, flag, kilohms, natural, short, word};
-use message_types::labels::*;
+use message_fields::{celsius, flag, kilohms, short, word};
+use message_types::labels::Label;
 use message_types::{
     CONTROL, DcPowerControl, DcPowerParameters, NewChargeSession, PARAMETERS, PowerModulesStatus,
-    SESSION, STATUS,
+    SESSION, STATUS, padded,
 };
+use page_write::{Raws, raw_of};
 
 // ---- of the raw numbers, in the table's order
 
-pub fn status(f: [i64; 16]) -> PowerModulesStatus
+pub fn status(f: Raws) -> PowerModulesStatus
     ensures { result ≡ status_of (at f) }
 {
     PowerModulesStatus {
@@ -22,12 +25,12 @@ pub fn status(f: [i64; 16]) -> PowerModulesStatus
         current: short(f[1]),
         modules: celsius(f[2]),
         enclosure: celsius(f[3]),
-        enable: enable_of(natural(f[4])),
+        enable: Label::of_raw(f[4]),
         insulation: kilohms(f[5]),
     }
 }
 
-pub fn parameters(f: [i64; 16]) -> DcPowerParameters
+pub fn parameters(f: Raws) -> DcPowerParameters
     ensures { result ≡ parameters_of (at f) }
 {
     DcPowerParameters {
@@ -38,120 +41,78 @@ pub fn parameters(f: [i64; 16]) -> DcPowerParameters
     }
 }
 
-pub fn session(f: [i64; 16]) -> NewChargeSession
+pub fn session(f: Raws) -> NewChargeSession
     ensures { result ≡ session_of (at f) }
 {
     NewChargeSession {
-        protocol: protocol_of(natural(f[0])),
-        plug: plug_of(natural(f[1])),
+        protocol: Label::of_raw(f[0]),
+        plug: Label::of_raw(f[1]),
     }
 }
 
-pub fn control(f: [i64; 16]) -> DcPowerControl
+pub fn control(f: Raws) -> DcPowerControl
     ensures { result ≡ control_of (at f) }
 {
     DcPowerControl {
         target: word(f[0]),
         max: short(f[1]),
         min: short(f[2]),
-        function: function_of(natural(f[3])),
+        function: Label::of_raw(f[3]),
         reserved: flag(f[4]),
-        mode: mode_of(natural(f[5])),
-        contactors: contactors_of(natural(f[6])),
-        lowering: lowering_of(natural(f[7])),
+        mode: Label::of_raw(f[5]),
+        contactors: Label::of_raw(f[6]),
+        lowering: Label::of_raw(f[7]),
     }
 }
 
-// ---- of a payload number: its signals' numbers alone are read, and past them stands 0
+// ---- of a payload number: its signals' numbers alone are read, and past them stands 0. Each place is written out, so that it is a constant, and no row is
+// looked for when the program runs.
 
+// Kept (4): a payload number may be of any kind, so `From<u64>` would not say by which kind's rows it is read; the name does.
 pub fn status_in(number: u64) -> PowerModulesStatus
     ensures { result ≡ status_in number }
 {
-    status([
-        page_write::raw_of(STATUS, 0, number),
-        page_write::raw_of(STATUS, 1, number),
-        page_write::raw_of(STATUS, 2, number),
-        page_write::raw_of(STATUS, 3, number),
-        page_write::raw_of(STATUS, 4, number),
-        page_write::raw_of(STATUS, 5, number),
-        0,
-        0,
-        0,
-        0,
-        0,
-        0,
-        0,
-        0,
-        0,
-        0,
-    ])
+    status(padded([
+        raw_of(STATUS, 0, number),
+        raw_of(STATUS, 1, number),
+        raw_of(STATUS, 2, number),
+        raw_of(STATUS, 3, number),
+        raw_of(STATUS, 4, number),
+        raw_of(STATUS, 5, number),
+    ]))
 }
 
+// Kept (4): as for status_in, the name says by which kind's rows the payload number is read.
 pub fn parameters_in(number: u64) -> DcPowerParameters
     ensures { result ≡ parameters_in number }
 {
-    parameters([
-        page_write::raw_of(PARAMETERS, 0, number),
-        page_write::raw_of(PARAMETERS, 1, number),
-        page_write::raw_of(PARAMETERS, 2, number),
-        page_write::raw_of(PARAMETERS, 3, number),
-        0,
-        0,
-        0,
-        0,
-        0,
-        0,
-        0,
-        0,
-        0,
-        0,
-        0,
-        0,
-    ])
+    parameters(padded([
+        raw_of(PARAMETERS, 0, number),
+        raw_of(PARAMETERS, 1, number),
+        raw_of(PARAMETERS, 2, number),
+        raw_of(PARAMETERS, 3, number),
+    ]))
 }
 
+// Kept (4): as for status_in, the name says by which kind's rows the payload number is read.
 pub fn session_in(number: u64) -> NewChargeSession
     ensures { result ≡ session_in number }
 {
-    session([
-        page_write::raw_of(SESSION, 0, number),
-        page_write::raw_of(SESSION, 1, number),
-        0,
-        0,
-        0,
-        0,
-        0,
-        0,
-        0,
-        0,
-        0,
-        0,
-        0,
-        0,
-        0,
-        0,
-    ])
+    session(padded([raw_of(SESSION, 0, number), raw_of(SESSION, 1, number)]))
 }
 
+// Kept (4): as for status_in, the name says by which kind's rows the payload number is read.
 pub fn control_in(number: u64) -> DcPowerControl
     ensures { result ≡ control_in number }
 {
-    control([
-        page_write::raw_of(CONTROL, 0, number),
-        page_write::raw_of(CONTROL, 1, number),
-        page_write::raw_of(CONTROL, 2, number),
-        page_write::raw_of(CONTROL, 3, number),
-        page_write::raw_of(CONTROL, 4, number),
-        page_write::raw_of(CONTROL, 5, number),
-        page_write::raw_of(CONTROL, 6, number),
-        page_write::raw_of(CONTROL, 7, number),
-        0,
-        0,
-        0,
-        0,
-        0,
-        0,
-        0,
-        0,
-    ])
+    control(padded([
+        raw_of(CONTROL, 0, number),
+        raw_of(CONTROL, 1, number),
+        raw_of(CONTROL, 2, number),
+        raw_of(CONTROL, 3, number),
+        raw_of(CONTROL, 4, number),
+        raw_of(CONTROL, 5, number),
+        raw_of(CONTROL, 6, number),
+        raw_of(CONTROL, 7, number),
+    ]))
 }

@@ -5,8 +5,9 @@ ghost use Rattle.message_probes.specs.Build.{probes_of};
 
 use message_fields::{flag, short};
 use message_types::Pt1000State;
+use page_write::Raws;
 
-pub fn probes(f: [i64; 16]) -> Pt1000State
+pub fn probes(f: Raws) -> Pt1000State
     ensures { result ≡ probes_of (at f) }
 {
     Pt1000State {

@@ -1,6 +1,12 @@
-// The label of a raw number and the number of a label, as the pages of 000 and 004 list them. A raw number without a label is refused before any of
+// The label of a number and the number of a label, as the pages of 000 and 004 list them. A raw number without a label is refused before any of
 // these is asked; the last label stands there.
-ghost use Rattle.std.specs.Prelude.{◌≡◌};
+// Kept (2, 4): each `of_number` is a page's own list. Tried on `Plug` as a constant array: of labels, asked by `get`, it proves and is two lines longer, names
+// the last label twice, and fits no list with gaps; of pairs, searched by `find`, the proof stood open at `plug_of` of what is found. No `From`, which has one
+// definition (`from_gives`) where a label has two, `label_of` and `number_of`; no `TryFrom`, since no number is without an answer; rt ci refuses impls that a
+// macro writes.
+ghost use Rattle.std.proofs.Common.{rules};
+ghost use Rattle.std.specs.Prelude.{◌≡◌, ℕ, pos};
+ghost use Rattle.message_fields.specs.Fields.{natural_of};
 ghost use Rattle.message_types.specs.Labels.{enable_of, state_of, protocol_of, plug_of, status_of, function_of, mode_of, contactors_of, lowering_of, end_of, origin_of, cp_of, pp_of, permission_of, button_of, step_of, validity_of, pilot_of, ce_of, mating_of};
 ghost use Rattle.message_types.specs.Labels.{enable_number, state_number, protocol_number, plug_number, status_number, function_number, mode_number, contactors_number, lowering_number, end_number, origin_number, cp_number, pp_number, permission_number, button_number, step_number, validity_number, pilot_number, ce_number, mating_number};
 
@@ -9,461 +15,463 @@ use crate::{
     Permission, PilotState, Plug, PowerFunction, PpState, Protocol, SessionEnd, SetpointsMode,
     Step, StopOrigin, SystemEnable, Validity,
 };
+use message_fields::natural;
 
-pub fn enable_of(x: u64) -> SystemEnable
-    ensures { result ≡ enable_of x }
-{
-    match x {
-        0 => SystemEnable::NotAllowed,
-        _ => SystemEnable::Allowed,
+/// A type of labels: each has its number, under which a signal carries it.
+pub trait Label: Copy {
+    ghost number_of: { Self → ℕ };
+
+    ghost label_of: { ℕ → Self };
+
+    fn number(self) -> u8
+        ensures { result ≡ number_of self };
+
+    /// The label of a number; for a number without a label, the last one.
+    fn of_number(x: u64) -> Self
+        ensures { result ≡ label_of x };
+
+    ghost is_labelled: { (l : Self) → label_of (number_of l) ≡ l };
+
+    /// The label of its signal's raw number.
+    final fn of_raw(z: i64) -> Self
+        ensures { result ≡ label_of (natural_of z) }
+    {
+        Self::of_number(natural(z))
+    }
+
+    /// The raw number of its signal.
+    final fn raw(self) -> i64
+        ensures { result ≡ pos (number_of self) }
+    {
+        i64::from(self.number())
     }
 }
 
-pub fn enable_number(l: SystemEnable) -> u8
-    ensures { result ≡ enable_number l }
-{
-    match l {
-        SystemEnable::NotAllowed => 0,
-        SystemEnable::Allowed => 1,
+impl Label for SystemEnable {
+    ghost number_of = { enable_number };
+
+    ghost label_of = { enable_of };
+
+    ghost is_labelled = { Prim.search rules };
+
+    fn number(self) -> u8 {
+        self as u8
+    }
+
+    fn of_number(x: u64) -> Self {
+        match x {
+            0 => SystemEnable::NotAllowed,
+            _ => SystemEnable::Allowed,
+        }
     }
 }
 
-pub fn state_of(x: u64) -> ControllerState
-    ensures { result ≡ state_of x }
-{
-    match x {
-        0 => ControllerState::Initialising,
-        1 => ControllerState::WaitingForPev,
-        2 => ControllerState::NegotiatingConnection,
-        3 => ControllerState::ConnectedWithFullInfo,
-        4 => ControllerState::InsulationTest,
-        5 => ControllerState::Precharge,
-        6 => ControllerState::WaitingForCharge,
-        7 => ControllerState::Charging,
-        8 => ControllerState::EndingCharge,
-        9 => ControllerState::WeldingDetection,
-        10 => ControllerState::ClosingCommunication,
-        11 => ControllerState::CcsAuthorisationProcess,
-        12 => ControllerState::NotAvailable,
-        _ => ControllerState::ChargePause,
+impl Label for ControllerState {
+    ghost number_of = { state_number };
+
+    ghost label_of = { state_of };
+
+    ghost is_labelled = { Prim.search rules };
+
+    fn number(self) -> u8 {
+        self as u8
+    }
+
+    fn of_number(x: u64) -> Self {
+        match x {
+            0 => ControllerState::Initialising,
+            1 => ControllerState::WaitingForPev,
+            2 => ControllerState::NegotiatingConnection,
+            3 => ControllerState::ConnectedWithFullInfo,
+            4 => ControllerState::InsulationTest,
+            5 => ControllerState::Precharge,
+            6 => ControllerState::WaitingForCharge,
+            7 => ControllerState::Charging,
+            8 => ControllerState::EndingCharge,
+            9 => ControllerState::WeldingDetection,
+            10 => ControllerState::ClosingCommunication,
+            11 => ControllerState::CcsAuthorisationProcess,
+            12 => ControllerState::NotAvailable,
+            _ => ControllerState::ChargePause,
+        }
     }
 }
 
-pub fn state_number(l: ControllerState) -> u8
-    ensures { result ≡ state_number l }
-{
-    match l {
-        ControllerState::Initialising => 0,
-        ControllerState::WaitingForPev => 1,
-        ControllerState::NegotiatingConnection => 2,
-        ControllerState::ConnectedWithFullInfo => 3,
-        ControllerState::InsulationTest => 4,
-        ControllerState::Precharge => 5,
-        ControllerState::WaitingForCharge => 6,
-        ControllerState::Charging => 7,
-        ControllerState::EndingCharge => 8,
-        ControllerState::WeldingDetection => 9,
-        ControllerState::ClosingCommunication => 10,
-        ControllerState::CcsAuthorisationProcess => 11,
-        ControllerState::NotAvailable => 12,
-        ControllerState::ChargePause => 13,
+impl Label for Protocol {
+    ghost number_of = { protocol_number };
+
+    ghost label_of = { protocol_of };
+
+    ghost is_labelled = { Prim.search rules };
+
+    fn number(self) -> u8 {
+        self as u8
+    }
+
+    fn of_number(x: u64) -> Self {
+        match x {
+            0 => Protocol::CcsDin70121v2012,
+            1 => Protocol::CcsIso15118v2010,
+            2 => Protocol::CcsIso15118v2013,
+            3 => Protocol::Chademo09,
+            4 => Protocol::Chademo10,
+            5 => Protocol::Chademo20,
+            6 => Protocol::CcsPwm,
+            _ => Protocol::CcsIso15118v2022,
+        }
     }
 }
 
-pub fn protocol_of(x: u64) -> Protocol
-    ensures { result ≡ protocol_of x }
-{
-    match x {
-        0 => Protocol::CcsDin70121v2012,
-        1 => Protocol::CcsIso15118v2010,
-        2 => Protocol::CcsIso15118v2013,
-        3 => Protocol::Chademo09,
-        4 => Protocol::Chademo10,
-        5 => Protocol::Chademo20,
-        6 => Protocol::CcsPwm,
-        _ => Protocol::CcsIso15118v2022,
+impl Label for Plug {
+    ghost number_of = { plug_number };
+
+    ghost label_of = { plug_of };
+
+    ghost is_labelled = { Prim.search rules };
+
+    fn number(self) -> u8 {
+        self as u8
+    }
+
+    fn of_number(x: u64) -> Self {
+        match x {
+            0 => Plug::CcsDcCore,
+            1 => Plug::CcsDcExtended,
+            2 => Plug::Chademo,
+            3 => Plug::CcsAc,
+            _ => Plug::Mcs,
+        }
     }
 }
 
-pub fn protocol_number(l: Protocol) -> u8
-    ensures { result ≡ protocol_number l }
-{
-    match l {
-        Protocol::CcsDin70121v2012 => 0,
-        Protocol::CcsIso15118v2010 => 1,
-        Protocol::CcsIso15118v2013 => 2,
-        Protocol::Chademo09 => 3,
-        Protocol::Chademo10 => 4,
-        Protocol::Chademo20 => 5,
-        Protocol::CcsPwm => 6,
-        Protocol::CcsIso15118v2022 => 7,
+impl Label for ChargeStatus {
+    ghost number_of = { status_number };
+
+    ghost label_of = { status_of };
+
+    ghost is_labelled = { Prim.search rules };
+
+    fn number(self) -> u8 {
+        self as u8
+    }
+
+    fn of_number(x: u64) -> Self {
+        match x {
+            0 => ChargeStatus::ChargeStopped,
+            _ => ChargeStatus::ChargeStarted,
+        }
     }
 }
 
-pub fn plug_of(x: u64) -> Plug
-    ensures { result ≡ plug_of x }
-{
-    match x {
-        0 => Plug::CcsDcCore,
-        1 => Plug::CcsDcExtended,
-        2 => Plug::Chademo,
-        3 => Plug::CcsAc,
-        _ => Plug::Mcs,
+impl Label for PowerFunction {
+    ghost number_of = { function_number };
+
+    ghost label_of = { function_of };
+
+    ghost is_labelled = { Prim.search rules };
+
+    fn number(self) -> u8 {
+        self as u8
+    }
+
+    fn of_number(x: u64) -> Self {
+        match x {
+            0 => PowerFunction::Off,
+            1 => PowerFunction::Standby,
+            2 => PowerFunction::InsulationTest,
+            4 => PowerFunction::Precharge,
+            _ => PowerFunction::PowerTransfer,
+        }
     }
 }
 
-pub fn plug_number(l: Plug) -> u8
-    ensures { result ≡ plug_number l }
-{
-    match l {
-        Plug::CcsDcCore => 0,
-        Plug::CcsDcExtended => 1,
-        Plug::Chademo => 2,
-        Plug::CcsAc => 3,
-        Plug::Mcs => 4,
+impl Label for SetpointsMode {
+    ghost number_of = { mode_number };
+
+    ghost label_of = { mode_of };
+
+    ghost is_labelled = { Prim.search rules };
+
+    fn number(self) -> u8 {
+        self as u8
+    }
+
+    fn of_number(x: u64) -> Self {
+        match x {
+            0 => SetpointsMode::TargetMode,
+            _ => SetpointsMode::RangeMode,
+        }
     }
 }
 
-pub fn status_of(x: u64) -> ChargeStatus
-    ensures { result ≡ status_of x }
-{
-    match x {
-        0 => ChargeStatus::ChargeStopped,
-        _ => ChargeStatus::ChargeStarted,
+impl Label for OutputContactors {
+    ghost number_of = { contactors_number };
+
+    ghost label_of = { contactors_of };
+
+    ghost is_labelled = { Prim.search rules };
+
+    fn number(self) -> u8 {
+        self as u8
+    }
+
+    fn of_number(x: u64) -> Self {
+        match x {
+            0 => OutputContactors::Open,
+            _ => OutputContactors::Close,
+        }
     }
 }
 
-pub fn status_number(l: ChargeStatus) -> u8
-    ensures { result ≡ status_number l }
-{
-    match l {
-        ChargeStatus::ChargeStopped => 0,
-        ChargeStatus::ChargeStarted => 1,
+impl Label for LowerOutput {
+    ghost number_of = { lowering_number };
+
+    ghost label_of = { lowering_of };
+
+    ghost is_labelled = { Prim.search rules };
+
+    fn number(self) -> u8 {
+        self as u8
+    }
+
+    fn of_number(x: u64) -> Self {
+        match x {
+            0 => LowerOutput::NoLowering,
+            _ => LowerOutput::Lowering,
+        }
     }
 }
 
-pub fn function_of(x: u64) -> PowerFunction
-    ensures { result ≡ function_of x }
-{
-    match x {
-        0 => PowerFunction::Off,
-        1 => PowerFunction::Standby,
-        2 => PowerFunction::InsulationTest,
-        4 => PowerFunction::Precharge,
-        _ => PowerFunction::PowerTransfer,
+impl Label for SessionEnd {
+    ghost number_of = { end_number };
+
+    ghost label_of = { end_of };
+
+    ghost is_labelled = { Prim.search rules };
+
+    fn number(self) -> u8 {
+        self as u8
+    }
+
+    fn of_number(x: u64) -> Self {
+        match x {
+            0 => SessionEnd::CleanStop,
+            _ => SessionEnd::RushedStop,
+        }
     }
 }
 
-pub fn function_number(l: PowerFunction) -> u8
-    ensures { result ≡ function_number l }
-{
-    match l {
-        PowerFunction::Off => 0,
-        PowerFunction::Standby => 1,
-        PowerFunction::InsulationTest => 2,
-        PowerFunction::Precharge => 4,
-        PowerFunction::PowerTransfer => 8,
+impl Label for StopOrigin {
+    ghost number_of = { origin_number };
+
+    ghost label_of = { origin_of };
+
+    ghost is_labelled = { Prim.search rules };
+
+    fn number(self) -> u8 {
+        self as u8
+    }
+
+    fn of_number(x: u64) -> Self {
+        match x {
+            1 => StopOrigin::Evse,
+            _ => StopOrigin::Pev,
+        }
     }
 }
 
-pub fn mode_of(x: u64) -> SetpointsMode
-    ensures { result ≡ mode_of x }
-{
-    match x {
-        0 => SetpointsMode::TargetMode,
-        _ => SetpointsMode::RangeMode,
+impl Label for CpState {
+    ghost number_of = { cp_number };
+
+    ghost label_of = { cp_of };
+
+    ghost is_labelled = { Prim.search rules };
+
+    fn number(self) -> u8 {
+        self as u8
+    }
+
+    fn of_number(x: u64) -> Self {
+        match x {
+            0 => CpState::Unknown,
+            1 => CpState::A,
+            2 => CpState::B,
+            3 => CpState::C,
+            4 => CpState::D,
+            5 => CpState::E,
+            6 => CpState::F,
+            _ => CpState::Invalid,
+        }
     }
 }
 
-pub fn mode_number(l: SetpointsMode) -> u8
-    ensures { result ≡ mode_number l }
-{
-    match l {
-        SetpointsMode::TargetMode => 0,
-        SetpointsMode::RangeMode => 1,
+impl Label for PpState {
+    ghost number_of = { pp_number };
+
+    ghost label_of = { pp_of };
+
+    ghost is_labelled = { Prim.search rules };
+
+    fn number(self) -> u8 {
+        self as u8
+    }
+
+    fn of_number(x: u64) -> Self {
+        match x {
+            0 => PpState::NoCable,
+            1 => PpState::Amps13,
+            2 => PpState::Amps20,
+            3 => PpState::Amps32,
+            4 => PpState::Amps63,
+            5 => PpState::Type1,
+            6 => PpState::Type1Pressed,
+            _ => PpState::Error,
+        }
     }
 }
 
-pub fn contactors_of(x: u64) -> OutputContactors
-    ensures { result ≡ contactors_of x }
-{
-    match x {
-        0 => OutputContactors::Open,
-        _ => OutputContactors::Close,
+impl Label for Permission {
+    ghost number_of = { permission_number };
+
+    ghost label_of = { permission_of };
+
+    ghost is_labelled = { Prim.search rules };
+
+    fn number(self) -> u8 {
+        self as u8
+    }
+
+    fn of_number(x: u64) -> Self {
+        match x {
+            0 => Permission::NotAllowed,
+            _ => Permission::Allowed,
+        }
     }
 }
 
-pub fn contactors_number(l: OutputContactors) -> u8
-    ensures { result ≡ contactors_number l }
-{
-    match l {
-        OutputContactors::Open => 0,
-        OutputContactors::Close => 1,
+impl Label for Button {
+    ghost number_of = { button_number };
+
+    ghost label_of = { button_of };
+
+    ghost is_labelled = { Prim.search rules };
+
+    fn number(self) -> u8 {
+        self as u8
+    }
+
+    fn of_number(x: u64) -> Self {
+        match x {
+            0 => Button::NotPressed,
+            _ => Button::Pressed,
+        }
     }
 }
 
-pub fn lowering_of(x: u64) -> LowerOutput
-    ensures { result ≡ lowering_of x }
-{
-    match x {
-        0 => LowerOutput::NoLowering,
-        _ => LowerOutput::Lowering,
+impl Label for Step {
+    ghost number_of = { step_number };
+
+    ghost label_of = { step_of };
+
+    ghost is_labelled = { Prim.search rules };
+
+    fn number(self) -> u8 {
+        self as u8
+    }
+
+    fn of_number(x: u64) -> Self {
+        match x {
+            0 => Step::NotDone,
+            _ => Step::Done,
+        }
     }
 }
 
-pub fn lowering_number(l: LowerOutput) -> u8
-    ensures { result ≡ lowering_number l }
-{
-    match l {
-        LowerOutput::NoLowering => 0,
-        LowerOutput::Lowering => 1,
+impl Label for Validity {
+    ghost number_of = { validity_number };
+
+    ghost label_of = { validity_of };
+
+    ghost is_labelled = { Prim.search rules };
+
+    fn number(self) -> u8 {
+        self as u8
+    }
+
+    fn of_number(x: u64) -> Self {
+        match x {
+            0 => Validity::Invalid,
+            _ => Validity::Valid,
+        }
     }
 }
 
-pub fn end_of(x: u64) -> SessionEnd
-    ensures { result ≡ end_of x }
-{
-    match x {
-        0 => SessionEnd::CleanStop,
-        _ => SessionEnd::RushedStop,
+impl Label for PilotState {
+    ghost number_of = { pilot_number };
+
+    ghost label_of = { pilot_of };
+
+    ghost is_labelled = { Prim.search rules };
+
+    fn number(self) -> u8 {
+        self as u8
+    }
+
+    fn of_number(x: u64) -> Self {
+        match x {
+            0 => PilotState::EOrF,
+            3 => PilotState::D,
+            6 => PilotState::C,
+            9 => PilotState::B,
+            _ => PilotState::A,
+        }
     }
 }
 
-pub fn end_number(l: SessionEnd) -> u8
-    ensures { result ≡ end_number l }
-{
-    match l {
-        SessionEnd::CleanStop => 0,
-        SessionEnd::RushedStop => 1,
+impl Label for CeState {
+    ghost number_of = { ce_number };
+
+    ghost label_of = { ce_of };
+
+    ghost is_labelled = { Prim.search rules };
+
+    fn number(self) -> u8 {
+        self as u8
+    }
+
+    fn of_number(x: u64) -> Self {
+        match x {
+            0 => CeState::Undefined,
+            1 => CeState::A,
+            2 => CeState::B0,
+            3 => CeState::B0Aux,
+            4 => CeState::B,
+            5 => CeState::BAux,
+            6 => CeState::C,
+            7 => CeState::CAux,
+            8 => CeState::Ec,
+            _ => CeState::E,
+        }
     }
 }
 
-pub fn origin_of(x: u64) -> StopOrigin
-    ensures { result ≡ origin_of x }
-{
-    match x {
-        1 => StopOrigin::Evse,
-        _ => StopOrigin::Pev,
-    }
-}
+impl Label for Mating {
+    ghost number_of = { mating_number };
 
-pub fn origin_number(l: StopOrigin) -> u8
-    ensures { result ≡ origin_number l }
-{
-    match l {
-        StopOrigin::Evse => 1,
-        StopOrigin::Pev => 3,
-    }
-}
+    ghost label_of = { mating_of };
 
-pub fn cp_of(x: u64) -> CpState
-    ensures { result ≡ cp_of x }
-{
-    match x {
-        0 => CpState::Unknown,
-        1 => CpState::A,
-        2 => CpState::B,
-        3 => CpState::C,
-        4 => CpState::D,
-        5 => CpState::E,
-        6 => CpState::F,
-        _ => CpState::Invalid,
-    }
-}
+    ghost is_labelled = { Prim.search rules };
 
-pub fn cp_number(l: CpState) -> u8
-    ensures { result ≡ cp_number l }
-{
-    match l {
-        CpState::Unknown => 0,
-        CpState::A => 1,
-        CpState::B => 2,
-        CpState::C => 3,
-        CpState::D => 4,
-        CpState::E => 5,
-        CpState::F => 6,
-        CpState::Invalid => 7,
+    fn number(self) -> u8 {
+        self as u8
     }
-}
 
-pub fn pp_of(x: u64) -> PpState
-    ensures { result ≡ pp_of x }
-{
-    match x {
-        0 => PpState::NoCable,
-        1 => PpState::Amps13,
-        2 => PpState::Amps20,
-        3 => PpState::Amps32,
-        4 => PpState::Amps63,
-        5 => PpState::Type1,
-        6 => PpState::Type1Pressed,
-        _ => PpState::Error,
-    }
-}
-
-pub fn pp_number(l: PpState) -> u8
-    ensures { result ≡ pp_number l }
-{
-    match l {
-        PpState::NoCable => 0,
-        PpState::Amps13 => 1,
-        PpState::Amps20 => 2,
-        PpState::Amps32 => 3,
-        PpState::Amps63 => 4,
-        PpState::Type1 => 5,
-        PpState::Type1Pressed => 6,
-        PpState::Error => 7,
-    }
-}
-
-pub fn permission_of(x: u64) -> Permission
-    ensures { result ≡ permission_of x }
-{
-    match x {
-        0 => Permission::NotAllowed,
-        _ => Permission::Allowed,
-    }
-}
-
-pub fn permission_number(l: Permission) -> u8
-    ensures { result ≡ permission_number l }
-{
-    match l {
-        Permission::NotAllowed => 0,
-        Permission::Allowed => 1,
-    }
-}
-
-pub fn button_of(x: u64) -> Button
-    ensures { result ≡ button_of x }
-{
-    match x {
-        0 => Button::NotPressed,
-        _ => Button::Pressed,
-    }
-}
-
-pub fn button_number(l: Button) -> u8
-    ensures { result ≡ button_number l }
-{
-    match l {
-        Button::NotPressed => 0,
-        Button::Pressed => 1,
-    }
-}
-
-pub fn step_of(x: u64) -> Step
-    ensures { result ≡ step_of x }
-{
-    match x {
-        0 => Step::NotDone,
-        _ => Step::Done,
-    }
-}
-
-pub fn step_number(l: Step) -> u8
-    ensures { result ≡ step_number l }
-{
-    match l {
-        Step::NotDone => 0,
-        Step::Done => 1,
-    }
-}
-
-pub fn validity_of(x: u64) -> Validity
-    ensures { result ≡ validity_of x }
-{
-    match x {
-        0 => Validity::Invalid,
-        _ => Validity::Valid,
-    }
-}
-
-pub fn validity_number(l: Validity) -> u8
-    ensures { result ≡ validity_number l }
-{
-    match l {
-        Validity::Invalid => 0,
-        Validity::Valid => 1,
-    }
-}
-
-pub fn pilot_of(x: u64) -> PilotState
-    ensures { result ≡ pilot_of x }
-{
-    match x {
-        0 => PilotState::EOrF,
-        3 => PilotState::D,
-        6 => PilotState::C,
-        9 => PilotState::B,
-        _ => PilotState::A,
-    }
-}
-
-pub fn pilot_number(l: PilotState) -> u8
-    ensures { result ≡ pilot_number l }
-{
-    match l {
-        PilotState::EOrF => 0,
-        PilotState::D => 3,
-        PilotState::C => 6,
-        PilotState::B => 9,
-        PilotState::A => 12,
-    }
-}
-
-pub fn ce_of(x: u64) -> CeState
-    ensures { result ≡ ce_of x }
-{
-    match x {
-        0 => CeState::Undefined,
-        1 => CeState::A,
-        2 => CeState::B0,
-        3 => CeState::B0Aux,
-        4 => CeState::B,
-        5 => CeState::BAux,
-        6 => CeState::C,
-        7 => CeState::CAux,
-        8 => CeState::Ec,
-        _ => CeState::E,
-    }
-}
-
-pub fn ce_number(l: CeState) -> u8
-    ensures { result ≡ ce_number l }
-{
-    match l {
-        CeState::Undefined => 0,
-        CeState::A => 1,
-        CeState::B0 => 2,
-        CeState::B0Aux => 3,
-        CeState::B => 4,
-        CeState::BAux => 5,
-        CeState::C => 6,
-        CeState::CAux => 7,
-        CeState::Ec => 8,
-        CeState::E => 9,
-    }
-}
-
-pub fn mating_of(x: u64) -> Mating
-    ensures { result ≡ mating_of x }
-{
-    match x {
-        0 => Mating::Unmated,
-        1 => Mating::Mated,
-        2 => Mating::MatedEvAux,
-        _ => Mating::MatedEvseAux,
-    }
-}
-
-pub fn mating_number(l: Mating) -> u8
-    ensures { result ≡ mating_number l }
-{
-    match l {
-        Mating::Unmated => 0,
-        Mating::Mated => 1,
-        Mating::MatedEvAux => 2,
-        Mating::MatedEvseAux => 3,
+    fn of_number(x: u64) -> Self {
+        match x {
+            0 => Mating::Unmated,
+            1 => Mating::Mated,
+            2 => Mating::MatedEvAux,
+            _ => Mating::MatedEvseAux,
+        }
     }
 }

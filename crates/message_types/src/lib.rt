@@ -1,181 +1,187 @@
 // The messages as types, twenty-two of the charger pages and three of the safety controller's: their labels, their fields, and the number of each kind.
 // For every crate that names a message; how one is made of a frame's raw numbers stands in the crates above.
-ghost use Rattle.std.specs.Prelude.{◌≡◌};
+#![tactic(auto)]
+
+ghost use Rattle.std.specs.Prelude.{◌≡◌, ◌≤◌};
+ghost use Rattle.message_laws.specs.page_write.specs.Raws.{pad, signal_count};
 ghost use Rattle.message_types.specs.KindNumbers.{kind_of};
+
+use message_laws::page_write::{Raws, SIGNALS};
 
 pub mod labels; // labels.rt: labels and their numbers
 
-// ---- labels: "a label is a named case of its own type"
+// ---- labels: "a label is a named case of its own type", with its number of the pages
 
-#[derive(Clone, Copy)]
+#[derive(Clone, Copy, PartialEq, Eq)]
 pub enum SystemEnable {
-    NotAllowed,
-    Allowed,
+    NotAllowed = 0,
+    Allowed = 1,
 }
 
-#[derive(Clone, Copy)]
+#[derive(Clone, Copy, PartialEq, Eq)]
 pub enum ControllerState {
-    Initialising,
-    WaitingForPev,
-    NegotiatingConnection,
-    ConnectedWithFullInfo,
-    InsulationTest,
-    Precharge,
-    WaitingForCharge,
-    Charging,
-    EndingCharge,
-    WeldingDetection,
-    ClosingCommunication,
-    CcsAuthorisationProcess,
-    NotAvailable,
-    ChargePause,
+    Initialising = 0,
+    WaitingForPev = 1,
+    NegotiatingConnection = 2,
+    ConnectedWithFullInfo = 3,
+    InsulationTest = 4,
+    Precharge = 5,
+    WaitingForCharge = 6,
+    Charging = 7,
+    EndingCharge = 8,
+    WeldingDetection = 9,
+    ClosingCommunication = 10,
+    CcsAuthorisationProcess = 11,
+    NotAvailable = 12,
+    ChargePause = 13,
 }
 
-#[derive(Clone, Copy)]
+#[derive(Clone, Copy, PartialEq, Eq)]
 pub enum Protocol {
-    CcsDin70121v2012,
-    CcsIso15118v2010,
-    CcsIso15118v2013,
-    Chademo09,
-    Chademo10,
-    Chademo20,
-    CcsPwm,
-    CcsIso15118v2022,
+    CcsDin70121v2012 = 0,
+    CcsIso15118v2010 = 1,
+    CcsIso15118v2013 = 2,
+    Chademo09 = 3,
+    Chademo10 = 4,
+    Chademo20 = 5,
+    CcsPwm = 6,
+    CcsIso15118v2022 = 7,
 }
 
-#[derive(Clone, Copy)]
+#[derive(Clone, Copy, PartialEq, Eq)]
 pub enum Plug {
-    CcsDcCore,
-    CcsDcExtended,
-    Chademo,
-    CcsAc,
-    Mcs,
+    CcsDcCore = 0,
+    CcsDcExtended = 1,
+    Chademo = 2,
+    CcsAc = 3,
+    Mcs = 4,
 }
 
-#[derive(Clone, Copy)]
+#[derive(Clone, Copy, PartialEq, Eq)]
 pub enum ChargeStatus {
-    ChargeStopped,
-    ChargeStarted,
+    ChargeStopped = 0,
+    ChargeStarted = 1,
 }
 
-#[derive(Clone, Copy)]
+#[derive(Clone, Copy, PartialEq, Eq)]
 pub enum PowerFunction {
-    Off,
-    Standby,
-    InsulationTest,
-    Precharge,
-    PowerTransfer,
+    Off = 0,
+    Standby = 1,
+    InsulationTest = 2,
+    Precharge = 4,
+    PowerTransfer = 8,
 }
 
-#[derive(Clone, Copy)]
+#[derive(Clone, Copy, PartialEq, Eq)]
 pub enum SetpointsMode {
-    TargetMode,
-    RangeMode,
+    TargetMode = 0,
+    RangeMode = 1,
 }
 
-#[derive(Clone, Copy)]
+#[derive(Clone, Copy, PartialEq, Eq)]
 pub enum OutputContactors {
-    Open,
-    Close,
+    Open = 0,
+    Close = 1,
 }
 
-#[derive(Clone, Copy)]
+#[derive(Clone, Copy, PartialEq, Eq)]
 pub enum LowerOutput {
-    NoLowering,
-    Lowering,
+    NoLowering = 0,
+    Lowering = 1,
 }
 
-#[derive(Clone, Copy)]
+#[derive(Clone, Copy, PartialEq, Eq)]
 pub enum SessionEnd {
-    CleanStop,
-    RushedStop,
+    CleanStop = 0,
+    RushedStop = 1,
 }
 
-#[derive(Clone, Copy)]
+#[derive(Clone, Copy, PartialEq, Eq)]
 pub enum StopOrigin {
-    Evse,
-    Pev,
+    Evse = 1,
+    Pev = 3,
 }
 
-#[derive(Clone, Copy)]
+// Kept (2): 01 has "a label is a named case of its own type": Start_Charge_Authorisation's, as `SystemEnable` is System_Enable's.
+#[derive(Clone, Copy, PartialEq, Eq)]
 pub enum Permission {
-    NotAllowed,
-    Allowed,
+    NotAllowed = 0,
+    Allowed = 1,
 }
 
-#[derive(Clone, Copy)]
+#[derive(Clone, Copy, PartialEq, Eq)]
 pub enum Button {
-    NotPressed,
-    Pressed,
+    NotPressed = 0,
+    Pressed = 1,
 }
 
-#[derive(Clone, Copy)]
+#[derive(Clone, Copy, PartialEq, Eq)]
 pub enum Step {
-    NotDone,
-    Done,
+    NotDone = 0,
+    Done = 1,
 }
 
-#[derive(Clone, Copy)]
+#[derive(Clone, Copy, PartialEq, Eq)]
 pub enum Validity {
-    Invalid,
-    Valid,
+    Invalid = 0,
+    Valid = 1,
 }
 
-#[derive(Clone, Copy)]
+#[derive(Clone, Copy, PartialEq, Eq)]
 pub enum PilotState {
-    EOrF,
-    D,
-    C,
-    B,
-    A,
+    EOrF = 0,
+    D = 3,
+    C = 6,
+    B = 9,
+    A = 12,
 }
 
-#[derive(Clone, Copy)]
+#[derive(Clone, Copy, PartialEq, Eq)]
 pub enum CeState {
-    Undefined,
-    A,
-    B0,
-    B0Aux,
-    B,
-    BAux,
-    C,
-    CAux,
-    Ec,
-    E,
+    Undefined = 0,
+    A = 1,
+    B0 = 2,
+    B0Aux = 3,
+    B = 4,
+    BAux = 5,
+    C = 6,
+    CAux = 7,
+    Ec = 8,
+    E = 9,
 }
 
-#[derive(Clone, Copy)]
+#[derive(Clone, Copy, PartialEq, Eq)]
 pub enum Mating {
-    Unmated,
-    Mated,
-    MatedEvAux,
-    MatedEvseAux,
+    Unmated = 0,
+    Mated = 1,
+    MatedEvAux = 2,
+    MatedEvseAux = 3,
 }
 
 // The state of the control pilot and that of the proximity pin, as the safety controller tells them.
 
-#[derive(Clone, Copy)]
+#[derive(Clone, Copy, PartialEq, Eq)]
 pub enum CpState {
-    Unknown,
-    A,
-    B,
-    C,
-    D,
-    E,
-    F,
-    Invalid,
+    Unknown = 0,
+    A = 1,
+    B = 2,
+    C = 3,
+    D = 4,
+    E = 5,
+    F = 6,
+    Invalid = 7,
 }
 
-#[derive(Clone, Copy)]
+#[derive(Clone, Copy, PartialEq, Eq)]
 pub enum PpState {
-    NoCable,
-    Amps13,
-    Amps20,
-    Amps32,
-    Amps63,
-    Type1,
-    Type1Pressed,
-    Error,
+    NoCable = 0,
+    Amps13 = 1,
+    Amps20 = 2,
+    Amps32 = 3,
+    Amps63 = 4,
+    Type1 = 5,
+    Type1Pressed = 6,
+    Error = 7,
 }
 
 // ---- messages of the charger: volts and amperes in whole tenths, temperatures in °C, insulation in kOhm
@@ -203,7 +209,7 @@ pub struct ControllerStatus {
     pub state: ControllerState,
 }
 
-#[derive(Clone, Copy)]
+#[derive(Clone, Copy, PartialEq, Eq)]
 pub struct NewChargeSession {
     pub protocol: Protocol,
     pub plug: Plug,
@@ -236,6 +242,7 @@ pub struct EmergencyStop {
     pub origin: StopOrigin,
 }
 
+// Kept (6): no array, since document 000 names each signal, Byte0 to Byte5, and a field is a signal's.
 #[derive(Clone, Copy)]
 pub struct EvId {
     pub byte0: u8,
@@ -392,6 +399,7 @@ pub struct ChargeState1 {
     pub imdfailure: bool,
 }
 
+// Kept (2, 6): no array of probes, since document 004 names each signal, and a field is a signal's.
 #[derive(Clone, Copy)]
 pub struct Pt1000State {
     pub temperature1: i16,
@@ -408,57 +416,12 @@ pub struct Pt1000State {
     pub failed4: bool,
 }
 
-// ---- the kinds, numbered in the table's order; from 12 to 29 the kinds of document 001
-
-pub const STATUS: usize = 0;
-
-pub const PARAMETERS: usize = 1;
-
-pub const CONTROLLER: usize = 2;
-
-pub const SESSION: usize = 3;
-
-pub const CHANGE: usize = 4;
-
-pub const CONTROL: usize = 5;
-
-pub const FINISHED: usize = 6;
-
-pub const STOP: usize = 7;
-
-pub const ID: usize = 8;
-
-pub const SAFETY_CONTROL: usize = 9;
-
-pub const SAFETY_STATE: usize = 10;
-
-pub const PROBES: usize = 11;
-
-pub const SEQUENCE: usize = 30;
-
-pub const OUTPUTS: usize = 31;
-
-pub const BATTERY: usize = 32;
-
-pub const VOLTAGES: usize = 33;
-
-pub const CHARGE_LIMITS: usize = 34;
-
-pub const DISCHARGE_LIMITS: usize = 35;
-
-pub const ENERGY: usize = 36;
-
-pub const CUI: usize = 37;
-
-pub const SECC: usize = 38;
-
-pub const SPCC: usize = 39;
-
-pub const CCS: usize = 40;
-
-pub const MCS: usize = 41;
-
-pub const OCPP: usize = 42;
+// ---- the kinds, by their names
+pub use message_laws::page_write::page_table::newer::{
+    BATTERY, CCS, CHANGE, CHARGE_LIMITS, CONTROL, CONTROLLER, CUI, DISCHARGE_LIMITS, ENERGY,
+    FINISHED, ID, MCS, OCPP, OUTPUTS, PARAMETERS, PROBES, SAFETY_CONTROL, SAFETY_STATE, SECC,
+    SEQUENCE, SESSION, SPCC, STATUS, STOP, VOLTAGES,
+};
 
 #[derive(Clone, Copy)]
 pub enum Message {
@@ -489,6 +452,7 @@ pub enum Message {
     Ocpp(OcppControl),
 }
 
+// Kept (4): `usize::from(m)` would not say which number of a message it is; kinds number the table's rows, and C hands them out.
 pub fn kind_of(m: Message) -> usize
     ensures { result ≡ kind_of m }
 {
@@ -519,4 +483,15 @@ pub fn kind_of(m: Message) -> usize
         Message::Mcs(_) => MCS,
         Message::Ocpp(_) => OCPP,
     }
+}
+
+// The raw numbers of a message's signals, and 0 past them; numbers past the sixteenth are left out.
+// Kept (6): no heap and fixed memory is a rule of the project, and no message has more than `SIGNALS`.
+pub fn padded<const N: usize>(raws: [i64; N]) -> Raws
+    ensures { result ≡ pad signal_count raws.entry }
+{
+    let mut f = [0; SIGNALS];
+    let n = N.min(SIGNALS);
+    f[..n].copy_from_slice(&raws[..n]);
+    f
 }

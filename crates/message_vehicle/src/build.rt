@@ -1,4 +1,7 @@
 // A message of its signals' raw numbers, in the table's order.
+// Kept (2): the messages' fields have names of their own, which the codec's users read, so each function names its own; what they do alike, taking a field or a
+// label of its raw number, is message_fields' and `Label`'s.
+// Kept (2): a trait of both functions is longer (message_safety/build.rt says by how much), and its impls would stand in the crate of the types.
 ghost use Rattle.std.specs.Prelude.{◌≡◌};
 ghost use Rattle.message_fields.specs.Fields.{at};
 ghost use Rattle.message_vehicle.specs.Build.{battery_of, voltages_of, limits_of, energy_of, ocpp_of};
@@ -8,8 +11,9 @@ use message_types::{
     EvInformationBattery, EvInformationEnergy, EvInformationLimits, EvInformationVoltages,
     OcppControl,
 };
+use page_write::Raws;
 
-pub fn battery(f: [i64; 16]) -> EvInformationBattery
+pub fn battery(f: Raws) -> EvInformationBattery
     ensures { result ≡ battery_of (at f) }
 {
     EvInformationBattery {
@@ -21,7 +25,7 @@ pub fn battery(f: [i64; 16]) -> EvInformationBattery
     }
 }
 
-pub fn voltages(f: [i64; 16]) -> EvInformationVoltages
+pub fn voltages(f: Raws) -> EvInformationVoltages
     ensures { result ≡ voltages_of (at f) }
 {
     EvInformationVoltages {
@@ -31,7 +35,7 @@ pub fn voltages(f: [i64; 16]) -> EvInformationVoltages
     }
 }
 
-pub fn limits(f: [i64; 16]) -> EvInformationLimits
+pub fn limits(f: Raws) -> EvInformationLimits
     ensures { result ≡ limits_of (at f) }
 {
     EvInformationLimits {
@@ -42,7 +46,7 @@ pub fn limits(f: [i64; 16]) -> EvInformationLimits
     }
 }
 
-pub fn energy(f: [i64; 16]) -> EvInformationEnergy
+pub fn energy(f: Raws) -> EvInformationEnergy
     ensures { result ≡ energy_of (at f) }
 {
     EvInformationEnergy {
@@ -52,7 +56,7 @@ pub fn energy(f: [i64; 16]) -> EvInformationEnergy
     }
 }
 
-pub fn ocpp(f: [i64; 16]) -> OcppControl
+pub fn ocpp(f: Raws) -> OcppControl
     ensures { result ≡ ocpp_of (at f) }
 {
     OcppControl {

@@ -1,10 +1,11 @@
 -- Reading a message refuses as reading the frame does (`read-gives`), and writing one gives 7 and 8 each exactly in its case (`write-7`, `write-8`).
 -- Assumes nothing.
+use Rattle.std.specs.Prelude.{Ok, Err}
 use mathlib.Core.Path.{◌≡◌, refl, ap, ap₂, ◌∙◌, subst}
 use mathlib.Core.Bool.{Bool, true, false, ◌&&◌}
 use mathlib.Core.Logic.{inl, inr, ◌↔◌}
 use mathlib.Core.List.{List}
-use Prim.Native.Nat.{ℕ, ◌<◌}
+use Prim.Native.Nat.{ℕ}
 use native.Mathlib.Omega.{arith}
 use lib.Dec.{leb}
 use lib.IntN.{pos}
@@ -13,8 +14,7 @@ use borrow.Author.Tests.{leb-false, lt-leb}
 use Rattle.refusals.specs.declared.Refusal.TheVariants.{NoRawNumber, ShortBuffer}
 use Rattle.page_table.specs.Table.{no_row, rows_of, length_of}
 use Rattle.page_table.proofs.Rules.{both_true, not_both}
-use Rattle.page_read.specs.declared.Judged.{Judged}
-use Rattle.page_read.specs.declared.Judged.TheVariants as judged
+use Rattle.page_read.specs.Judged.{Judged}
 use Rattle.page_read.specs.Judge.{judge_of}
 use Rattle.page_read.specs.Refusing as reading
 use Rattle.page_write.specs.Refusing.{Gives}
@@ -37,8 +37,8 @@ unfolding read_of
 read_gives m x bs c = (λ g. there (judge_of m x bs) g, λ g. (g.0, ap reading_of g.1, g.2))
   where
     there : (j : Judged) → ReadGives c (reading_of j) → reading.Gives c j
-    there (judged.Frame k n) (w, e, q) = absurd (let z : ◌≡◌ {A = ℕ} 0 1 = cc in omega arith)
-    there (judged.Refused v) (w, e, q) = (w, ap judged.Refused (cc), q)
+    there (Ok (k, n)) (w, e, q) = absurd (let z : ◌≡◌ {A = ℕ} 0 1 = cc in omega arith)
+    there (Err v) (w, e, q) = (w, ap Err (cc), q)
 
 -- ---- a message that cannot be written
 

@@ -1,232 +1,94 @@
 // Lines from standard input into the file.
-use crate::lines::Record;
-use crate::night::{Night, at_end, flushed, fresh, is_over, stored};
-use crate::{file, lines, pieces, say};
-use log_walk::file::front;
+// Kept (6): fixed memory: a line, its record and a piece of the input have buffers of a fixed length.
+use crate::file::Ours;
+use crate::lines::LineError;
+use crate::night::Night;
+use crate::pieces::Shown;
+use crate::{lines, pieces, say};
+use console::front;
+use console::lines::Line;
 use notation_read::script;
-use std::fs::File;
-use std::io;
-use std::num::wrapping_add_u64;
+use program_parts::voice::{Said, Voice};
 
 // desk.md: "a line over 65,535 bytes"
 const LONGEST: usize = 65535;
 
-fn taken(
-    rt: HostRuntime,
-    night: Night,
-    s: &[u8],
-    log: &File,
-    name: &[u8],
-    room: &mut [u8],
-    out: &mut [u8],
-) -> Night {
+// A record has at most 20 bytes.
+const RECORD: usize = 32;
+
+// What a line is that has no record.
+const NEITHER: &[u8] = b": no frame or tick";
+
+// A whole line: its record is stored, or what is wrong with it is said. A line over its length is skipped where it is a comment.
+fn take(line: &Line, night: &mut Night, room: &mut [u8]) -> Result<(), Said> {
+    let s = line.text();
     if script::is_skipped(s) {
-        return night;
+        return Ok(());
     }
-    match lines::record_of(s, room, out) {
-        Record::Bad => {
-            say::no_record(rt, night.line, out);
-            night
+    if line.over {
+        say::no_record(&mut night.ours.voice, line.number, NEITHER);
+        return Ok(());
+    }
+    let mut out = [0u8; RECORD];
+    match lines::record_of(s, room, &mut out) {
+        Ok(record) => return night.store(line.number, record),
+        Err(LineError::NoRecord) => {
+            say::no_record(&mut night.ours.voice, line.number, NEITHER);
         }
-        Record::Refused(why) => {
-            say::refused(rt, night.line, refusals::refusal_number(why), out);
-            night
-        }
-        Record::Bytes(size) => stored(rt, night, size, log, name, out),
+        Err(LineError::Refused(why)) => say::refused(&mut night.ours.voice, line.number, why),
     }
-}
-
-// A line over its length is skipped where it is a comment.
-fn too_long(rt: HostRuntime, night: Night, line: &[u8], out: &mut [u8]) -> Night {
-    if script::is_skipped(line) {
-        return night;
-    }
-    say::no_record(rt, night.line, out);
-    night
-}
-
-// The line in the buffer is whole.
-fn ended(
-    rt: HostRuntime,
-    night: Night,
-    log: &File,
-    name: &[u8],
-    line: &[u8],
-    room: &mut [u8],
-    out: &mut [u8],
-) -> Night {
-    let have = night.have;
-    let mut n = night;
-    n.have = 0;
-    n.over = false;
-    n.line = wrapping_add_u64(n.line, 1);
-    if night.over {
-        return too_long(rt, n, line, out);
-    }
-    taken(rt, n, front(line, have), log, name, room, out)
-}
-
-fn kept(night: Night, line: &mut [u8], b: u8) -> Night {
-    let have = night.have;
-    let mut n = night;
-    if have >= LONGEST {
-        n.over = true;
-        return n;
-    }
-    if have >= line.len() {
-        n.over = true;
-        return n;
-    }
-    line[have] = b;
-    n.have = have + 1;
-    n
+    Ok(())
 }
 
 // The bytes of a piece, one after the other.
-fn fed(
-    rt: HostRuntime,
-    night: Night,
-    log: &File,
-    name: &[u8],
-    piece: &[u8],
-    line: &mut [u8],
-    room: &mut [u8],
-    out: &mut [u8],
-) -> Night {
-    let mut n = night;
-    let mut i = 0;
-    while i < piece.len() {
-        let b = piece[i];
-        i += 1;
+fn feed(line: &mut Line, night: &mut Night, piece: &[u8], room: &mut [u8]) -> Result<(), Said> {
+    for &b in piece {
         if b == b'\n' {
-            n = ended(rt, n, log, name, line, room, out);
-            if n.stopped {
-                return n;
-            }
+            take(line, night, room)?;
+            line.next();
         } else {
-            n = kept(n, line, b);
+            line.push(b);
         }
     }
-    n
+    Ok(())
 }
 
-// How many bytes were read; none at the input's end, and none where the reading failed, which is said.
-fn counted(rt: HostRuntime, got: io::Result<usize>) -> usize {
-    match got {
-        Ok(n) => n,
-        Err(why) => {
-            console::fail(rt, b"nightlog: reading standard input", why);
-            0
+// To the input's end. All that was written is flushed before more lines are waited for.
+fn run(line: &mut Line, night: &mut Night, piece: &mut [u8]) -> Result<(), Said> {
+    let rt = night.ours.voice.rt;
+    let mut room = console::large_buffer();
+    for _ in 0..u64::MAX {
+        night.flush()?;
+        let n = console::next_piece(rt, b"nightlog: reading standard input", piece);
+        if n == 0 {
+            return Ok(());
         }
+        feed(line, night, front(piece, n), &mut room)?;
     }
-}
-
-// All that was written is flushed before more lines are waited for.
-fn read_on(
-    rt: HostRuntime,
-    night: Night,
-    log: &File,
-    name: &[u8],
-    piece: &mut [u8],
-    line: &mut [u8],
-    room: &mut [u8],
-    out: &mut [u8],
-) -> Night {
-    let n = flushed(rt, night, log, name, out);
-    if n.stopped {
-        return n;
-    }
-    let count = counted(rt, console::read(rt, piece));
-    if count == 0 {
-        return at_end(n);
-    }
-    fed(rt, n, log, name, front(piece, count), line, room, out)
-}
-
-fn run(
-    rt: HostRuntime,
-    night: Night,
-    log: &File,
-    name: &[u8],
-    piece: &mut [u8],
-    line: &mut [u8],
-    room: &mut [u8],
-    out: &mut [u8],
-) -> Night {
-    let mut n = night;
-    let mut turns = u64::MAX;
-    while turns > 0 {
-        n = read_on(rt, n, log, name, piece, line, room, out);
-        if is_over(n) {
-            return n;
-        }
-        turns -= 1;
-    }
-    n
+    Ok(())
 }
 
 // A last line that lacks its line feed may be a piece of one, its numbers cut: it is named, and no record is made of it.
-fn last_line(rt: HostRuntime, night: Night, line: &[u8], out: &mut [u8]) {
-    let have = night.have;
-    if night.stopped {
-        return;
+fn all_lines(night: &mut Night, piece: &mut [u8]) {
+    let mut bytes = [0u8; LONGEST];
+    let mut line = Line::new(&mut bytes);
+    if run(&mut line, night, piece).is_ok() && !script::is_skipped(line.text()) {
+        say::no_record(&mut night.ours.voice, line.number, b": no line feed");
     }
-    if script::is_skipped(front(line, have)) {
-        return;
-    }
-    say::no_line_feed(rt, wrapping_add_u64(night.line, 1), out);
+    night.finish();
 }
 
-fn finish(rt: HostRuntime, night: Night, log: &File, name: &[u8], out: &mut [u8]) {
-    let n = flushed(rt, night, log, name, out);
-    if n.lasts {
-        if n.sound {
-            say::appended(rt, name, n.records, out);
-            return;
-        }
-    }
-    say::appended_in_part(rt, name, n.records, n.safe, n.lasts, out);
-}
-
-fn all_lines(
-    rt: HostRuntime,
-    start: Night,
-    log: &File,
-    name: &[u8],
-    piece: &mut [u8],
-    out: &mut [u8],
-) {
-    let mut line = console::large_buffer();
+fn appended(rt: HostRuntime, name: &[u8]) -> Result<(), Said> {
     let mut room = console::large_buffer();
-    let n = run(rt, start, log, name, piece, &mut line, &mut room, out);
-    last_line(rt, n, &line, out);
-    finish(rt, n, log, name, out);
-}
-
-fn appended(
-    rt: HostRuntime,
-    log: &File,
-    lasts: bool,
-    name: &[u8],
-    piece: &mut [u8],
-    out: &mut [u8],
-) {
-    let c = pieces::read_file(rt, name, false, piece, out);
-    if c.failed {
-        return;
-    }
-    let w = c.walk;
-    if !file::is_ready(rt, log, name, w, out) {
-        return;
-    }
-    all_lines(rt, fresh(rt, lasts, w.at), log, name, piece, out);
-}
-
-pub fn from_input(rt: HostRuntime, name: &[u8]) {
+    let mut ours = Ours::opened(Voice::new(rt, say::PROGRAM, name, &mut room))?;
     let mut piece = console::large_buffer();
-    let mut out = console::large_buffer();
-    match file::opened(rt, name, &mut out) {
-        Some(o) => appended(rt, &o.log, o.lasts, name, &mut piece, &mut out),
-        None => {}
-    }
+    let w = pieces::read_file(rt, name, &mut piece, &mut Shown { paper: None })?;
+    ours.ready(w)?;
+    all_lines(&mut Night::new(ours, w.at), &mut piece);
+    Ok(())
+}
+
+// What fails is said.
+pub fn from_input(rt: HostRuntime, name: &[u8]) {
+    let _ = appended(rt, name);
 }

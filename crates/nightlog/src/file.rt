@@ -1,170 +1,96 @@
-// The file that is appended to: found or made, of the length that this program left, and cut back to its last whole record.
+// The file that is appended to: found or made, of the length that this program left, and cut back to its last whole record. What fails is said.
 use crate::{say, show};
 use console::files;
-use log_walk::file::front;
 use log_walk::{Stand, Walk};
+use program_parts::voice::{Said, Voice};
 use std::fs::File;
-use std::io;
 use std::io::ErrorKind;
 
-// How many bytes of a name are its folder's, the slash among them.
-fn folder_end(name: &[u8]) -> usize {
-    let mut i = name.len();
-    while i > 0 {
-        if name[i - 1] == b'/' {
-            return i;
-        }
-        i -= 1;
-    }
-    0
-}
-
-fn open_folder(rt: HostRuntime, name: &[u8]) -> io::Result<File> {
-    let n = folder_end(name);
-    if n == 0 {
-        return files::open_read(rt, b".");
-    }
-    files::open_read(rt, front(name, n))
-}
-
-// What was written has reached the disk; false where that failed, and was said.
-pub fn flush(rt: HostRuntime, log: &File, name: &[u8], doing: &[u8], out: &mut [u8]) -> bool {
-    match log.sync_all() {
-        Ok(()) => true,
-        Err(why) => {
-            say::fail(rt, name, doing, why, out);
-            false
-        }
-    }
+// The folder of a file: its name up to the last slash, that among it; the folder that the program runs in where it has none.
+fn folder_of(name: &[u8]) -> &[u8] {
+    name.iter()
+        .rposition(|&b| b == b'/')
+        .map_or(b".", |slash| &name[..=slash])
 }
 
 // A new name lasts once its folder is flushed.
-fn flush_folder(rt: HostRuntime, name: &[u8], out: &mut [u8]) -> bool {
-    match open_folder(rt, name) {
-        Ok(folder) => flush(rt, &folder, name, b": flushing its folder", out),
-        Err(why) => {
-            say::fail(rt, name, b": opening its folder", why, out);
-            false
-        }
-    }
+fn flush_folder(voice: &mut Voice) -> Result<(), Said> {
+    let opened = files::open_read(voice.rt, folder_of(voice.name));
+    let folder = voice.done(b": opening its folder", opened)?;
+    voice.done(b": flushing its folder", folder.sync_all())
 }
 
-// A file whose every write lands at its end, and whether its name is known to last.
+// A file whose every write lands at its end, whether its name is known to last, and the voice that tells of it.
 #[derive(Drop)]
-pub struct Ours {
+pub struct Ours<'a> {
     pub log: File,
     pub lasts: bool,
+    pub voice: Voice<'a>,
 }
 
-fn opened_anew(rt: HostRuntime, name: &[u8], lasts: bool, out: &mut [u8]) -> Option<Ours> {
-    match files::open_append(rt, name) {
-        Ok(log) => Some(Ours { log, lasts }),
-        Err(why) => {
-            say::fail(rt, name, b"", why, out);
-            None
+impl<'a> Ours<'a> {
+    // The new file is closed again before it is opened for appending.
+    fn made(mut voice: Voice<'a>) -> Result<Ours<'a>, Said> {
+        let created = files::create(voice.rt, voice.name);
+        voice.done(b"", created.map(drop))?;
+        let lasts = flush_folder(&mut voice).is_ok();
+        let opened = files::open_append(voice.rt, voice.name);
+        let log = voice.done(b"", opened)?;
+        Ok(Ours { log, lasts, voice })
+    }
+
+    // An error where the file could not be opened or made.
+    pub fn opened(mut voice: Voice<'a>) -> Result<Ours<'a>, Said> {
+        match files::open_append(voice.rt, voice.name) {
+            Ok(log) => Ok(Ours {
+                log,
+                lasts: true,
+                voice,
+            }),
+            Err(why) if why.kind() == ErrorKind::NotFound => Ours::made(voice),
+            Err(why) => Err(voice.fail(b"", why)),
         }
     }
-}
 
-// Whether the new file was made. It is closed again.
-fn is_made(rt: HostRuntime, name: &[u8], out: &mut [u8]) -> bool {
-    match files::create(rt, name) {
-        Ok(_) => true,
-        Err(why) => {
-            say::fail(rt, name, b"", why, out);
-            false
+    // What was written has reached the disk.
+    pub fn flush(&mut self) -> Result<(), Said> {
+        self.voice.done(b": flushing", self.log.sync_all())
+    }
+
+    // Whether the file has as many bytes as this program left in it. Where it has not, another one writes to it.
+    pub fn as_left(&mut self, left: u64) -> Result<(), Said> {
+        let length = files::length(&self.log);
+        let found = self.voice.done(b": finding its length", length)?;
+        if found != left {
+            return Err(say::other_length(&mut self.voice, found, left));
         }
+        Ok(())
     }
-}
 
-fn made(rt: HostRuntime, name: &[u8], out: &mut [u8]) -> Option<Ours> {
-    if !is_made(rt, name, out) {
-        return None;
+    // The file without what stands behind its byte `at`.
+    pub fn cut(&mut self, at: u64) -> Result<(), Said> {
+        self.voice.done(b": cutting back", self.log.set_len(at))
     }
-    let lasts = flush_folder(rt, name, out);
-    opened_anew(rt, name, lasts, out)
-}
 
-fn missing(rt: HostRuntime, name: &[u8], why: io::Error, out: &mut [u8]) -> Option<Ours> {
-    if why.kind() == ErrorKind::NotFound {
-        return made(rt, name, out);
+    // A piece of a record is cut away, and that is flushed; an error where it is still there, or may come back.
+    fn cut_back(&mut self, w: Walk) -> Result<(), Said> {
+        self.as_left(w.size)?;
+        self.cut(w.at)?;
+        self.flush()?;
+        say::cut_back(&mut self.voice, w.at, w.size.saturating_sub(w.at));
+        Ok(())
     }
-    say::fail(rt, name, b"", why, out);
-    None
-}
 
-// None where the file could not be opened or made, and that was said.
-pub fn opened(rt: HostRuntime, name: &[u8], out: &mut [u8]) -> Option<Ours> {
-    match files::open_append(rt, name) {
-        Ok(log) => Some(Ours { log, lasts: true }),
-        Err(why) => missing(rt, name, why, out),
-    }
-}
-
-fn is_of_length(rt: HostRuntime, name: &[u8], found: u64, left: u64, out: &mut [u8]) -> bool {
-    if found == left {
-        return true;
-    }
-    say::other_length(rt, name, found, left, out);
-    false
-}
-
-// Whether the file has as many bytes as this program left in it. Where it has not, another one writes to it, which is said.
-pub fn is_as_left(rt: HostRuntime, log: &File, name: &[u8], left: u64, out: &mut [u8]) -> bool {
-    match files::length(log) {
-        Ok(found) => is_of_length(rt, name, found, left, out),
-        Err(why) => {
-            say::fail(rt, name, b": finding its length", why, out);
-            false
+    // Records may follow what the file holds. Every walk that was read to its end stands at the log's end, at a piece or at a malformed record.
+    pub fn ready(&mut self, w: Walk) -> Result<(), Said> {
+        match w.stand {
+            Stand::End => Ok(()),
+            Stand::Cut => self.cut_back(w),
+            Stand::Bad(_) => {
+                show::say_ending(&mut self.voice, w, b": nothing is appended");
+                Err(Said)
+            }
+            Stand::Within | Stand::Seam | Stand::Short => Err(Said),
         }
-    }
-}
-
-// The file without what stands behind its byte `at`; false where that failed, and was said.
-pub fn cut(rt: HostRuntime, log: &File, name: &[u8], at: u64, out: &mut [u8]) -> bool {
-    match log.set_len(at) {
-        Ok(()) => true,
-        Err(why) => {
-            say::fail(rt, name, b": cutting back", why, out);
-            false
-        }
-    }
-}
-
-fn left_over(w: Walk) -> u64 {
-    if w.size < w.at {
-        return 0;
-    }
-    w.size - w.at
-}
-
-// A piece of a record is cut away, and that is flushed; false where it is still there, or may come back, and that was said.
-fn is_cut_back(rt: HostRuntime, log: &File, name: &[u8], w: Walk, out: &mut [u8]) -> bool {
-    if !is_as_left(rt, log, name, w.size, out) {
-        return false;
-    }
-    if !cut(rt, log, name, w.at, out) {
-        return false;
-    }
-    if !flush(rt, log, name, b": flushing", out) {
-        return false;
-    }
-    say::cut_back(rt, name, w.at, left_over(w), out);
-    true
-}
-
-// Whether records may follow what the file holds.
-pub fn is_ready(rt: HostRuntime, log: &File, name: &[u8], w: Walk, out: &mut [u8]) -> bool {
-    let stand = w.stand;
-    match stand {
-        Stand::Within => false,
-        Stand::Seam => false,
-        Stand::End => true,
-        Stand::Cut => is_cut_back(rt, log, name, w, out),
-        Stand::Bad(_) => {
-            show::say_ending(rt, name, stand, w.at, b": nothing is appended", out);
-            false
-        }
-        Stand::Short => false,
     }
 }

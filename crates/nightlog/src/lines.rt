@@ -1,60 +1,52 @@
 // A line of the input and its record.
-use log_write::Logged;
+use console::front;
 use notation_read::heard;
-use notation_read::heard::Heard;
+use notation_read::heard::{Frame, Tick};
 use refusals::Refusal;
 
-// A record's bytes are the first of the buffer that was lent for them; Bad where the line is no frame or tick.
+// Why a line has no record: it is no frame or tick, or the library refuses it.
+// Kept (1): the error of a Result.
 #[derive(Clone, Copy)]
-pub enum Record {
-    Bad,
-    Bytes(usize),
+pub enum LineError {
+    NoRecord,
     Refused(Refusal),
 }
 
-fn heard_in(s: &[u8], room: &mut [u8]) -> Heard {
+impl From<Refusal> for LineError {
+    fn from(why: Refusal) -> Self {
+        LineError::Refused(why)
+    }
+}
+
+// What a line tells that was heard.
+#[derive(Clone, Copy)]
+enum Heard {
+    Frame(Frame),
+    Tick(Tick),
+}
+
+fn heard_in(s: &[u8], room: &mut [u8]) -> Option<Heard> {
     let e = text_lines::word_end(s, 0);
     if e >= s.len() {
-        return Heard::Bad;
+        return None;
     }
-    let word = &s[0..e];
     let at = e + 1;
-    if check::same(word, b"frame") {
-        return heard::frame_line(s, at, room);
-    }
-    if check::same(word, b"tick") {
-        return heard::tick_line(s, at);
-    }
-    Heard::Bad
-}
-
-fn as_record(l: Logged) -> Record {
-    match l {
-        Logged::Bytes(n) => Record::Bytes(n),
-        Logged::Refused(why) => Record::Refused(why),
+    match &s[0..e] {
+        b"frame" => Some(Heard::Frame(heard::frame_line(s, at, room)?)),
+        b"tick" => Some(Heard::Tick(heard::tick_line(s, at)?)),
+        _ => None,
     }
 }
 
-fn record_in(h: Heard, room: &[u8], out: &mut [u8]) -> Record {
-    match h {
-        Heard::Bad => Record::Bad,
-        Heard::Frame {
-            channel,
-            time,
-            id,
-            extended,
-            length,
-        } => {
-            if length > room.len() {
-                return Record::Bad;
-            }
-            as_record(log_write::write_frame(time, channel, id, extended, &room[0..length], out))
+// The record that a line makes, at the start of `out`.
+// Kept (5): the frame goes on field by field, as `write_frame` takes it (docs/PROMISES.md).
+pub fn record_of<'a>(s: &[u8], room: &mut [u8], out: &'a mut [u8]) -> Result<&'a [u8], LineError> {
+    let size = match heard_in(s, room).ok_or(LineError::NoRecord)? {
+        Heard::Frame(f) => {
+            let payload = room.get(..f.length).ok_or(LineError::NoRecord)?;
+            log_write::write_frame(f.time, f.channel, f.id, f.extended, payload, out)?
         }
-        Heard::Tick { channel, time } => as_record(log_write::write_tick(time, channel, out)),
-    }
-}
-
-pub fn record_of(s: &[u8], room: &mut [u8], out: &mut [u8]) -> Record {
-    let h = heard_in(s, room);
-    record_in(h, room, out)
+        Heard::Tick(t) => log_write::write_tick(t.time, t.channel, out)?,
+    };
+    Ok(front(out, size))
 }

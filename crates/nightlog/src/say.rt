@@ -1,157 +1,78 @@
-// What is said on standard error. A message is made in a lent buffer and written at once.
+// What is said on standard error, of the file and of the lines for it.
+use notation_answers::answer;
+use program_parts::put_two;
+use program_parts::voice::{Said, Voice};
+use refusals::{Refusal, refusal_number};
 use std::io;
-use text_pen::Pen;
+use text_written::put_decimal;
 
-// `nightlog: FILE`
-fn named(name: &[u8], out: &mut [u8]) -> Pen {
-    let p = text_pen::put(out, Pen { at: 0, full: false }, b"nightlog: ");
-    text_pen::put(out, p, name)
-}
+// The name that messages begin with.
+pub const PROGRAM: &[u8] = b"nightlog";
 
-// `nightlog: FILE: `
-pub fn about(name: &[u8], out: &mut [u8]) -> Pen {
-    let p = named(name, out);
-    text_pen::put(out, p, b": ")
-}
-
-// `nightlog: line N`
-fn at_line(line: u64, out: &mut [u8]) -> Pen {
-    let p = text_pen::put(out, Pen { at: 0, full: false }, b"nightlog: line ");
-    text_written::put_decimal(out, p, line)
-}
-
-fn written(rt: HostRuntime, at: usize, out: &[u8]) {
-    if at <= out.len() {
-        console::say(rt, &out[0..at]);
-    }
-}
-
-// The message that the pen wrote, and its line feed.
-pub fn ended(rt: HostRuntime, pen: Pen, out: &mut [u8]) {
-    let p = text_pen::put(out, pen, b"\n");
-    written(rt, p.at, out);
-}
-
-fn failed(rt: HostRuntime, at: usize, why: io::Error, out: &[u8]) {
-    if at <= out.len() {
-        console::fail(rt, &out[0..at], why);
-    }
-}
-
-// A call on the file failed: what was being done, and the system's reason.
-pub fn fail(rt: HostRuntime, name: &[u8], doing: &[u8], why: io::Error, out: &mut [u8]) {
-    let p = named(name, out);
-    let q = text_pen::put(out, p, doing);
-    failed(rt, q.at, why, out);
-}
+// The system's number of what is told where it gave no reason.
+const NO_REASON: i32 = 0;
 
 // The record of a line could not be written.
-pub fn fail_line(rt: HostRuntime, name: &[u8], line: u64, why: io::Error, out: &mut [u8]) {
-    let p = named(name, out);
-    let q = text_pen::put(out, p, b": writing line ");
-    let r = text_written::put_decimal(out, q, line);
-    failed(rt, r.at, why, out);
+pub fn fail_line(voice: &mut Voice, line: u64, why: Option<io::Error>) -> Said {
+    voice.about(b": writing line ");
+    put_decimal(&mut voice.sheet, line);
+    voice.end_reason(why.unwrap_or_else(|| io::Error::from_raw_os_error(NO_REASON)))
 }
 
-pub fn words(rt: HostRuntime, name: &[u8], said: &[u8], out: &mut [u8]) {
-    let p = about(name, out);
-    let q = text_pen::put(out, p, said);
-    ended(rt, q, out);
+// A line that has no record, and why.
+pub fn no_record(voice: &mut Voice, line: u64, why: &[u8]) {
+    voice.about_line(line);
+    voice.end(why);
 }
 
-pub fn no_record(rt: HostRuntime, line: u64, out: &mut [u8]) {
-    let p = at_line(line, out);
-    let q = text_pen::put(out, p, b": no frame or tick");
-    ended(rt, q, out);
+pub fn refused(voice: &mut Voice, line: u64, why: Refusal) {
+    voice.about_line(line);
+    answer::named(&mut voice.sheet, b": R", refusal_number(why));
+    voice.end(b"");
 }
 
-// A line that may be a piece of one.
-pub fn no_line_feed(rt: HostRuntime, line: u64, out: &mut [u8]) {
-    let p = at_line(line, out);
-    let q = text_pen::put(out, p, b": no line feed");
-    ended(rt, q, out);
+pub fn cut_back(voice: &mut Voice, at: u64, left: u64) {
+    voice.about(b": cut back to byte ");
+    put_two(&mut voice.sheet, at, b", ", left);
+    voice.end(b" bytes of a piece left over");
 }
 
-pub fn refused(rt: HostRuntime, line: u64, number: u32, out: &mut [u8]) {
-    let p = at_line(line, out);
-    let q = notation_answers::answer::named(out, p, b": R", number);
-    ended(rt, q, out);
+pub fn other_length(voice: &mut Voice, found: u64, left: u64) -> Said {
+    voice.about(b": ");
+    put_two(
+        &mut voice.sheet,
+        found,
+        b" bytes where this program left ",
+        left,
+    );
+    voice.end(b": another one writes to it")
 }
 
-fn put_left(left: u64, pen: Pen, out: &mut [u8]) -> Pen {
-    let p = text_pen::put(out, pen, b", ");
-    let q = text_written::put_decimal(out, p, left);
-    text_pen::put(out, q, b" bytes of a piece left over")
-}
-
-pub fn cut_back(rt: HostRuntime, name: &[u8], at: u64, left: u64, out: &mut [u8]) {
-    let p = about(name, out);
-    let q = text_pen::put(out, p, b"cut back to byte ");
-    let r = text_written::put_decimal(out, q, at);
-    let t = put_left(left, r, out);
-    ended(rt, t, out);
-}
-
-// ` bytes where this program left N`
-fn put_other(left: u64, pen: Pen, out: &mut [u8]) -> Pen {
-    let p = text_pen::put(out, pen, b" bytes where this program left ");
-    let q = text_written::put_decimal(out, p, left);
-    text_pen::put(out, q, b": another one writes to it")
-}
-
-pub fn other_length(rt: HostRuntime, name: &[u8], found: u64, left: u64, out: &mut [u8]) {
-    let p = about(name, out);
-    let q = text_written::put_decimal(out, p, found);
-    let r = put_other(left, q, out);
-    ended(rt, r, out);
-}
-
-fn put_from(from: u64, pen: Pen, out: &mut [u8]) -> Pen {
-    let p = text_pen::put(out, pen, b" zero bytes at its end, from byte ");
-    let q = text_written::put_decimal(out, p, from);
-    text_pen::put(out, q, b" on")
-}
-
-pub fn zeros(rt: HostRuntime, name: &[u8], zeros: u64, from: u64, out: &mut [u8]) {
-    let p = about(name, out);
-    let q = text_written::put_decimal(out, p, zeros);
-    let r = put_from(from, q, out);
-    ended(rt, r, out);
-}
-
-// `nightlog: FILE: N records appended`
-fn put_appended(name: &[u8], records: u64, out: &mut [u8]) -> Pen {
-    let p = about(name, out);
-    let q = text_written::put_decimal(out, p, records);
-    text_pen::put(out, q, b" records appended")
+pub fn zeros(voice: &mut Voice, zeros: u64, from: u64) {
+    voice.about(b": ");
+    put_two(
+        &mut voice.sheet,
+        zeros,
+        b" zero bytes at its end, from byte ",
+        from,
+    );
+    voice.end(b" on");
 }
 
 // All that was appended is flushed, and so is the file's name.
-pub fn appended(rt: HostRuntime, name: &[u8], records: u64, out: &mut [u8]) {
-    let p = put_appended(name, records, out);
-    ended(rt, p, out);
-}
-
-fn put_lasting(lasts: bool, pen: Pen, out: &mut [u8]) -> Pen {
-    if lasts {
-        return pen;
-    }
-    text_pen::put(out, pen, b", the name of the file not")
+pub fn appended(voice: &mut Voice, records: u64) {
+    voice.about(b": ");
+    put_decimal(&mut voice.sheet, records);
+    voice.end(b" records appended");
 }
 
 // Of some of it, or of the file's name, nobody knows.
-pub fn appended_in_part(
-    rt: HostRuntime,
-    name: &[u8],
-    records: u64,
-    safe: u64,
-    lasts: bool,
-    out: &mut [u8],
-) {
-    let p = put_appended(name, records, out);
-    let q = text_pen::put(out, p, b", ");
-    let r = text_written::put_decimal(out, q, safe);
-    let t = text_pen::put(out, r, b" flushed");
-    let u = put_lasting(lasts, t, out);
-    ended(rt, u, out);
+pub fn appended_in_part(voice: &mut Voice, records: u64, safe: u64, lasts: bool) {
+    voice.about(b": ");
+    put_two(&mut voice.sheet, records, b" records appended, ", safe);
+    voice.end(if lasts {
+        b" flushed"
+    } else {
+        b" flushed, the name of the file not"
+    });
 }

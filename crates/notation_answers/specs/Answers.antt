@@ -1,16 +1,10 @@
 -- Answers, as the words that the pen puts one after the other. desk.md: `A`, `A<number>`, `R<n>`, `R5:<start>`, `R.. HEX`, `?`, each with its line feed.
-use Rattle.std.specs.Prelude.{◌≡◌, cond, List, [], ◌∷◌, ◌++◌, ℕ, ◌-◌, ◌/◌, ◌%◌, ltb, eqb, length}
+use Rattle.std.specs.Prelude.{cond, List, [], ◌∷◌, ◌++◌, ℕ, ◌-◌, ◌/◌, ◌%◌, ltb, eqb}
 use Rattle.refusals.specs.declared.Refusal.{Refusal}
 use Rattle.refusals.specs.Refusals.{number_of, start_of}
 use Rattle.text_numbers.specs.Ascii.{space}
 use Rattle.text_numbers.specs.Numbers.{numeral}
-use Rattle.text_pen.specs.Pens.{moved_by, inked_by}
 use Rattle.text_written.specs.Words.{hex_words}
-use Rattle.text_pen.specs.declared.Pen.{Pen}
-
--- the pen p over the buffer out put the words ws: it is r then, and the buffer is after
-abbrev pub Wrote : List ℕ → Pen → List (List ℕ) → Pen → List ℕ → Type 0
-Wrote out p ws r after = (r ≡ moved_by (length out) p ws) × (after ≡ inked_by out p ws)
 
 -- ---- signs, as ASCII codes them
 

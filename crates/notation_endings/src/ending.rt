@@ -1,30 +1,32 @@
 // How a log ends, as text. desk.md: `END`, `CUT@BYTE`, `BAD R<n>@BYTE`, and for a replay also `SETUP R<n>`.
-ghost use Rattle.notation_answers.specs.Answers.{Wrote};
+#![tactic(auto, using(text_pen::proofs::Turns::sheets))]
+
+ghost use Rattle.text_pen.specs.Pens.{Wrote};
 ghost use Rattle.notation_endings.specs.Endings.{cut_words, bad_words, set_up_words};
 
 use notation_answers::answer;
 use refusals::Refusal;
-use text_pen::Pen;
+use text_pen::Sheet;
 
 // A piece is left over and begins at this byte.
-pub fn cut(out: &mut [u8], pen: Pen, at: u64) -> Pen
-    ensures { Wrote out.old pen (cut_words at) result out.new }
+pub fn cut(sheet: &mut Sheet, at: u64)
+    ensures { Wrote sheet.old (cut_words at) sheet.new }
 {
-    let p = text_pen::put(out, pen, b"CUT@");
-    text_written::put_decimal(out, p, at)
+    sheet.put(b"CUT@");
+    text_written::put_decimal(sheet, at);
 }
 
 // A malformed record begins at this byte.
-pub fn bad(out: &mut [u8], pen: Pen, why: Refusal, at: u64) -> Pen
-    ensures { Wrote out.old pen (bad_words why at) result out.new }
+pub fn bad(sheet: &mut Sheet, why: Refusal, at: u64)
+    ensures { Wrote sheet.old (bad_words why at) sheet.new }
 {
-    let p = answer::named(out, pen, b"BAD R", refusals::refusal_number(why));
-    let q = text_pen::put(out, p, b"@");
-    text_written::put_decimal(out, q, at)
+    answer::named(sheet, b"BAD R", refusals::refusal_number(why));
+    sheet.put(b"@");
+    text_written::put_decimal(sheet, at);
 }
 
-pub fn set_up(out: &mut [u8], pen: Pen, why: Refusal) -> Pen
-    ensures { Wrote out.old pen (set_up_words why) result out.new }
+pub fn set_up(sheet: &mut Sheet, why: Refusal)
+    ensures { Wrote sheet.old (set_up_words why) sheet.new }
 {
-    answer::named(out, pen, b"SETUP R", refusals::refusal_number(why))
+    answer::named(sheet, b"SETUP R", refusals::refusal_number(why));
 }

@@ -1,90 +1,61 @@
 // Fields of a line that stand together. `at` is where the first starts; `next` is where the one behind them does.
+// Kept (5): docs/PROMISES.md names `frame_of s at`, which goes by a place in the whole line, so each field takes the line and the place.
 ghost use Rattle.std.specs.Prelude.{◌≡◌, length};
 ghost use Rattle.notation_read.specs.Fields.{last_of, stamp_of, head_of, rest_of, rest_in};
 
-use text_bytes::Bytes;
-use text_lines::Field;
-
-// A number that the line ends with.
-#[derive(Clone, Copy)]
-pub enum Last {
-    Bad,
-    Is(u32),
-}
-
 // `CHANNEL TIME`
 #[derive(Clone, Copy)]
-pub enum Stamp {
-    Bad,
-    Is {
-        channel: u32,
-        time: u32,
-        next: usize,
-    },
+pub struct Stamp {
+    pub channel: u32,
+    pub time: u32,
+    pub next: usize,
 }
 
 // `ID x|s`
 #[derive(Clone, Copy)]
-pub enum Head {
-    Bad,
-    Is {
-        id: u32,
-        extended: bool,
-        next: usize,
-    },
+pub struct Head {
+    pub id: u32,
+    pub extended: bool,
+    pub next: usize,
 }
 
-pub fn take_last(s: &[u8], at: usize) -> Last
+// A number that the line ends with.
+#[tactic(auto, unfolding(crate::specs::Fields::last_of))]
+pub fn take_last(s: &[u8], at: usize) -> Option<u32>
     ensures { result ≡ last_of s.now at }
 {
-    let Field::Is(n, next) = text_lines::take_u32(s, at) else {
-        return Last::Bad;
-    };
-    if next <= s.len() {
-        return Last::Bad;
-    }
-    Last::Is(n)
+    let (n, next) = text_lines::take_u32(s, at)?;
+    (s.len() < next).then_some(n)
 }
 
-pub fn take_stamp(s: &[u8], at: usize) -> Stamp
+#[tactic(auto, unfolding(crate::specs::Fields::stamp_of))]
+pub fn take_stamp(s: &[u8], at: usize) -> Option<Stamp>
     ensures { result ≡ stamp_of s.now at }
 {
-    let Field::Is(channel, a) = text_lines::take_u32(s, at) else {
-        return Stamp::Bad;
-    };
-    let Field::Is(time, next) = text_lines::take_u32(s, a) else {
-        return Stamp::Bad;
-    };
-    Stamp::Is {
+    let (channel, a) = text_lines::take_u32(s, at)?;
+    let (time, next) = text_lines::take_u32(s, a)?;
+    Some(Stamp {
         channel,
         time,
         next,
-    }
+    })
 }
 
-pub fn take_head(s: &[u8], at: usize) -> Head
+#[tactic(auto, unfolding(crate::specs::Fields::head_of))]
+pub fn take_head(s: &[u8], at: usize) -> Option<Head>
     ensures { result ≡ head_of s.now at }
 {
-    let Field::Is(id, a) = text_lines::take_id(s, at) else {
-        return Head::Bad;
-    };
-    let Field::Is(form, next) = text_lines::take_form(s, a) else {
-        return Head::Bad;
-    };
-    Head::Is {
-        id,
-        extended: form == 1,
-        next,
-    }
+    let (id, a) = text_lines::take_id(s, at)?;
+    let (extended, next) = text_lines::take_form(s, a)?;
+    Some(Head { id, extended, next })
 }
 
 // `HEX` at the line's end: its bytes go to the front of room.
-pub fn take_rest(s: &[u8], at: usize, room: &mut [u8]) -> Bytes
+// Kept (6): the room stays its lender's, who hands it on to be read and written: so the answer is how many bytes it has, as `rest_of` says.
+#[tactic(auto, unfolding(crate::specs::Fields::rest_of, crate::specs::Fields::rest_in))]
+pub fn take_rest(s: &[u8], at: usize, room: &mut [u8]) -> Option<usize>
     ensures value { result ≡ rest_of s.now at (length room.old) }
     ensures room_after { room.new ≡ rest_in s.now at room.old }
 {
-    if at > s.len() {
-        return Bytes::Bad;
-    }
-    text_bytes::hex_bytes(&s[at..], room)
+    text_bytes::hex_bytes(s.get(at..)?, room)
 }

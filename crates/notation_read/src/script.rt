@@ -3,11 +3,9 @@ ghost use Rattle.std.specs.Prelude.{◌≡◌};
 ghost use Rattle.notation_read.specs.Script.{skipped};
 
 // desk.md: "Blank lines and lines whose first character is `#`, however long, are skipped".
+#[tactic(auto, unfolding(crate::specs::Script::skipped))]
 pub fn is_skipped(s: &[u8]) -> bool
     ensures { result ≡ skipped s.now }
 {
-    if s.len() == 0 {
-        return true;
-    }
-    s[0] == b'#'
+    matches!(s, [] | [b'#', ..])
 }

@@ -1,72 +1,64 @@
 -- A post's set-up as a line tells it. desk.md: `setup POST CHANNEL VOLT CHG DIS W [SENSOR [IFACE]]`, "missing: 0".
-use Rattle.std.specs.Prelude.{ℕ, cond, List, leb, length}
+use Rattle.std.specs.Prelude.{ℕ, cond, List, leb, length, Option, Some, None}
 use Rattle.text_lines.specs.Lines.{field_of}
-use Rattle.text_lines.specs.declared.Field.{Field}
-use Rattle.text_lines.specs.declared.Field.TheVariants.{Bad, Is}
 use Rattle.notation_read.specs.Fields.{last_of}
-use Rattle.notation_read.specs.declared.fields.Last.{Last}
-use Rattle.notation_read.specs.declared.fields.Last.TheVariants.{Bad as NoLast, Is as IsLast}
-use Rattle.notation_setup.specs.declared.setup.Choices.{Choices}
-use Rattle.notation_setup.specs.declared.setup.Choices.TheVariants.{Bad as NoChoices, Is as IsChoices}
-use Rattle.notation_setup.specs.declared.setup.Limits.{Limits}
-use Rattle.notation_setup.specs.declared.setup.Limits.TheVariants.{Bad as NoLimits, Is as IsLimits}
-use Rattle.notation_setup.specs.declared.setup.Asked.{Asked}
-use Rattle.notation_setup.specs.declared.setup.Asked.TheVariants.{Bad as NoSetup, Setup}
+use Rattle.rule_limits.specs.declared.PlainLimits.{PlainLimits}
+use Rattle.notation_setup.specs.declared.setup.Setup.{Setup}
 
 -- ---- `[SENSOR [IFACE]]`: the line may end before either
 
-unfoldable pub interface_of : List ℕ → ℕ → Last
-interface_of s at = cond (leb at (length s)) (last_of s at) (IsLast 0)
+unfoldable pub interface_of : List ℕ → ℕ → Option ℕ
+interface_of s at = cond (leb at (length s)) (last_of s at) (Some 0)
 
-abbrev pub with_interface : ℕ → Last → Choices
-with_interface n NoLast = NoChoices
-with_interface n (IsLast i) = IsChoices n i
+abbrev pub with_interface : ℕ → Option ℕ → Option (ℕ × ℕ)
+with_interface n None = None
+with_interface n (Some i) = Some (n, i)
 
-abbrev pub with_sensor : List ℕ → Field → Choices
-with_sensor s Bad = NoChoices
-with_sensor s (Is n next) = with_interface n (interface_of s next)
+abbrev pub with_sensor : List ℕ → Option (ℕ × ℕ) → Option (ℕ × ℕ)
+with_sensor s None = None
+with_sensor s (Some (n, next)) = with_interface n (interface_of s next)
 
-unfoldable pub choices_of : List ℕ → ℕ → Choices
-choices_of s at = cond (leb at (length s)) (with_sensor s (field_of 10 s at)) (IsChoices 0 0)
+unfoldable pub choices_of : List ℕ → ℕ → Option (ℕ × ℕ)
+choices_of s at = cond (leb at (length s)) (with_sensor s (field_of 10 s at)) (Some (0, 0))
 
 -- ---- `VOLT CHG DIS W [SENSOR [IFACE]]`, field by field
 
-abbrev pub with_choices : ℕ → ℕ → ℕ → ℕ → Choices → Limits
-with_choices v c d w NoChoices = NoLimits
-with_choices v c d w (IsChoices n i) = IsLimits v c d w n i
+abbrev pub with_choices : ℕ → ℕ → ℕ → ℕ → Option (ℕ × ℕ) → Option PlainLimits
+with_choices v c d w None = None
+with_choices v c d w (Some (n, i)) = Some (record { voltage = v; charge = c; discharge = d; silence = w; sensor = n; interface = i })
 
-abbrev pub with_silence : List ℕ → ℕ → ℕ → ℕ → Field → Limits
-with_silence s v c d Bad = NoLimits
-with_silence s v c d (Is w next) = with_choices v c d w (choices_of s next)
+abbrev pub with_silence : List ℕ → ℕ → ℕ → ℕ → Option (ℕ × ℕ) → Option PlainLimits
+with_silence s v c d None = None
+with_silence s v c d (Some (w, next)) = with_choices v c d w (choices_of s next)
 
-abbrev pub with_discharge : List ℕ → ℕ → ℕ → Field → Limits
-with_discharge s v c Bad = NoLimits
-with_discharge s v c (Is d next) = with_silence s v c d (field_of 10 s next)
+abbrev pub with_discharge : List ℕ → ℕ → ℕ → Option (ℕ × ℕ) → Option PlainLimits
+with_discharge s v c None = None
+with_discharge s v c (Some (d, next)) = with_silence s v c d (field_of 10 s next)
 
-abbrev pub with_charge : List ℕ → ℕ → Field → Limits
-with_charge s v Bad = NoLimits
-with_charge s v (Is c next) = with_discharge s v c (field_of 10 s next)
+abbrev pub with_charge : List ℕ → ℕ → Option (ℕ × ℕ) → Option PlainLimits
+with_charge s v None = None
+with_charge s v (Some (c, next)) = with_discharge s v c (field_of 10 s next)
 
-abbrev pub with_voltage : List ℕ → Field → Limits
-with_voltage s Bad = NoLimits
-with_voltage s (Is v next) = with_charge s v (field_of 10 s next)
+abbrev pub with_voltage : List ℕ → Option (ℕ × ℕ) → Option PlainLimits
+with_voltage s None = None
+with_voltage s (Some (v, next)) = with_charge s v (field_of 10 s next)
 
-unfoldable pub limits_of : List ℕ → ℕ → Limits
+unfoldable pub limits_of : List ℕ → ℕ → Option PlainLimits
 limits_of s at = with_voltage s (field_of 10 s at)
 
 -- ---- `POST CHANNEL` before them
 
-abbrev pub with_limits : ℕ → ℕ → Limits → Asked
-with_limits p ch NoLimits = NoSetup
-with_limits p ch (IsLimits v c d w n i) = Setup p ch v c d w n i
+abbrev pub with_limits : ℕ → ℕ → Option PlainLimits → Option Setup
+with_limits p ch None = None
+with_limits p ch (Some l) = Some (record { post = p; channel = ch; limits = l })
 
-abbrev pub on_channel : List ℕ → ℕ → Field → Asked
-on_channel s p Bad = NoSetup
-on_channel s p (Is ch next) = with_limits p ch (limits_of s next)
+abbrev pub on_channel : List ℕ → ℕ → Option (ℕ × ℕ) → Option Setup
+on_channel s p None = None
+on_channel s p (Some (ch, next)) = with_limits p ch (limits_of s next)
 
-abbrev pub for_post : List ℕ → Field → Asked
-for_post s Bad = NoSetup
-for_post s (Is p next) = on_channel s p (field_of 10 s next)
+abbrev pub for_post : List ℕ → Option (ℕ × ℕ) → Option Setup
+for_post s None = None
+for_post s (Some (p, next)) = on_channel s p (field_of 10 s next)
 
-unfoldable pub setup_of : List ℕ → ℕ → Asked
+unfoldable pub setup_of : List ℕ → ℕ → Option Setup
 setup_of s at = for_post s (field_of 10 s at)

@@ -26,9 +26,8 @@ use Rattle.older_build.specs.Built.{built_of}
 use Rattle.older_take.specs.Take.{raws_of, has_raws}
 use Rattle.message_safety.proofs.Ways.{safety_control_ways, safety_state_ways}
 use Rattle.message_probes.proofs.Ways.{probes_ways}
-use Rattle.older_power.proofs.Ways.{status_ways, limits_ways, session_ways, insulation_ways, precharge_ways, change_ways, charging_ways}
-use Rattle.older_controller.proofs.Ways.{stop_ways, finished_ways, controller_ways, id_ways}
-use Rattle.older.proofs.Alike.{sequence_ways, outputs_ways, cui_ways, secc_ways, spcc_ways, ccs_ways, mcs_ways}
+use Rattle.older_power.proofs.Ways.{limits_ways, session_ways, insulation_ways, precharge_ways, charging_ways}
+use Rattle.older.proofs.Alike.{status_ways, sequence_ways, outputs_ways, change_ways, stop_ways, finished_ways, controller_ways, cui_ways, secc_ways, id_ways, spcc_ways, ccs_ways, mcs_ways}
 
 -- ---- the table has each kind
 

@@ -1,5 +1,6 @@
 -- Reading a message refuses as reading the frame does (`read-gives`), and writing one gives 7 and 8 each exactly in its case (`write-7`, `write-8`).
 -- Assumes nothing.
+use Rattle.std.specs.Prelude.{Ok, Err}
 use mathlib.Core.Path.{◌≡◌, refl, ap, ap₂, ◌∙◌, subst}
 use mathlib.Core.Bool.{Bool, true, false, ◌&&◌}
 use mathlib.Core.Logic.{inl, inr, ◌↔◌}
@@ -14,8 +15,7 @@ use Rattle.refusals.specs.declared.Refusal.TheVariants.{NoRawNumber, ShortBuffer
 use Rattle.page_table.specs.Table.{no_row, rows_of, length_of}
 use Rattle.page_table.proofs.Rules.{both_true, not_both}
 use Rattle.page_table.specs.declared.Interface.TheVariants.{Older}
-use Rattle.page_read.specs.declared.Judged.{Judged}
-use Rattle.page_read.specs.declared.Judged.TheVariants as judged
+use Rattle.page_read.specs.Judged.{Judged}
 use Rattle.page_read.specs.Judge.{judge_on}
 use Rattle.page_read.specs.Refusing as reading
 use Rattle.page_write.specs.Refusing.{Gives}
@@ -38,8 +38,8 @@ unfolding read_of
 read_gives m x bs c = (λ g. there (judge_on Older m x bs) g, λ g. (g.0, ap reading_of g.1, g.2))
   where
     there : (j : Judged) → ReadGives c (reading_of j) → reading.Gives c j
-    there (judged.Frame k n) (w, e, q) = absurd (let z : ◌≡◌ {A = ℕ} 0 1 = cc in omega arith)
-    there (judged.Refused v) (w, e, q) = (w, ap judged.Refused (cc), q)
+    there (Ok (k, n)) (w, e, q) = absurd (let z : ◌≡◌ {A = ℕ} 0 1 = cc in omega arith)
+    there (Err v) (w, e, q) = (w, ap Err (cc), q)
 
 -- ---- a message that cannot be written
 

@@ -1,6 +1,7 @@
 pub mod Read
-pub mod Write
-pub mod Writable
-pub mod Trips
-pub mod Refusing
+pub mod Reading
 pub mod Readings
+pub mod Refusing
+pub mod Trips
+pub mod Writable
+pub mod Write

@@ -1,11 +1,9 @@
 -- Readings of the pages of 001 from both sides of each edge, in 01's manner: one table under one statement, closed by computing.
-use Rattle.std.specs.Prelude.{ℕ, ◌≡◌, refl, Bool, true, false, List, [], ◌∷◌, ℤ, pos, negsuc}
+use Rattle.std.specs.Prelude.{ℕ, ◌≡◌, refl, Bool, true, false, List, [], ◌∷◌, ℤ, pos, negsuc, Ok, Err}
 use Rattle.refusals.specs.declared.Refusal.{Refusal}
 use Rattle.refusals.specs.declared.Refusal.TheVariants.{UnknownIdentifier, TooShort, TooLong, NoLabel, UncoveredBit, NoRawNumber}
 use Rattle.page_table.specs.declared.Interface.TheVariants.{Older}
-use Rattle.page_read.specs.declared.Judged.TheVariants as judged
-use Rattle.page_write.specs.declared.Written.{Written}
-use Rattle.page_write.specs.declared.Written.TheVariants as written
+use Rattle.page_write.specs.Written.{Written}
 use Rattle.page_table.specs.Table.{rows, of_kind, first_at, covered, identifier_of, length_of, big_of}
 use Rattle.page_read.specs.Judge.{unlabelled, offender, stray_below, judged_number, judge_on, judge_of}
 use Rattle.page_write.specs.Raws as pages
@@ -16,7 +14,7 @@ use Rattle.signal.specs.Twos.{to_signed, of_signed}
 use Rattle.message_types.specs.declared.SystemEnable.TheVariants.{Allowed}
 use Rattle.message_types.specs.declared.Protocol.TheVariants as protocol
 use Rattle.message_types.specs.declared.Plug.TheVariants as plug
-use Rattle.older_types.specs.declared.PowerModulesStatus.{PowerModulesStatus}
+use Rattle.message_types.specs.declared.PowerModulesStatus.{PowerModulesStatus}
 use Rattle.older_types.specs.declared.PowerModulesLimits.{PowerModulesLimits}
 use Rattle.message_types.specs.declared.SequenceControl.{SequenceControl}
 use Rattle.message_types.specs.declared.SeccOutputs.{SeccOutputs}
@@ -28,8 +26,7 @@ use Rattle.message_types.specs.declared.Step.TheVariants as step
 use Rattle.message_types.specs.declared.Validity.TheVariants as validity
 use Rattle.older_types.specs.declared.Message.{Message}
 use Rattle.older_types.specs.declared.Message.TheVariants.{Status, Limits, Sequence, Outputs, Session, Charging, SafetyControl}
-use Rattle.older.specs.declared.Reading.{Reading}
-use Rattle.older.specs.declared.Reading.TheVariants.{Accepted, Refused}
+use Rattle.older.specs.Reading.{Reading}
 use Rattle.older.specs.Read.{read_of}
 use Rattle.older_build.specs.Built.{message_of, built_of}
 use Rattle.older_take.specs.Take.{raws_of}
@@ -53,10 +50,10 @@ pub data Case : Type 0 where
 
 abbrev pub Holds : Case → Type 0
 Holds (reads x m bs answer) = read_of m x bs ≡ answer
-Holds (unknown x m bs) = judge_of m x bs ≡ judged.Refused UnknownIdentifier
+Holds (unknown x m bs) = judge_of m x bs ≡ Err UnknownIdentifier
 Holds (writes x buf answer after) = (write_of x buf ≡ answer) × (buffer_after x buf ≡ after)
 Holds (changes x m bs s z after) = bytes_after bs (change_on Older m x bs s z) ≡ after
-Holds (keeps x m bs s z w) = change_on Older m x bs s z ≡ judged.Refused w
+Holds (keeps x m bs s z w) = change_on Older m x bs s z ≡ Err w
 
 abbrev pub All : List Case → Type 0
 All [] = Unit {0}
@@ -105,51 +102,51 @@ allowed = 0x01 ∷ 0x07 ∷ 0x00 ∷ []
 abbrev pub table : List Case
 table =
     -- E1's bytes as 0x60010; 000's identifier on this interface, and 001's on the other: 3; and its standard form: 3 on both
-    reads extended 0x60010 e1 (Accepted (Status status))
-    ∷ reads extended 0x63000 e1 (Refused UnknownIdentifier)
+    reads extended 0x60010 e1 (Ok (Status status))
+    ∷ reads extended 0x63000 e1 (Err UnknownIdentifier)
     ∷ unknown extended 0x60010 e1
-    ∷ reads standard 0x60010 e1 (Refused UnknownIdentifier)
+    ∷ reads standard 0x60010 e1 (Err UnknownIdentifier)
     ∷ unknown standard 0x60010 e1
     -- 3 goes first: of a wrong length, or with a number without a label, too
     ∷ unknown extended 0x60010 (0xA0 ∷ [])
     ∷ unknown extended 0x68006 (0x02 ∷ [])
     -- one byte less: 4; one more: 15
-    ∷ reads extended 0x60012 (0x01 ∷ 0x07 ∷ []) (Refused TooShort)
-    ∷ reads extended 0x60012 (0x01 ∷ 0x07 ∷ 0x00 ∷ 0x00 ∷ []) (Refused TooLong)
+    ∷ reads extended 0x60012 (0x01 ∷ 0x07 ∷ []) (Err TooShort)
+    ∷ reads extended 0x60012 (0x01 ∷ 0x07 ∷ 0x00 ∷ 0x00 ∷ []) (Err TooLong)
     -- Sequence_Control, and with a bit that no signal covers, the first and the last of each of its three bytes: 6
-    ∷ reads extended 0x60012 allowed (Accepted (Sequence sequence))
-    ∷ reads extended 0x60012 (0x05 ∷ 0x07 ∷ 0x00 ∷ []) (Refused UncoveredBit)
-    ∷ reads extended 0x60012 (0x81 ∷ 0x07 ∷ 0x00 ∷ []) (Refused UncoveredBit)
-    ∷ reads extended 0x60012 (0x01 ∷ 0x0F ∷ 0x00 ∷ []) (Refused UncoveredBit)
-    ∷ reads extended 0x60012 (0x01 ∷ 0x87 ∷ 0x00 ∷ []) (Refused UncoveredBit)
-    ∷ reads extended 0x60012 (0x01 ∷ 0x07 ∷ 0x02 ∷ []) (Refused UncoveredBit)
-    ∷ reads extended 0x60012 (0x01 ∷ 0x07 ∷ 0x80 ∷ []) (Refused UncoveredBit)
+    ∷ reads extended 0x60012 allowed (Ok (Sequence sequence))
+    ∷ reads extended 0x60012 (0x05 ∷ 0x07 ∷ 0x00 ∷ []) (Err UncoveredBit)
+    ∷ reads extended 0x60012 (0x81 ∷ 0x07 ∷ 0x00 ∷ []) (Err UncoveredBit)
+    ∷ reads extended 0x60012 (0x01 ∷ 0x0F ∷ 0x00 ∷ []) (Err UncoveredBit)
+    ∷ reads extended 0x60012 (0x01 ∷ 0x87 ∷ 0x00 ∷ []) (Err UncoveredBit)
+    ∷ reads extended 0x60012 (0x01 ∷ 0x07 ∷ 0x02 ∷ []) (Err UncoveredBit)
+    ∷ reads extended 0x60012 (0x01 ∷ 0x07 ∷ 0x80 ∷ []) (Err UncoveredBit)
     -- bits 40 and 47 of ADM_CS_SPCC_Inputs: 6
-    ∷ reads extended 0x6800d (0 ∷ 0 ∷ 0 ∷ 0 ∷ 0 ∷ 0x01 ∷ 0 ∷ 0 ∷ []) (Refused UncoveredBit)
-    ∷ reads extended 0x6800d (0 ∷ 0 ∷ 0 ∷ 0 ∷ 0 ∷ 0x80 ∷ 0 ∷ 0 ∷ []) (Refused UncoveredBit)
+    ∷ reads extended 0x6800d (0 ∷ 0 ∷ 0 ∷ 0 ∷ 0 ∷ 0x01 ∷ 0 ∷ 0 ∷ []) (Err UncoveredBit)
+    ∷ reads extended 0x6800d (0 ∷ 0 ∷ 0 ∷ 0 ∷ 0 ∷ 0x80 ∷ 0 ∷ 0 ∷ []) (Err UncoveredBit)
     -- CP_State 1, between E or F and D, and an Emergency_Stop from 2: 5
-    ∷ reads extended 0x6800e (0x01 ∷ 0 ∷ 0 ∷ 0 ∷ 0 ∷ 0 ∷ 0 ∷ 0 ∷ []) (Refused (NoLabel 0))
-    ∷ reads extended 0x68006 (0x02 ∷ []) (Refused (NoLabel 0))
+    ∷ reads extended 0x6800e (0x01 ∷ 0 ∷ 0 ∷ 0 ∷ 0 ∷ 0 ∷ 0 ∷ 0 ∷ []) (Err (NoLabel 0))
+    ∷ reads extended 0x68006 (0x02 ∷ []) (Err (NoLabel 0))
     -- "Reserved signals are carried, not dropped": 32 bits of Power_Modules_Limits and 60 of ADM_CS_SECC_Outputs; one bit more: 7
-    ∷ reads extended 0x60011 (0x88 ∷ 0x13 ∷ 0xE8 ∷ 0x03 ∷ 0x78 ∷ 0x56 ∷ 0x34 ∷ 0x12 ∷ []) (Accepted (Limits (limits 0x12345678)))
-    ∷ writes (Limits (limits 0xFFFFFFFF)) zeros (written.Wrote 0x60011 8) (0x88 ∷ 0x13 ∷ 0xE8 ∷ 0x03 ∷ 0xFF ∷ 0xFF ∷ 0xFF ∷ 0xFF ∷ [])
-    ∷ writes (Limits (limits 0x100000000)) zeros (written.Refused NoRawNumber) zeros
-    ∷ writes (Outputs (outputs 0xFFFFFFFFFFFFFFF)) zeros (written.Wrote 0x60013 8) (0xF9 ∷ 0xFF ∷ 0xFF ∷ 0xFF ∷ 0xFF ∷ 0xFF ∷ 0xFF ∷ 0xFF ∷ [])
-    ∷ writes (Outputs (outputs 0x1000000000000000)) zeros (written.Refused NoRawNumber) zeros
-    ∷ writes (Outputs (outputs 0xFFFFFFFFFFFFFFFF)) zeros (written.Refused NoRawNumber) zeros
+    ∷ reads extended 0x60011 (0x88 ∷ 0x13 ∷ 0xE8 ∷ 0x03 ∷ 0x78 ∷ 0x56 ∷ 0x34 ∷ 0x12 ∷ []) (Ok (Limits (limits 0x12345678)))
+    ∷ writes (Limits (limits 0xFFFFFFFF)) zeros (Ok (0x60011, 8)) (0x88 ∷ 0x13 ∷ 0xE8 ∷ 0x03 ∷ 0xFF ∷ 0xFF ∷ 0xFF ∷ 0xFF ∷ [])
+    ∷ writes (Limits (limits 0x100000000)) zeros (Err NoRawNumber) zeros
+    ∷ writes (Outputs (outputs 0xFFFFFFFFFFFFFFF)) zeros (Ok (0x60013, 8)) (0xF9 ∷ 0xFF ∷ 0xFF ∷ 0xFF ∷ 0xFF ∷ 0xFF ∷ 0xFF ∷ 0xFF ∷ [])
+    ∷ writes (Outputs (outputs 0x1000000000000000)) zeros (Err NoRawNumber) zeros
+    ∷ writes (Outputs (outputs 0xFFFFFFFFFFFFFFFF)) zeros (Err NoRawNumber) zeros
     -- a New_Charge_Session has 8 bytes; its battery's capacity is even
-    ∷ reads extended 0x68001 (0x02 ∷ 0x01 ∷ 0x94 ∷ 0x11 ∷ 0xE2 ∷ 0x04 ∷ 0x32 ∷ 0x25 ∷ []) (Accepted (Session (session 100)))
-    ∷ reads extended 0x68001 (0x02 ∷ 0x01 ∷ []) (Refused TooShort)
-    ∷ writes (Session (session 510)) zeros (written.Wrote 0x68001 8) (0x02 ∷ 0x01 ∷ 0x94 ∷ 0x11 ∷ 0xE2 ∷ 0x04 ∷ 0xFF ∷ 0x25 ∷ [])
-    ∷ writes (Session (session 101)) zeros (written.Refused NoRawNumber) zeros
+    ∷ reads extended 0x68001 (0x02 ∷ 0x01 ∷ 0x94 ∷ 0x11 ∷ 0xE2 ∷ 0x04 ∷ 0x32 ∷ 0x25 ∷ []) (Ok (Session (session 100)))
+    ∷ reads extended 0x68001 (0x02 ∷ 0x01 ∷ []) (Err TooShort)
+    ∷ writes (Session (session 510)) zeros (Ok (0x68001, 8)) (0x02 ∷ 0x01 ∷ 0x94 ∷ 0x11 ∷ 0xE2 ∷ 0x04 ∷ 0xFF ∷ 0x25 ∷ [])
+    ∷ writes (Session (session 101)) zeros (Err NoRawNumber) zeros
     -- changing a Charging_Loop's current to -1; a number that does not fit or has no label, and another interface's frame, are kept
-    ∷ writes (Charging (loop (pos 1000))) zeros (written.Wrote 0x68005 5) (0xD8 ∷ 0x0E ∷ 0xE8 ∷ 0x03 ∷ 0x50 ∷ 0 ∷ 0 ∷ 0 ∷ [])
+    ∷ writes (Charging (loop (pos 1000))) zeros (Ok (0x68005, 5)) (0xD8 ∷ 0x0E ∷ 0xE8 ∷ 0x03 ∷ 0x50 ∷ 0 ∷ 0 ∷ 0 ∷ [])
     ∷ changes extended 0x68005 (0xD8 ∷ 0x0E ∷ 0xE8 ∷ 0x03 ∷ 0x50 ∷ []) 16 (negsuc 0) (0xD8 ∷ 0x0E ∷ 0xFF ∷ 0xFF ∷ 0x50 ∷ [])
     ∷ keeps extended 0x60012 allowed 8 (pos 2) NoRawNumber
     ∷ keeps extended 0x6800e zeros 0 (pos 1) (NoLabel 0)
     ∷ keeps extended 0x63000 e1 16 (negsuc 0) UnknownIdentifier
     -- 004's frames belong to either interface
-    ∷ reads standard 6 (0x82 ∷ 0x15 ∷ 0 ∷ 0 ∷ 0 ∷ 0 ∷ 0 ∷ 0 ∷ []) (Accepted (SafetyControl (record { duty = 533; pwm = true; contactor1 = false; contactor2 = false })))
+    ∷ reads standard 6 (0x82 ∷ 0x15 ∷ 0 ∷ 0 ∷ 0 ∷ 0 ∷ 0 ∷ 0 ∷ []) (Ok (SafetyControl (record { duty = 533; pwm = true; contactor1 = false; contactor2 = false })))
     ∷ []
 
 pub readings : All table

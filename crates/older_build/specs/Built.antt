@@ -5,13 +5,14 @@ use Rattle.older_types.specs.declared.Message.{Message}
 use Rattle.older_types.specs.declared.Message.TheVariants.{SafetyControl, SafetyState, Probes, Status, Limits, Sequence, Outputs, Session, Insulation, Precharge, Change, Charging, Stop, Finished, Controller, Cui, Secc, Id, Spcc, Ccs, Mcs}
 use Rattle.older_types.specs.KindNumbers.{safety_control_kind, safety_state_kind, probes_kind, status_kind, limits_kind, sequence_kind, outputs_kind, session_kind, insulation_kind, precharge_kind, change_kind, charging_kind, stop_kind, finished_kind, controller_kind, cui_kind, secc_kind, id_kind, spcc_kind, ccs_kind}
 use Rattle.message_fields.specs.Fields.{at}
+use Rattle.message_charger.specs.message_parts.specs.Watched.{status_of}
+use Rattle.message_charger.specs.Build.{controller_of, change_of, finished_of, stop_of, id_of}
 use Rattle.message_safety.specs.Build.{safety_control_of, safety_state_of}
 use Rattle.message_probes.specs.Build.{probes_of}
 use Rattle.message_inputs.specs.Build.{cui_of, secc_of}
 use Rattle.message_extra.specs.Build.{spcc_of, ccs_of, mcs_of}
 use Rattle.message_sequence.specs.Build.{sequence_of, outputs_of}
-use Rattle.older_power.specs.Build.{status_of, limits_of, session_of, insulation_of, precharge_of, change_of, charging_of}
-use Rattle.older_controller.specs.Build.{stop_of, finished_of, controller_of, id_of}
+use Rattle.older_power.specs.Build.{limits_of, session_of, insulation_of, precharge_of, charging_of}
 
 -- the message of a kind; for a number that is no kind of the interface, the last one
 unfoldable pub built_of : ℕ → (ℕ → ℤ) → Message

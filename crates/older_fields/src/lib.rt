@@ -1,8 +1,10 @@
 // The form of field that document 001 has beside those of message_fields: a battery's capacity. For the crates that make messages of raw numbers.
+#![tactic(auto)]
+
 ghost use Rattle.std.specs.Prelude.{◌≡◌};
 ghost use Rattle.older_fields.specs.Forms.{capacity_of, capacity_raw};
 
-// Document 001, Battery_Capacity: twice the raw number in kWh.
+// Document 001, Battery_Capacity: twice the raw number in kWh. A name of its own for the insulation's rule, since the unit is another one.
 pub fn capacity(z: i64) -> u16
     ensures { result ≡ capacity_of z }
 {

@@ -1,48 +1,20 @@
--- The messages of document 001 from Power_Modules_Status to Charging_Loop that 000 has not alike, there and back (`Ways` of message_laws): each field and each
+-- The messages of document 001 from Power_Modules_Limits to Charging_Loop that 000 has not alike, there and back (`Ways` of message_laws): each field and each
 -- label at its signal. Assumes nothing.
 use mathlib.Core.Path.{refl}
 use mathlib.Core.List.{[], ◌∷◌}
 use Rattle.page_table.specs.Table.{rows, of_kind}
 use Rattle.page_write.specs.Raws.{whole_at, wholes_of}
-use Rattle.message_fields.proofs.FieldLaws.{bytes, degrees, shorts, words, kilohms_there, kilohms_back, kilohms_even}
+use Rattle.message_fields.proofs.FieldLaws.{bytes, shorts, words, kilohms_there, kilohms_back, kilohms_even}
 use Rattle.message_fields.proofs.Wides.{wides}
 use Rattle.older_types.specs.message_laws.proofs.Signals.{fits_at, whole_fits, field_back, label_back}
 use Rattle.older_types.specs.message_laws.proofs.Ways.{Ways, always}
 use Rattle.older_types.specs.message_laws.proofs.Labelled.{signal_at}
-use Rattle.message_fields.specs.Fields.{has_kilohms}
 use Rattle.older_fields.specs.Forms.{has_capacity}
-use Rattle.older_types.specs.declared.PowerModulesStatus.{PowerModulesStatus}
 use Rattle.older_types.specs.declared.NewChargeSession.{NewChargeSession}
-use Rattle.older_types.specs.KindNumbers.{status_kind, limits_kind, session_kind, insulation_kind, precharge_kind, change_kind, charging_kind}
-use Rattle.older_types.proofs.Marks.{enable_label, plug_label, protocol_label, status_label}
-use Rattle.older_power.specs.Build.{status_of, limits_of, session_of, insulation_of, precharge_of, change_of, charging_of}
-use Rattle.older_power.specs.Take.{status_raws, limits_raws, session_raws, insulation_raws, precharge_raws, change_raws, charging_raws}
-
-pub status_ways : Ways status_kind status_raws (λ (m : PowerModulesStatus). has_kilohms m.insulation) status_of
-unfolding rows of_kind wholes_of
-status_ways =
-    record {
-      counted = λ s. refl;
-      labelled = λ s. rw (enable_label.labelled s.enable);
-      there = λ s h e.
-          let f = fits_at status_kind (status_raws s) e in
-          λ i. record {
-            voltage = (words 16 tt).there s.voltage (f 0 tt) i;
-            current = (shorts 16 tt).there s.current (f 1 tt) i;
-            modules = degrees.there s.modules (f 2 tt) i;
-            enclosure = degrees.there s.enclosure (f 3 tt) i;
-            enable = enable_label.there s.enable i;
-            insulation = kilohms_there s.insulation h (f 5 tt) i;
-          };
-      back = λ n e i. field_back n status_kind 0 tt (words 16 tt) i
-          ∷ field_back n status_kind 1 tt (shorts 16 tt) i
-          ∷ field_back n status_kind 2 tt degrees i
-          ∷ field_back n status_kind 3 tt degrees i
-          ∷ label_back n status_kind e 4 tt enable_label i
-          ∷ kilohms_back (whole_at n (signal_at status_kind 5)) (whole_fits n status_kind 5 tt) i
-          ∷ [];
-      backed = λ n. kilohms_even (whole_at n (signal_at status_kind 5));
-    }
+use Rattle.older_types.specs.KindNumbers.{limits_kind, session_kind, insulation_kind, precharge_kind, charging_kind}
+use Rattle.older_types.proofs.Marks.{plug_label, protocol_label}
+use Rattle.older_power.specs.Build.{limits_of, session_of, insulation_of, precharge_of, charging_of}
+use Rattle.older_power.specs.Take.{limits_raws, session_raws, insulation_raws, precharge_raws, charging_raws}
 
 pub limits_ways : Ways limits_kind limits_raws always limits_of
 unfolding rows of_kind wholes_of
@@ -120,21 +92,6 @@ precharge_ways =
           };
       back = λ n e i. field_back n precharge_kind 0 tt (words 16 tt) i
           ∷ field_back n precharge_kind 1 tt (words 16 tt) i
-          ∷ [];
-      backed = λ n. refl;
-    }
-
-pub change_ways : Ways change_kind change_raws always change_of
-unfolding rows of_kind wholes_of
-change_ways =
-    record {
-      counted = λ s. refl;
-      labelled = λ s. rw (status_label.labelled s.status);
-      there = λ s h e.
-          λ i. record {
-            status = status_label.there s.status i;
-          };
-      back = λ n e i. label_back n change_kind e 0 tt status_label i
           ∷ [];
       backed = λ n. refl;
     }

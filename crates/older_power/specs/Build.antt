@@ -1,26 +1,13 @@
--- The messages of document 001 from Power_Modules_Status to Charging_Loop that 000 has not alike, each of its signals' raw numbers in the table's order.
+-- The messages of document 001 from Power_Modules_Limits to Charging_Loop that 000 has not alike, each of its signals' raw numbers in the table's order.
 use Rattle.std.specs.Prelude.{ℕ, ℤ}
-use Rattle.older_types.specs.declared.PowerModulesStatus.{PowerModulesStatus}
 use Rattle.older_types.specs.declared.PowerModulesLimits.{PowerModulesLimits}
 use Rattle.older_types.specs.declared.NewChargeSession.{NewChargeSession}
 use Rattle.older_types.specs.declared.InsulationTest.{InsulationTest}
 use Rattle.older_types.specs.declared.PrechargeTarget.{PrechargeTarget}
-use Rattle.older_types.specs.declared.ChargeStatusChange.{ChargeStatusChange}
 use Rattle.older_types.specs.declared.ChargingLoop.{ChargingLoop}
 use Rattle.older_types.specs.message_types.specs.Labels as label
-use Rattle.message_fields.specs.Fields.{byte_of, celsius_of, kilohms_of, natural_of, short_of, word_of}
+use Rattle.message_fields.specs.Fields.{byte_of, natural_of, short_of, word_of}
 use Rattle.older_fields.specs.Forms.{capacity_of}
-
-abbrev pub status_of : (ℕ → ℤ) → PowerModulesStatus
-status_of f =
-    record {
-      voltage = word_of (f 0);
-      current = short_of (f 1);
-      modules = celsius_of (f 2);
-      enclosure = celsius_of (f 3);
-      enable = label.enable_of (natural_of (f 4));
-      insulation = kilohms_of (f 5);
-    }
 
 abbrev pub limits_of : (ℕ → ℤ) → PowerModulesLimits
 limits_of f =
@@ -52,12 +39,6 @@ precharge_of f =
     record {
       voltage = word_of (f 0);
       current = word_of (f 1);
-    }
-
-abbrev pub change_of : (ℕ → ℤ) → ChargeStatusChange
-change_of f =
-    record {
-      status = label.status_of (natural_of (f 0));
     }
 
 abbrev pub charging_of : (ℕ → ℤ) → ChargingLoop

@@ -1,21 +1,14 @@
--- The raw number of each signal of the messages of document 001 from Power_Modules_Status to Charging_Loop that 000 has not alike, in
+-- The raw number of each signal of the messages of document 001 from Power_Modules_Limits to Charging_Loop that 000 has not alike, in
 -- the table's order.
 use Rattle.std.specs.Prelude.{List, [], ◌∷◌, ℤ, pos}
-use Rattle.older_types.specs.declared.PowerModulesStatus.{PowerModulesStatus}
 use Rattle.older_types.specs.declared.PowerModulesLimits.{PowerModulesLimits}
 use Rattle.older_types.specs.declared.NewChargeSession.{NewChargeSession}
 use Rattle.older_types.specs.declared.InsulationTest.{InsulationTest}
 use Rattle.older_types.specs.declared.PrechargeTarget.{PrechargeTarget}
-use Rattle.older_types.specs.declared.ChargeStatusChange.{ChargeStatusChange}
 use Rattle.older_types.specs.declared.ChargingLoop.{ChargingLoop}
 use Rattle.older_types.specs.message_types.specs.Labels as label
-use Rattle.message_fields.specs.Fields.{celsius_raw, kilohms_raw, wide_raw}
+use Rattle.message_fields.specs.Fields.{wide_raw}
 use Rattle.older_fields.specs.Forms.{capacity_raw}
-
-abbrev pub status_raws : PowerModulesStatus → List ℤ
-status_raws m =
-    pos m.voltage ∷ m.current ∷ celsius_raw m.modules ∷ celsius_raw m.enclosure ∷ pos (label.enable_number m.enable)
-    ∷ kilohms_raw m.insulation ∷ []
 
 abbrev pub limits_raws : PowerModulesLimits → List ℤ
 limits_raws m = pos m.voltage ∷ m.current ∷ wide_raw m.reserved ∷ []
@@ -30,9 +23,6 @@ insulation_raws m = pos m.voltage ∷ []
 
 abbrev pub precharge_raws : PrechargeTarget → List ℤ
 precharge_raws m = pos m.voltage ∷ pos m.current ∷ []
-
-abbrev pub change_raws : ChargeStatusChange → List ℤ
-change_raws m = pos (label.status_number m.status) ∷ []
 
 abbrev pub charging_raws : ChargingLoop → List ℤ
 charging_raws m = pos m.voltage ∷ m.current ∷ pos m.charge ∷ []

@@ -1,30 +1,20 @@
 // A message of its signals' raw numbers, in the table's order.
+// Kept (2): the messages' fields have names of their own, which the codec's users read, so each function names its own; what they do alike, taking a field or a
+// label of its raw number, is message_fields' and `Label`'s.
+// Kept (2): a trait of both functions is longer (message_safety/build.rt says by how much), and its impls would stand in the crate of the types.
 ghost use Rattle.std.specs.Prelude.{◌≡◌};
 ghost use Rattle.message_fields.specs.Fields.{at};
-ghost use Rattle.older_power.specs.Build.{status_of, limits_of, session_of, insulation_of, precharge_of, change_of, charging_of};
+ghost use Rattle.older_power.specs.Build.{limits_of, session_of, insulation_of, precharge_of, charging_of};
 
-use message_fields::{byte, celsius, kilohms, natural, short, word};
+use message_fields::{byte, natural, short, word};
 use older_fields::capacity;
-use older_types::message_types::labels::*;
+use older_types::message_types::labels::Label;
 use older_types::{
-    ChargeStatusChange, ChargingLoop, InsulationTest, NewChargeSession, PowerModulesLimits,
-    PowerModulesStatus, PrechargeTarget,
+    ChargingLoop, InsulationTest, NewChargeSession, PowerModulesLimits, PrechargeTarget,
 };
+use page_write::Raws;
 
-pub fn status(f: [i64; 16]) -> PowerModulesStatus
-    ensures { result ≡ status_of (at f) }
-{
-    PowerModulesStatus {
-        voltage: word(f[0]),
-        current: short(f[1]),
-        modules: celsius(f[2]),
-        enclosure: celsius(f[3]),
-        enable: enable_of(natural(f[4])),
-        insulation: kilohms(f[5]),
-    }
-}
-
-pub fn limits(f: [i64; 16]) -> PowerModulesLimits
+pub fn limits(f: Raws) -> PowerModulesLimits
     ensures { result ≡ limits_of (at f) }
 {
     PowerModulesLimits {
@@ -34,12 +24,12 @@ pub fn limits(f: [i64; 16]) -> PowerModulesLimits
     }
 }
 
-pub fn session(f: [i64; 16]) -> NewChargeSession
+pub fn session(f: Raws) -> NewChargeSession
     ensures { result ≡ session_of (at f) }
 {
     NewChargeSession {
-        protocol: protocol_of(natural(f[0])),
-        plug: plug_of(natural(f[1])),
+        protocol: Label::of_raw(f[0]),
+        plug: Label::of_raw(f[1]),
         voltage: word(f[2]),
         current: word(f[3]),
         capacity: capacity(f[4]),
@@ -47,7 +37,7 @@ pub fn session(f: [i64; 16]) -> NewChargeSession
     }
 }
 
-pub fn insulation(f: [i64; 16]) -> InsulationTest
+pub fn insulation(f: Raws) -> InsulationTest
     ensures { result ≡ insulation_of (at f) }
 {
     InsulationTest {
@@ -55,7 +45,7 @@ pub fn insulation(f: [i64; 16]) -> InsulationTest
     }
 }
 
-pub fn precharge(f: [i64; 16]) -> PrechargeTarget
+pub fn precharge(f: Raws) -> PrechargeTarget
     ensures { result ≡ precharge_of (at f) }
 {
     PrechargeTarget {
@@ -64,15 +54,7 @@ pub fn precharge(f: [i64; 16]) -> PrechargeTarget
     }
 }
 
-pub fn change(f: [i64; 16]) -> ChargeStatusChange
-    ensures { result ≡ change_of (at f) }
-{
-    ChargeStatusChange {
-        status: status_of(natural(f[0])),
-    }
-}
-
-pub fn charging(f: [i64; 16]) -> ChargingLoop
+pub fn charging(f: Raws) -> ChargingLoop
     ensures { result ≡ charging_of (at f) }
 {
     ChargingLoop {

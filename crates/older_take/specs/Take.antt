@@ -6,13 +6,13 @@ use Rattle.older_types.specs.declared.Message.{Message}
 use Rattle.older_types.specs.declared.Message.TheVariants.{SafetyControl, SafetyState, Probes, Status, Limits, Sequence, Outputs, Session, Insulation, Precharge, Change, Charging, Stop, Finished, Controller, Cui, Secc, Id, Spcc, Ccs, Mcs}
 use Rattle.message_fields.specs.Fields.{has_kilohms}
 use Rattle.older_fields.specs.Forms.{has_capacity}
+use Rattle.message_charger.specs.Take.{status_raws, state_raws, change_raws, finished_raws, stop_raws, id_raws}
 use Rattle.message_safety.specs.Take.{safety_control_raws, safety_state_raws}
 use Rattle.message_probes.specs.Take.{probes_raws}
 use Rattle.message_inputs.specs.Take.{cui_raws, secc_raws}
 use Rattle.message_extra.specs.Take.{spcc_raws, ccs_raws, mcs_raws}
 use Rattle.message_sequence.specs.Take.{sequence_raws, outputs_raws}
-use Rattle.older_power.specs.Take.{status_raws, limits_raws, session_raws, insulation_raws, precharge_raws, change_raws, charging_raws}
-use Rattle.older_controller.specs.Take.{stop_raws, finished_raws, controller_raws, id_raws}
+use Rattle.older_power.specs.Take.{limits_raws, session_raws, insulation_raws, precharge_raws, charging_raws}
 
 unfoldable pub raws_of : Message → List ℤ
 raws_of (SafetyControl m) = safety_control_raws m
@@ -29,7 +29,7 @@ raws_of (Change m) = change_raws m
 raws_of (Charging m) = charging_raws m
 raws_of (Stop m) = stop_raws m
 raws_of (Finished m) = finished_raws m
-raws_of (Controller m) = controller_raws m
+raws_of (Controller m) = state_raws m
 raws_of (Cui m) = cui_raws m
 raws_of (Secc m) = secc_raws m
 raws_of (Id m) = id_raws m

@@ -3,6 +3,7 @@
 -- signal's is the one that was asked for and the others are as they were (`change-raws`, `change-wholes`); a refused change leaves the bytes whole
 -- (`change-refused`).
 -- Assumes nothing.
+use Rattle.std.specs.Prelude.{Some, None, Ok, Err, Option}
 use mathlib.Core.Path.{◌≡◌, refl, sym, ap, ap₂, ◌∙◌, subst}
 use mathlib.Core.Bool.{Bool, true, false}
 use mathlib.Core.Logic.{◌⊎◌, inl, inr}
@@ -12,6 +13,7 @@ use native.Mathlib.Nat.{not-suc-le-zero, le_of_suc-le-suc}
 use native.Mathlib.Omega.{arith}
 use lib.IntN.{ℤ}
 use lib.ListN.{length, get_or, set}
+use Rattle.refusals.proofs.Pairs.{ok_pair}
 use Rattle.signal.specs.Signal.{get_bits, put_bits, covers}
 use Rattle.payload.specs.Payload.{number_of, bytes_of, bit_at, Bytes}
 use Rattle.payload.specs.Order as order
@@ -23,10 +25,7 @@ use Rattle.payload.proofs.Written.{written_bit, written_kept}
 use Rattle.page_write.specs.page_table.specs.declared.Interface.{Interface}
 use Rattle.page_write.specs.page_table.specs.declared.Interface.TheVariants.{Newer}
 use Rattle.page_write.specs.page_table.specs.declared.Row.{Row}
-use Rattle.page_write.specs.page_table.specs.declared.Found.{Found}
-use Rattle.page_write.specs.page_table.specs.declared.Found.TheVariants.{At, Nothing}
-use Rattle.page_write.specs.page_read.specs.declared.Judged.{Judged}
-use Rattle.page_write.specs.page_read.specs.declared.Judged.TheVariants.{Frame, Refused}
+use Rattle.page_write.specs.page_read.specs.Judged.{Judged}
 use Rattle.refusals.specs.declared.Refusal.{Refusal}
 use Rattle.page_write.specs.page_table.specs.Table.{rows, no_row, row_at, rows_of, length_of, big_of, is_signal, first_at, lowest, bits_at, Fine, HasBit, takes}
 use Rattle.page_write.specs.page_table.specs.Listed.{Among, SignalAt}
@@ -51,20 +50,20 @@ newer_change m extended bs s z = ap (changed_in s z) (newer m extended bs)
 
 -- ---- from the answer back to the tests
 
-pub changed : (iface : Interface) (m : ℕ) (extended : Bool) (bs : List ℕ) (s : ℕ) (z : ℤ) (k n' : ℕ) → change_on iface m extended bs s z ≡ Frame k n'
+pub changed : (iface : Interface) (m : ℕ) (extended : Bool) (bs : List ℕ) (s : ℕ) (z : ℤ) (k n' : ℕ) → change_on iface m extended bs s z ≡ Ok (k, n')
     → Changed iface m extended bs s z k n'
 unfolding change_on
 changed iface m extended bs s z k n' e = outer (judge_on iface m extended bs) refl e
   where
-    inner : (k₀ n : ℕ) (r : Row) (a b : Bool) → judge_on iface m extended bs ≡ Frame k₀ n → SignalAt k₀ s r
+    inner : (k₀ n : ℕ) (r : Row) (a b : Bool) → judge_on iface m extended bs ≡ Ok (k₀, n) → SignalAt k₀ s r
         → fits_in r.signed r.width z ≡ a → takes r.labels (bits_in r.signed r.width z) ≡ b
-        → changed_by r k₀ n z a b ≡ Frame k n' → Changed iface m extended bs s z k n'
+        → changed_by r k₀ n z a b ≡ Ok (k, n') → Changed iface m extended bs s z k n'
     inner k₀ n r true true j t p q e =
-        let ek : k₀ ≡ k = cc in
-        let en : put_raw r n z ≡ n' = cc in
+        let ek = (ok_pair e).0 in
+        let en = (ok_pair e).1 in
         let number : n ≡ number_of (big_of k) bs = (accepted_on iface m extended bs k₀ n j).number ∙ ap (λ (x : ℕ). number_of (big_of x) bs) ek in
         record {
-          read = accepted_on iface m extended bs k (number_of (big_of k) bs) (j ∙ ap₂ Frame ek number);
+          read = accepted_on iface m extended bs k (number_of (big_of k) bs) (j ∙ ap₂ (λ (u v : ℕ). Ok (u, v)) ek number);
           row = r;
           signal = subst (λ (x : ℕ). SignalAt x s r) ek t;
           fits = p;
@@ -75,16 +74,16 @@ changed iface m extended bs s z k n' e = outer (judge_on iface m extended bs) re
     inner k₀ n r false true j t p q e = absurd (let z : ◌≡◌ {A = ℕ} 0 1 = cc in omega arith)
     inner k₀ n r false false j t p q e = absurd (let z : ◌≡◌ {A = ℕ} 0 1 = cc in omega arith)
 
-    middle : (k₀ n : ℕ) (f : Found) → judge_on iface m extended bs ≡ Frame k₀ n → first_at (is_signal k₀ s) 0 rows ≡ f → changed_at k₀ n z f ≡ Frame k n'
+    middle : (k₀ n : ℕ) (f : Option ℕ) → judge_on iface m extended bs ≡ Ok (k₀, n) → first_at (is_signal k₀ s) 0 rows ≡ f → changed_at k₀ n z f ≡ Ok (k, n')
         → Changed iface m extended bs s z k n'
-    middle k₀ n (At i) j f e =
+    middle k₀ n (Some i) j f e =
         let r = row_at i in
         inner k₀ n r (fits_in r.signed r.width z) (takes r.labels (bits_in r.signed r.width z)) j (found_signal k₀ s i f) refl refl e
-    middle k₀ n Nothing j f e = absurd (let z : ◌≡◌ {A = ℕ} 0 1 = cc in omega arith)
+    middle k₀ n None j f e = absurd (let z : ◌≡◌ {A = ℕ} 0 1 = cc in omega arith)
 
-    outer : (a : Judged) → judge_on iface m extended bs ≡ a → changed_in s z a ≡ Frame k n' → Changed iface m extended bs s z k n'
-    outer (Frame k₀ n) j e = middle k₀ n (first_at (is_signal k₀ s) 0 rows) j refl e
-    outer (Refused w) j e = absurd (let z : ◌≡◌ {A = ℕ} 0 1 = cc in omega arith)
+    outer : (a : Judged) → judge_on iface m extended bs ≡ a → changed_in s z a ≡ Ok (k, n') → Changed iface m extended bs s z k n'
+    outer (Ok (k₀, n)) j e = middle k₀ n (first_at (is_signal k₀ s) 0 rows) j refl e
+    outer (Err w) j e = absurd (let z : ◌≡◌ {A = ℕ} 0 1 = cc in omega arith)
 
 -- a kind's signal at a start is one row, and a fine one
 pub one_row : (k s : ℕ) (r q : Row) → SignalAt k s r → SignalAt k s q → q ≡ r
@@ -156,7 +155,7 @@ module _ (k n : ℕ) (r : Row) (z : ℤ) (small : n < 2 ^ (8 * length_of k)) (fi
 -- ---- the theorems
 
 -- a change that was accepted, of lent bytes
-module _ (iface : Interface) (m : ℕ) (extended : Bool) (bs : List ℕ) (s : ℕ) (z : ℤ) (k n' : ℕ) (e : change_on iface m extended bs s z ≡ Frame k n') (hb : Bytes bs) where
+module _ (iface : Interface) (m : ℕ) (extended : Bool) (bs : List ℕ) (s : ℕ) (z : ℤ) (k n' : ℕ) (e : change_on iface m extended bs s z ≡ Ok (k, n')) (hb : Bytes bs) where
   -- the frame's number has the kind's bits, before and after
   small-before : number_of (big_of k) bs < 2 ^ (8 * length_of k)
   small-before =
@@ -177,7 +176,7 @@ module _ (iface : Interface) (m : ℕ) (extended : Bool) (bs : List ℕ) (s : �
       number_of_lem (big_of k) (length bs) n' (subst (λ (x : ℕ). n' < 2 ^ (8 * x)) (sym (changed iface m extended bs s z k n' e).read.sized) small-after)
 
   -- THEOREM: the bytes are read as a frame of the same kind, with the number n'
-  pub change_read : (judge_on iface m extended (bytes_after bs (change_on iface m extended bs s z)) ≡ Frame k n')
+  pub change_read : (judge_on iface m extended (bytes_after bs (change_on iface m extended bs s z)) ≡ Ok (k, n'))
       × (length (bytes_after bs (change_on iface m extended bs s z)) ≡ length bs)
   change_read =
       let c = changed iface m extended bs s z k n' e in
@@ -275,6 +274,6 @@ module _ (iface : Interface) (m : ℕ) (extended : Bool) (bs : List ℕ) (s : �
       wholes_set (8 * length_of k) 0 (number_of (big_of k) bs) n' s z (rows_of k) (ordered k) j h at t.0 t.1
 
 -- THEOREM: "A refusal carries its number only; .. lent bytes stay as they were"
-pub change_refused : (iface : Interface) (m : ℕ) (extended : Bool) (bs : List ℕ) (s : ℕ) (z : ℤ) (w : Refusal) → change_on iface m extended bs s z ≡ Refused w
+pub change_refused : (iface : Interface) (m : ℕ) (extended : Bool) (bs : List ℕ) (s : ℕ) (z : ℤ) (w : Refusal) → change_on iface m extended bs s z ≡ Err w
     → bytes_after bs (change_on iface m extended bs s z) ≡ bs
 change_refused iface m extended bs s z w e = ap (bytes_after bs) e

@@ -1,3 +1,4 @@
+pub mod Asked
 pub mod Changes
 pub mod Stored
 pub mod Refusing

@@ -1,5 +1,6 @@
 -- 01, "first the frame's own 3 to 6, then 13, then 7, then 5 for the new label": changing gives each of them exactly in its case.
 -- Assumes nothing.
+use Rattle.std.specs.Prelude.{Some, None, Ok, Err, Option}
 use mathlib.Core.Path.{◌≡◌, refl, sym, ap, ◌∙◌}
 use mathlib.Core.Bool.{Bool, true, false}
 use mathlib.Core.Logic.{◌⊎◌, inl, inr, ◌↔◌}
@@ -13,13 +14,10 @@ use Rattle.refusals.specs.declared.Refusal.TheVariants.{NoLabel, NoRawNumber, No
 use Rattle.refusals.specs.Refusals.{number_of}
 use Rattle.page_write.specs.page_table.specs.declared.Interface.{Interface}
 use Rattle.page_write.specs.page_table.specs.declared.Row.{Row}
-use Rattle.page_write.specs.page_table.specs.declared.Found.{Found}
-use Rattle.page_write.specs.page_table.specs.declared.Found.TheVariants.{At, Nothing}
 use Rattle.page_write.specs.page_table.specs.Table.{rows, row_at, is_signal, first_at, takes}
 use Rattle.page_write.specs.page_table.specs.Listed.{SignalAt}
 use Rattle.page_write.specs.page_table.proofs.Listed.{found_signal, signal_found, no_signal_at}
-use Rattle.page_write.specs.page_read.specs.declared.Judged.{Judged}
-use Rattle.page_write.specs.page_read.specs.declared.Judged.TheVariants.{Frame, Refused}
+use Rattle.page_write.specs.page_read.specs.Judged.{Judged}
 use Rattle.page_write.specs.page_read.specs.Judge.{judge_on}
 use Rattle.page_write.specs.page_read.specs.Refusing.{Gives}
 use Rattle.page_write.specs.page_read.proofs.Refusing.{reading_gives}
@@ -29,27 +27,27 @@ use Rattle.page_change.specs.Refusing.{NoneStarts, Unfit, NewOffence}
 module _ (iface : Interface) (m : ℕ) (x : Bool) (bs : List ℕ) (s : ℕ) (z : ℤ) where
   -- ---- in each case that refusal
 
-  own-refusal : (w : Refusal) → judge_on iface m x bs ≡ Refused w → change_on iface m x bs s z ≡ Refused w
+  own-refusal : (w : Refusal) → judge_on iface m x bs ≡ Err w → change_on iface m x bs s z ≡ Err w
   unfolding change_on
   own-refusal w j = ap (changed_in s z) j
 
-  none-starts : NoneStarts iface m x bs s → change_on iface m x bs s z ≡ Refused NoSignal
+  none-starts : NoneStarts iface m x bs s → change_on iface m x bs s z ≡ Err NoSignal
   unfolding change_on
   none-starts c = ap (changed_in s z) c.accepted ∙ ap (changed_at c.kind c.number z) (no_signal_at c.kind s c.none)
 
-  at_row : (k n : ℕ) (r : Row) → judge_on iface m x bs ≡ Frame k n → SignalAt k s r → change_on iface m x bs s z ≡ changed_row r k n z
+  at_row : (k n : ℕ) (r : Row) → judge_on iface m x bs ≡ Ok (k, n) → SignalAt k s r → change_on iface m x bs s z ≡ changed_row r k n z
   unfolding change_on
   at_row k n r j t =
       let p = signal_found k s r t in
       ap (changed_in s z) j ∙ ap (changed_at k n z) p.1 ∙ ap (λ (q : Row). changed_row q k n z) p.2
 
-  unfit-row : Unfit iface m x bs s z → change_on iface m x bs s z ≡ Refused NoRawNumber
+  unfit-row : Unfit iface m x bs s z → change_on iface m x bs s z ≡ Err NoRawNumber
   unfit-row c = at_row c.kind c.number c.row c.accepted c.signal ∙ rw c.unfit
 
   -- with the start of the changed signal
-  pub new_offence : NewOffence iface m x bs s z → change_on iface m x bs s z ≡ Refused (NoLabel s)
+  pub new_offence : NewOffence iface m x bs s z → change_on iface m x bs s z ≡ Err (NoLabel s)
   new_offence c =
-      at_row c.kind c.number c.row c.accepted c.signal ∙ rw (c.fits, c.offending) (ap (λ (y : ℕ). Refused (NoLabel y)) c.signal.start)
+      at_row c.kind c.number c.row c.accepted c.signal ∙ rw (c.fits, c.offending) (ap (λ (y : ℕ). Err (NoLabel y)) c.signal.start)
 
   -- ---- and in no other
 
@@ -60,14 +58,14 @@ module _ (iface : Interface) (m : ℕ) (x : Bool) (bs : List ℕ) (s : ℕ) (z :
     wide : c ≡ 7 → Unfit iface m x bs s z → Told c
     nameless : c ≡ 5 → NewOffence iface m x bs s z → Told c
 
-  is_number : (a : Judged) (v w : Refusal) (c : ℕ) → a ≡ Refused v → a ≡ Refused w → number_of w ≡ c → c ≡ number_of v
+  is_number : (a : Judged) (v w : Refusal) (c : ℕ) → a ≡ Err v → a ≡ Err w → number_of w ≡ c → c ≡ number_of v
   is_number a v w c e f n = let q : w ≡ v = cc in sym n ∙ ap number_of q
 
   told : (c : ℕ) → Gives c (change_on iface m x bs s z) → Told c
   unfolding change_on
   told c (w, e, n) = outer (judge_on iface m x bs) refl
     where
-      inner : (k n₀ : ℕ) (r : Row) (a b : Bool) → judge_on iface m x bs ≡ Frame k n₀ → SignalAt k s r → fits_in r.signed r.width z ≡ a
+      inner : (k n₀ : ℕ) (r : Row) (a b : Bool) → judge_on iface m x bs ≡ Ok (k, n₀) → SignalAt k s r → fits_in r.signed r.width z ≡ a
           → takes r.labels (bits_in r.signed r.width z) ≡ b
           → change_on iface m x bs s z ≡ changed_by r k n₀ z a b → Told c
       inner k n₀ r true true j t p q o = absurd (let z : ◌≡◌ {A = ℕ} 0 1 = cc in omega arith)
@@ -79,21 +77,21 @@ module _ (iface : Interface) (m : ℕ) (x : Bool) (bs : List ℕ) (s : ℕ) (z :
       inner k n₀ r false false j t p q o =
           wide (is_number (change_on iface m x bs s z) NoRawNumber w c o e n) (record { kind = k; number = n₀; accepted = j; row = r; signal = t; unfit = p })
 
-      middle : (k n₀ : ℕ) (f : Found) → judge_on iface m x bs ≡ Frame k n₀ → first_at (is_signal k s) 0 rows ≡ f → Told c
-      middle k n₀ (At i) j f =
+      middle : (k n₀ : ℕ) (f : Option ℕ) → judge_on iface m x bs ≡ Ok (k, n₀) → first_at (is_signal k s) 0 rows ≡ f → Told c
+      middle k n₀ (Some i) j f =
           let r = row_at i in
           inner k n₀ r (fits_in r.signed r.width z) (takes r.labels (bits_in r.signed r.width z)) j (found_signal k s i f) refl refl
           (ap (changed_in s z) j ∙ ap (changed_at k n₀ z) f)
-      middle k n₀ Nothing j f =
+      middle k n₀ None j f =
           missing (is_number (change_on iface m x bs s z) NoSignal w c (ap (changed_in s z) j ∙ ap (changed_at k n₀ z) f) e n)
           (record { kind = k; number = n₀; accepted = j; none = λ r t. nothing (signal_found k s r t).0 (signal_found k s r t).1 })
         where
-          nothing : (i : ℕ) → first_at (is_signal k s) 0 rows ≡ At i → ⊥
+          nothing : (i : ℕ) → first_at (is_signal k s) 0 rows ≡ Some i → ⊥
           nothing i g = let y : ◌≡◌ {A = ℕ} 0 1 = cc in omega arith
 
       outer : (a : Judged) → judge_on iface m x bs ≡ a → Told c
-      outer (Frame k n₀) j = middle k n₀ (first_at (is_signal k s) 0 rows) j refl
-      outer (Refused v) j = own (w, j ∙ sym (ap (changed_in s z) j) ∙ e, n)
+      outer (Ok (k, n₀)) j = middle k n₀ (first_at (is_signal k s) 0 rows) j refl
+      outer (Err v) j = own (w, j ∙ sym (ap (changed_in s z) j) ∙ e, n)
 
   -- reading gives none from 7 to 14
   not_own : (c : ℕ) → 7 ≤ c → c ≤ 14 → Gives c (judge_on iface m x bs) → ⊥

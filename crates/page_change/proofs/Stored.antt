@@ -1,5 +1,6 @@
 -- What the bytes of an accepted change rest on: its signal lies in the lent bytes, and the changed number is theirs with the new bits put.
 -- Assumes nothing.
+use Rattle.std.specs.Prelude.{Some, Ok}
 use mathlib.Core.Path.{◌≡◌, sym, ap, ap₂, ◌∙◌, subst}
 use mathlib.Core.Bool.{Bool}
 use mathlib.Core.List.{List}
@@ -8,6 +9,7 @@ use lib.IntN.{ℤ}
 use lib.ListN.{length, get_or}
 use mir.Val.{to_z, of_z, SFits}
 use mir.Syntax.{w64}
+use Rattle.refusals.proofs.Pairs.{ok_pair}
 use Rattle.signal.specs.Signal.{put_bits}
 use Rattle.payload.specs.Payload.{number_of}
 use Rattle.payload.specs.Order as order
@@ -15,8 +17,6 @@ use Rattle.signal.specs.Raw.{bits_in, bits_of}
 use Rattle.signal.proofs.RawLaws.{bits_lt}
 use Rattle.page_write.specs.page_table.specs.declared.Interface.{Interface}
 use Rattle.page_write.specs.page_table.specs.declared.Row.{Row}
-use Rattle.page_write.specs.page_table.specs.declared.Found.TheVariants.{At}
-use Rattle.page_write.specs.page_read.specs.declared.Judged.TheVariants.{Frame}
 use Rattle.page_write.specs.page_table.specs.Table.{rows, no_row, row_at, big_of, first_at, is_signal}
 use Rattle.page_write.specs.page_table.specs.Listed.{SignalAt}
 use Rattle.page_write.specs.page_read.specs.Judge.{judge_on}
@@ -37,15 +37,15 @@ pub record Storing (r : Row) (bs : List ℕ) (k n v : ℕ) : Type 0 where
   pub put : n ≡ put_bits (number_of r.big bs) (order.lowest r.big (length bs) r.start r.width) r.width v
 
 -- the row that is found is the one that the change was made by
-row_is : (iface : Interface) (m : ℕ) (x : Bool) (bs : List ℕ) (s : ℕ) (z : ℤ) (k n i k' n' : ℕ) → judge_on iface m x bs ≡ Frame k n → first_at (is_signal k s) 0 rows ≡ At i
+row_is : (iface : Interface) (m : ℕ) (x : Bool) (bs : List ℕ) (s : ℕ) (z : ℤ) (k n i k' n' : ℕ) → judge_on iface m x bs ≡ Ok (k, n) → first_at (is_signal k s) 0 rows ≡ Some i
     → (c : Changed iface m x bs s z k' n') → row_at i ≡ c.row
 row_is iface m x bs s z k n i k' n' j f c =
-    let a : judge_on iface m x bs ≡ Frame k' (number_of (big_of k') bs) = accepts iface m x bs k' (number_of (big_of k') bs) c.read in
-    let same : k ≡ k' = cc in
+    let a : judge_on iface m x bs ≡ Ok (k', number_of (big_of k') bs) = accepts iface m x bs k' (number_of (big_of k') bs) c.read in
+    let same = (ok_pair (sym j ∙ a)).0 in
     one_row k' s c.row (row_at i) c.signal (subst (λ (y : ℕ). SignalAt y s (row_at i)) same (found_signal k s i f))
 
-pub storing : (iface : Interface) (m : ℕ) (x : Bool) (bs : List ℕ) (s : ℕ) (z : ℤ) (k n i k' n' v : ℕ) (r : Row) → judge_on iface m x bs ≡ Frame k n → first_at (is_signal k s) 0 rows ≡ At i
-    → r ≡ get_or rows i no_row → change_on iface m x bs s z ≡ Frame k' n' → SFits w64 z → v ≡ bits_of r.signed r.width (to_z w64 (of_z w64 z)) → Storing r bs k' n' v
+pub storing : (iface : Interface) (m : ℕ) (x : Bool) (bs : List ℕ) (s : ℕ) (z : ℤ) (k n i k' n' v : ℕ) (r : Row) → judge_on iface m x bs ≡ Ok (k, n) → first_at (is_signal k s) 0 rows ≡ Some i
+    → r ≡ get_or rows i no_row → change_on iface m x bs s z ≡ Ok (k', n') → SFits w64 z → v ≡ bits_of r.signed r.width (to_z w64 (of_z w64 z)) → Storing r bs k' n' v
 storing iface m x bs s z k n i k' n' v r j f q e h w =
     let c = changed iface m x bs s z k' n' e in
     let t = c.row in

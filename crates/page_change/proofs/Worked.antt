@@ -1,11 +1,12 @@
 -- The laws of a change on E7, "changing E1's current to -1", and on a change of New_Charge_Session's plug to 5, which has no label.
+use Rattle.std.specs.Prelude.{Ok, Err}
 use mathlib.Core.Path.{◌≡◌, refl}
 use mathlib.Core.Bool.{true, false}
 use mathlib.Core.Logic.{inl, inr}
 use mathlib.Core.List.{List, [], ◌∷◌}
 use Prim.Native.Nat.{ℕ}
 use native.Mathlib.Omega.{arith}
-use lib.IntN.{ℤ, pos, negsuc}
+use lib.IntN.{pos, negsuc}
 use Rattle.refusals.specs.declared.Refusal.TheVariants.{NoLabel, TooShort}
 use Rattle.signal.specs.Signal.{get_bits, put_bits}
 use Rattle.signal.specs.Raw.{fits_in, bits_in}
@@ -16,10 +17,9 @@ use Rattle.payload.proofs.Orders.{are_of}
 use Rattle.payload.proofs.WholeBytes.{whole_stored}
 use Rattle.page_write.specs.page_table.specs.declared.Interface.TheVariants.{Newer}
 use Rattle.page_write.specs.page_table.specs.declared.Row.{Row}
-use Rattle.page_write.specs.page_table.specs.Table.{rows, of_kind, first_at, row_at, rows_of, big_of, covered, takes}
-use Rattle.page_write.specs.page_table.specs.Listed.{SignalAt, Among}
-use Rattle.page_write.specs.page_read.specs.declared.Judged.TheVariants.{Frame, Refused}
-use Rattle.page_write.specs.page_read.specs.Judge.{unlabelled, offender, stray_below, judged_number, judge_on}
+use Rattle.page_write.specs.page_table.specs.Table.{rows, of_kind, first_at, row_at, big_of, covered, takes}
+use Rattle.page_write.specs.page_table.specs.Listed.{SignalAt}
+use Rattle.page_write.specs.page_read.specs.Judge.{unlabelled, stray_below, judged_number, judge_on}
 use Rattle.page_write.specs.page_read.specs.Refusing.{Gives}
 use Rattle.page_write.specs.Raws.{whole_at}
 use Rattle.page_change.specs.Change.{change_on, bytes_after}
@@ -42,11 +42,11 @@ bytes = are_of false 8 0x64010041ff830fa0
 abbrev current : Row
 current = row_at 1
 
-computed : (change_on Newer 0x63000 true frame 16 (negsuc 0) ≡ Frame 0 0x64010041ffff0fa0) × SignalAt 0 16 current
+computed : (change_on Newer 0x63000 true frame 16 (negsuc 0) ≡ Ok (0, 0x64010041ffff0fa0)) × SignalAt 0 16 current
 unfolding rows of_kind first_at covered big_of unlabelled stray_below judged_number judge_on change_on get_bits put_bits le_number le_bytes of_signed
 computed = (refl, record { is_signal = inr (inl refl); start = refl })
 
-pub accepted : judge_on Newer 0x63000 true after ≡ Frame 0 0x64010041ffff0fa0
+pub accepted : judge_on Newer 0x63000 true after ≡ Ok (0, 0x64010041ffff0fa0)
 accepted = (change_read Newer 0x63000 true frame 16 (negsuc 0) 0 0x64010041ffff0fa0 computed.0 bytes).0
 
 -- its number is -1
@@ -79,12 +79,12 @@ session = 2 ∷ 1 ∷ []
 abbrev plug : Row
 plug = row_at 12
 
-offence : (judge_on Newer 0x6b001 true session ≡ Frame 3 0x0102) × SignalAt 3 8 plug × (fits_in plug.signed plug.width (pos 5) ≡ true)
+offence : (judge_on Newer 0x6b001 true session ≡ Ok (3, 0x0102)) × SignalAt 3 8 plug × (fits_in plug.signed plug.width (pos 5) ≡ true)
     × (takes plug.labels (bits_in plug.signed plug.width (pos 5)) ≡ false) × Gives 4 (judge_on Newer 0x6b001 true (2 ∷ []))
 unfolding rows of_kind first_at covered big_of unlabelled stray_below judged_number judge_on get_bits le_number
 offence = (refl, record { is_signal = inr (inl refl); start = refl }, refl, refl, (TooShort, refl, refl))
 
-pub no_label : change_on Newer 0x6b001 true session 8 (pos 5) ≡ Refused (NoLabel 8)
+pub no_label : change_on Newer 0x6b001 true session 8 (pos 5) ≡ Err (NoLabel 8)
 no_label = new_offence Newer 0x6b001 true session 8 (pos 5) (record {
   kind = 3;
   number = 0x0102;

@@ -1,5 +1,7 @@
 // The rows of document 000, the charger-side pages, that 01 has: extended identifiers, byte 0 lowest. In the order of their identifiers and, within a message,
 // of their starts. For `page_rows`, which has the whole table. It takes any index.
+#![tactic(auto)]
+
 ghost use Rattle.std.specs.Prelude.{◌≡◌, get_or};
 ghost use Rattle.page_table.specs.Charger.{charger_rows};
 ghost use Rattle.page_table.specs.Layout.{row_of};
@@ -125,6 +127,8 @@ const LINES: [Line; 30] = [
 
 // In each arm the index is known beforehand, and the compiler makes look-up tables of the array; of one that is not known it builds the whole array
 // on the stack at each call.
+// Kept (6): by an index that is not known reading took 128 times what plain C takes (docs/DECISIONS.md, "Shape"); and the array is the form that 01 asks for.
+// Kept (4): no conversion, but the row at a place of the table (`charger_rows`), for every place.
 pub fn line_at(i: usize) -> Line
     ensures { row_of result ≡ get_or charger_rows i past }
 {

@@ -1,5 +1,6 @@
 -- 02, Req 11: an identifier that only the other interface has is refused with 3 by the reader, of whatever length and content (`foreign-refused`), is one of
 -- the other's (`foreign-has`), and none of this one's (`foreign-not`). Assumes nothing.
+use Rattle.std.specs.Prelude.{Some, None, Ok, Err, Option}
 use mathlib.Core.Path.{◌≡◌, refl, sym, ap, ◌∙◌}
 use mathlib.Core.Bool.{Bool, true, false, cond, not, ◌||◌}
 use mathlib.Core.Logic.{◌⊎◌, inl, inr}
@@ -12,16 +13,13 @@ use Rattle.signal.proofs.Complement.{half_of}
 use Rattle.refusals.specs.declared.Refusal.TheVariants.{UnknownIdentifier, OtherInterface}
 use Rattle.page_table.specs.declared.Interface.{Interface}
 use Rattle.page_table.specs.declared.Interface.TheVariants.{Newer, Older}
-use Rattle.page_table.specs.declared.Found.{Found}
-use Rattle.page_table.specs.declared.Found.TheVariants.{At, Nothing}
-use Rattle.page_table.specs.declared.FoundMessage.TheVariants as message
 use Rattle.page_table.specs.Messages.{kind_count, rest_kind}
 use Rattle.page_table.specs.Table.{rows, row_at, first_at, has_id, with_message}
 use Rattle.page_table.specs.Interfaces.{safety_kind, is_on, found_on, Has}
 use Rattle.page_table.proofs.Rules.{not_both, either_false}
-use Rattle.page_table.proofs.Interfaces.{has_found, own_found}
+use Rattle.page_table.proofs.Interfaces.{found_says, has_found, own_found}
 use Rattle.page_table.proofs.Listed.{found_listed}
-use Rattle.page_read.specs.declared.Judged.TheVariants.{Frame, Refused}
+use Rattle.page_read.specs.Judged.{Judged}
 use Rattle.page_read.specs.Judge.{judged_row, judged_at, judged_for, judge_on, judge_from}
 use Rattle.page_interfaces.specs.Foreign.{foreign_at, is_foreign, other, judge_for}
 
@@ -47,16 +45,16 @@ either_has Older k e = go (half_of rest_kind k)
 -- the row that has the identifier
 record Row-found (iface : Interface) (m : ℕ) (x : Bool) : Type 0 where
   place : ℕ
-  first : first_at (has_id m x) 0 rows ≡ At place
+  first : first_at (has_id m x) 0 rows ≡ Some place
   lacking : is_on iface (row_at place).kind ≡ false
 
 row_found : (iface : Interface) (m : ℕ) (x : Bool) → is_foreign iface m x ≡ true → Row-found iface m x
 unfolding is_foreign
 row_found iface m x e = go (first_at (has_id m x) 0 rows) refl e
   where
-    go : (f : Found) → first_at (has_id m x) 0 rows ≡ f → foreign_at iface f ≡ true → Row-found iface m x
-    go (At i) q e = record { place = i; first = q; lacking = not-true (is_on iface (row_at i).kind) e }
-    go Nothing q e = absurd (not_both false e refl)
+    go : (f : Option ℕ) → first_at (has_id m x) 0 rows ≡ f → foreign_at iface f ≡ true → Row-found iface m x
+    go (Some i) q e = record { place = i; first = q; lacking = not-true (is_on iface (row_at i).kind) e }
+    go None q e = absurd (not_both false e refl)
 
 -- THEOREM: the other interface has it
 pub foreign_has : (iface : Interface) (m : ℕ) (x : Bool) → is_foreign iface m x ≡ true → (k : ℕ) × Has (other iface) m x k
@@ -71,23 +69,23 @@ foreign_not iface m x e k h =
     let r = row_found iface m x e in
     let p = has_found iface m x k h in
     let o = own_found iface (first_at (has_id m x) 0 rows) p.0 p.1 in
-    let same : At r.place ≡ At p.0 = sym r.first ∙ o.0 in
+    let same : Some r.place ≡ Some p.0 = sym r.first ∙ o.0 in
     let at : r.place ≡ p.0 = cc in
     not_both (is_on iface (row_at p.0).kind) o.1 (ap (λ (i : ℕ). is_on iface (row_at i).kind) (sym at) ∙ r.lacking)
 
 -- THEOREM: the reader gives 3, of whatever length and content
-pub foreign_refused : (iface : Interface) (m : ℕ) (x : Bool) (bs : List ℕ) → is_foreign iface m x ≡ true → judge_on iface m x bs ≡ Refused UnknownIdentifier
+pub foreign_refused : (iface : Interface) (m : ℕ) (x : Bool) (bs : List ℕ) → is_foreign iface m x ≡ true → judge_on iface m x bs ≡ Err UnknownIdentifier
 unfolding judge_on
 foreign_refused iface m x bs e =
     let r = row_found iface m x e in
-    ap (λ (f : Found). judged_at bs (found_on iface f)) r.first ∙ ap (λ (b : Bool). judged_at bs (cond b (At r.place) Nothing)) r.lacking
+    ap (λ (f : Option ℕ). judged_at bs (found_on iface f)) r.first ∙ ap (λ (b : Bool). judged_at bs (cond b (Some r.place) None)) r.lacking
 
 -- THEOREM: a frame that the interface's own pages read is none of the other's alone
-pub read_own : (iface : Interface) (m : ℕ) (x : Bool) (bs : List ℕ) (k n : ℕ) → judge_on iface m x bs ≡ Frame k n → is_foreign iface m x ≡ false
+pub read_own : (iface : Interface) (m : ℕ) (x : Bool) (bs : List ℕ) (k n : ℕ) → judge_on iface m x bs ≡ Ok (k, n) → is_foreign iface m x ≡ false
 read_own iface m x bs k n e = go (is_foreign iface m x) refl
   where
     go : (b : Bool) → is_foreign iface m x ≡ b → b ≡ false
-    go true f = let z : Refused UnknownIdentifier ≡ Frame k n = sym (foreign_refused iface m x bs f) ∙ e in absurd (let y : ◌≡◌ {A = ℕ} 0 1 = cc in omega arith)
+    go true f = let z : ◌≡◌ {A = Judged} (Err UnknownIdentifier) (Ok (k, n)) = sym (foreign_refused iface m x bs f) ∙ e in absurd (let y : ◌≡◌ {A = ℕ} 0 1 = cc in omega arith)
     go false f = refl
 
 -- ---- what a post reads
@@ -97,20 +95,20 @@ pub from_for : (iface : Interface) (m : ℕ) (x : Bool) (bs : List ℕ) → judg
 unfolding judge_from judge_for judge_on is_foreign
 from_for iface m x bs = go (first_at (has_id m x) 0 rows)
   where
-    by : (i : ℕ) (b : Bool) → cond b (judged_row (row_at i) bs) (Refused OtherInterface) ≡ cond (not b) (Refused OtherInterface) (judged_at bs (cond b (At i) Nothing))
+    by : (i : ℕ) (b : Bool) → cond b (judged_row (row_at i) bs) (Err OtherInterface) ≡ cond (not b) (Err OtherInterface) (judged_at bs (cond b (Some i) None))
     by i true = refl
     by i false = refl
 
-    go : (f : Found) → judged_for iface OtherInterface bs f ≡ cond (foreign_at iface f) (Refused OtherInterface) (judged_at bs (found_on iface f))
-    go (At i) = by i (is_on iface (row_at i).kind)
-    go Nothing = refl
+    go : (f : Option ℕ) → judged_for iface OtherInterface bs f ≡ cond (foreign_at iface f) (Err OtherInterface) (judged_at bs (found_on iface f))
+    go (Some i) = by i (is_on iface (row_at i).kind)
+    go None = refl
 
 -- ---- what a search tells: a message that is found, by its kind, and none
 
-pub foreign_at_lem : (iface : Interface) (f : Found) (k i len : ℕ) (big : Bool) → with_message f ≡ message.At k i len big → not (is_on iface k) ≡ foreign_at iface f
-foreign_at_lem iface (At j) k i len big e = let s : (row_at j).kind ≡ k = cc in ap (λ (x : ℕ). not (is_on iface x)) (sym s)
-foreign_at_lem iface Nothing k i len big e = absurd (let z : ◌≡◌ {A = ℕ} 0 1 = cc in omega arith)
+pub foreign_at_lem : (iface : Interface) (f : Option ℕ) (k i len : ℕ) (big : Bool) → with_message f ≡ Some (k, i, len, big) → not (is_on iface k) ≡ foreign_at iface f
+foreign_at_lem iface (Some j) k i len big e = ap (λ (x : ℕ). not (is_on iface x)) (sym (found_says j k i len big e).0)
+foreign_at_lem iface None k i len big e = absurd (let z : ◌≡◌ {A = ℕ} 0 1 = cc in omega arith)
 
-pub foreign_none : (iface : Interface) (f : Found) → with_message f ≡ message.Nothing → false ≡ foreign_at iface f
-foreign_none iface (At j) e = absurd (let z : ◌≡◌ {A = ℕ} 0 1 = cc in omega arith)
-foreign_none iface Nothing e = refl
+pub foreign_none : (iface : Interface) (f : Option ℕ) → with_message f ≡ None → false ≡ foreign_at iface f
+foreign_none iface (Some j) e = absurd (let z : ◌≡◌ {A = ℕ} 0 1 = cc in omega arith)
+foreign_none iface None e = refl

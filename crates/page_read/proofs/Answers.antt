@@ -1,6 +1,7 @@
 -- From reading's answer back to the tests that gave it: what the frame passed before its number was judged (`reached`), and what its number is answered
 -- (`taken`, `fifth`, `sixth`); a frame of a kind is answered what its number is (`of-kind`).
 -- Assumes nothing.
+use Rattle.std.specs.Prelude.{Some, None, Ok, Err, Option}
 use mathlib.Core.Path.{◌≡◌, refl, sym, ap, ap₂, ◌∙◌}
 use mathlib.Core.Bool.{Bool, true, false, cond, not, ◌||◌}
 use mathlib.Core.Logic.{inl, inr}
@@ -13,10 +14,8 @@ use borrow.Author.Tests.{eq-eqb, ne_eqb, eqb-true, eqb-false, lt-ltb, le-ltb, lt
 use Rattle.payload.specs.Payload.{number_of}
 use Rattle.page_search.specs.page_table.specs.declared.Interface.{Interface}
 use Rattle.page_search.specs.page_table.specs.declared.Row.{Row}
-use Rattle.page_search.specs.page_table.specs.declared.Found.{Found}
-use Rattle.page_search.specs.page_table.specs.declared.Found.TheVariants.{At, Nothing}
-use Rattle.page_read.specs.declared.Judged.{Judged}
-use Rattle.page_read.specs.declared.Judged.TheVariants.{Frame, Refused}
+use Rattle.page_read.specs.Judged.{Judged}
+use Rattle.refusals.proofs.Pairs.{ok_pair}
 use Rattle.refusals.specs.declared.Refusal.TheVariants.{UnknownIdentifier, TooShort, TooLong, NoLabel, UncoveredBit}
 use Rattle.page_search.specs.page_table.specs.Messages.{message_of}
 use Rattle.page_search.specs.page_table.specs.Table.{row_at, rows_of, bits_at, takes}
@@ -29,10 +28,10 @@ use Rattle.page_search.specs.page_table.proofs.Interfaces.{found_has, has_found}
 
 -- ---- the length
 
-pub row_short : (bs : List ℕ) (r : Row) → length bs < r.bytes → judged_row r bs ≡ Refused TooShort
+pub row_short : (bs : List ℕ) (r : Row) → length bs < r.bytes → judged_row r bs ≡ Err TooShort
 row_short bs r l = rw (ne_eqb (length bs) r.bytes (λ e. omega arith), lt-ltb (length bs) r.bytes l)
 
-pub row_long : (bs : List ℕ) (r : Row) → r.bytes < length bs → judged_row r bs ≡ Refused TooLong
+pub row_long : (bs : List ℕ) (r : Row) → r.bytes < length bs → judged_row r bs ≡ Err TooLong
 row_long bs r l = rw (ne_eqb (length bs) r.bytes (λ e. omega arith), le-ltb (length bs) r.bytes (omega arith))
 
 pub row_right : (bs : List ℕ) (r : Row) → length bs ≡ r.bytes → judged_row r bs ≡ judged_number r.kind (8 * length bs) (number_of r.big bs)
@@ -46,16 +45,16 @@ beyond a b h d = omega arith
 -- the frame passed 3, 4 and 15, and a is what its number is answered
 pub record Reached (iface : Interface) (m : ℕ) (x : Bool) (bs : List ℕ) (a : Judged) : Type 0 where
   pub place : ℕ
-  pub found : with_id iface m x ≡ At place
+  pub found : with_id iface m x ≡ Some place
   pub sized : length bs ≡ (row_at place).bytes
   pub judged : judged_number (row_at place).kind (8 * length bs) (number_of (row_at place).big bs) ≡ a
 
 pub reached : (iface : Interface) (m : ℕ) (x : Bool) (bs : List ℕ) (a : Judged) → judge_on iface m x bs ≡ a
-    → (a ≡ Refused UnknownIdentifier → ⊥) → (a ≡ Refused TooShort → ⊥) → (a ≡ Refused TooLong → ⊥) → Reached iface m x bs a
+    → (a ≡ Err UnknownIdentifier → ⊥) → (a ≡ Err TooShort → ⊥) → (a ≡ Err TooLong → ⊥) → Reached iface m x bs a
 unfolding judge_on
 reached iface m x bs a e n3 n4 n15 = outer (with_id iface m x) refl e
   where
-    inner : (i : ℕ) (l t : Bool) → with_id iface m x ≡ At i → eqb (length bs) (row_at i).bytes ≡ l → ltb (length bs) (row_at i).bytes ≡ t
+    inner : (i : ℕ) (l t : Bool) → with_id iface m x ≡ Some i → eqb (length bs) (row_at i).bytes ≡ l → ltb (length bs) (row_at i).bytes ≡ t
         → judged_row (row_at i) bs ≡ a → Reached iface m x bs a
     inner i true t f p q e =
         let sized = eqb-true (length bs) (row_at i).bytes p in
@@ -64,46 +63,46 @@ reached iface m x bs a e n3 n4 n15 = outer (with_id iface m x) refl e
     inner i false false f p q e =
         absurd (n15 (sym e ∙ row_long bs (row_at i) (beyond (length bs) (row_at i).bytes (ltb-false (length bs) (row_at i).bytes q) (eqb-false (length bs) (row_at i).bytes p))))
 
-    outer : (f : Found) → with_id iface m x ≡ f → judged_at bs f ≡ a → Reached iface m x bs a
-    outer (At i) f e = inner i (eqb (length bs) (row_at i).bytes) (ltb (length bs) (row_at i).bytes) f refl refl e
-    outer Nothing f e = absurd (n3 (sym e))
+    outer : (f : Option ℕ) → with_id iface m x ≡ f → judged_at bs f ≡ a → Reached iface m x bs a
+    outer (Some i) f e = inner i (eqb (length bs) (row_at i).bytes) (ltb (length bs) (row_at i).bytes) f refl refl e
+    outer None f e = absurd (n3 (sym e))
 
-pub reached_frame : (iface : Interface) (m : ℕ) (x : Bool) (bs : List ℕ) (k n : ℕ) → judge_on iface m x bs ≡ Frame k n → Reached iface m x bs (Frame k n)
+pub reached_frame : (iface : Interface) (m : ℕ) (x : Bool) (bs : List ℕ) (k n : ℕ) → judge_on iface m x bs ≡ Ok (k, n) → Reached iface m x bs (Ok (k, n))
 reached_frame iface m x bs k n e =
-    reached iface m x bs (Frame k n) e (λ q. let z : ◌≡◌ {A = ℕ} 0 1 = cc in omega arith) (λ q. let z : ◌≡◌ {A = ℕ} 0 1 = cc in omega arith) (λ q. let z : ◌≡◌ {A = ℕ} 0 1 = cc in omega arith)
+    reached iface m x bs (Ok (k, n)) e (λ q. let z : ◌≡◌ {A = ℕ} 0 1 = cc in omega arith) (λ q. let z : ◌≡◌ {A = ℕ} 0 1 = cc in omega arith) (λ q. let z : ◌≡◌ {A = ℕ} 0 1 = cc in omega arith)
 
 -- a number that is answered a frame
-pub taken : (k bits n k' n' : ℕ) → judged_number k bits n ≡ Frame k' n'
+pub taken : (k bits n k' n' : ℕ) → judged_number k bits n ≡ Ok (k', n')
     → (k ≡ k') × (n ≡ n') × (unlabelled n (rows_of k) ≡ false) × (stray_below bits n (rows_of k) ≡ false)
 unfolding judged_number
 taken k bits n k' n' e = go (unlabelled n (rows_of k)) (stray_below bits n (rows_of k)) refl refl e
   where
     go : (u s : Bool) → unlabelled n (rows_of k) ≡ u → stray_below bits n (rows_of k) ≡ s
-        → cond u (Refused (NoLabel (offender n (rows_of k)))) (cond s (Refused UncoveredBit) (Frame k n)) ≡ Frame k' n'
+        → cond {A = Judged} u (Err (NoLabel (offender n (rows_of k)))) (cond s (Err UncoveredBit) (Ok (k, n))) ≡ Ok (k', n')
         → (k ≡ k') × (n ≡ n') × (unlabelled n (rows_of k) ≡ false) × (stray_below bits n (rows_of k) ≡ false)
     go true s p q e = absurd (let z : ◌≡◌ {A = ℕ} 0 1 = cc in omega arith)
     go false true p q e = absurd (let z : ◌≡◌ {A = ℕ} 0 1 = cc in omega arith)
-    go false false p q e = (cc, cc, p, q)
+    go false false p q e = let t = ok_pair e in (t.0, t.1, p, q)
 
 -- 5
-pub fifth : (k bits n s : ℕ) → judged_number k bits n ≡ Refused (NoLabel s) → (unlabelled n (rows_of k) ≡ true) × (offender n (rows_of k) ≡ s)
+pub fifth : (k bits n s : ℕ) → judged_number k bits n ≡ Err (NoLabel s) → (unlabelled n (rows_of k) ≡ true) × (offender n (rows_of k) ≡ s)
 unfolding judged_number
 fifth k bits n s e = go (unlabelled n (rows_of k)) (stray_below bits n (rows_of k)) refl e
   where
     go : (u o : Bool) → unlabelled n (rows_of k) ≡ u
-        → cond u (Refused (NoLabel (offender n (rows_of k)))) (cond o (Refused UncoveredBit) (Frame k n)) ≡ Refused (NoLabel s)
+        → cond {A = Judged} u (Err (NoLabel (offender n (rows_of k)))) (cond o (Err UncoveredBit) (Ok (k, n))) ≡ Err (NoLabel s)
         → (unlabelled n (rows_of k) ≡ true) × (offender n (rows_of k) ≡ s)
     go true o p e = (p, cc)
     go false true p e = absurd (let z : ◌≡◌ {A = ℕ} 0 1 = cc in omega arith)
     go false false p e = absurd (let z : ◌≡◌ {A = ℕ} 0 1 = cc in omega arith)
 
 -- 6
-pub sixth : (k bits n : ℕ) → judged_number k bits n ≡ Refused UncoveredBit → (unlabelled n (rows_of k) ≡ false) × (stray_below bits n (rows_of k) ≡ true)
+pub sixth : (k bits n : ℕ) → judged_number k bits n ≡ Err UncoveredBit → (unlabelled n (rows_of k) ≡ false) × (stray_below bits n (rows_of k) ≡ true)
 unfolding judged_number
 sixth k bits n e = go (unlabelled n (rows_of k)) (stray_below bits n (rows_of k)) refl refl e
   where
     go : (u s : Bool) → unlabelled n (rows_of k) ≡ u → stray_below bits n (rows_of k) ≡ s
-        → cond u (Refused (NoLabel (offender n (rows_of k)))) (cond s (Refused UncoveredBit) (Frame k n)) ≡ Refused UncoveredBit
+        → cond {A = Judged} u (Err (NoLabel (offender n (rows_of k)))) (cond s (Err UncoveredBit) (Ok (k, n))) ≡ Err UncoveredBit
         → (unlabelled n (rows_of k) ≡ false) × (stray_below bits n (rows_of k) ≡ true)
     go true s p q e = absurd (let z : ◌≡◌ {A = ℕ} 0 1 = cc in omega arith)
     go false true p q e = (p, q)

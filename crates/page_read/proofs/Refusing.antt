@@ -1,6 +1,7 @@
 -- 01, "Numbers given back", each exactly in its case: reading gives 3, 4, 15, 5 or 6 where, and only where, the lists of messages and rows say so.
 -- Assumes nothing.
-use mathlib.Core.Path.{◌≡◌, refl, sym, ap, ◌∙◌, subst}
+use Rattle.std.specs.Prelude.{Some, None, Ok, Err, Option}
+use mathlib.Core.Path.{◌≡◌, refl, sym, ap, ◌∙◌}
 use mathlib.Core.Bool.{Bool, true, false, cond}
 use mathlib.Core.Logic.{◌⊎◌, inl, inr, ◌↔◌}
 use mathlib.Core.List.{List}
@@ -8,21 +9,17 @@ use Prim.Native.Nat.{ℕ, ◌*◌, ◌≤◌, ◌<◌}
 use native.Mathlib.Omega.{arith}
 use lib.Dec.{eqb, ltb}
 use lib.ListN.{length}
-use borrow.Author.Tests.{eqb-true, eqb-false, ltb-true, ltb-false}
+use borrow.Author.Tests.{eqb-false, ltb-true, ltb-false}
 use Rattle.refusals.specs.declared.Refusal.{Refusal}
 use Rattle.refusals.specs.declared.Refusal.TheVariants.{UnknownIdentifier, TooShort, TooLong, NoLabel, UncoveredBit}
 use Rattle.refusals.specs.Refusals as refusals
 use Rattle.payload.specs.Payload.{number_of, Bytes}
 use Rattle.page_search.specs.page_table.specs.declared.Interface.{Interface}
-use Rattle.page_search.specs.page_table.specs.declared.Row.{Row}
-use Rattle.page_search.specs.page_table.specs.declared.Found.{Found}
-use Rattle.page_search.specs.page_table.specs.declared.Found.TheVariants.{At, Nothing}
 use Rattle.page_search.specs.page_table.specs.Messages.{message_of}
-use Rattle.page_search.specs.page_table.specs.Table.{rows, row_at, rows_of}
+use Rattle.page_search.specs.page_table.specs.Table.{row_at, rows_of}
 use Rattle.page_search.specs.page_table.specs.Interfaces.{with_id, Has}
 use Rattle.page_search.specs.page_table.proofs.Interfaces.{found_has, has_found, on_none}
-use Rattle.page_read.specs.declared.Judged.{Judged}
-use Rattle.page_read.specs.declared.Judged.TheVariants.{Frame, Refused}
+use Rattle.page_read.specs.Judged.{Judged}
 use Rattle.page_read.specs.Judge.{unlabelled, offender, stray_below, judged_number, judged_row, judged_at, judge_on}
 use Rattle.page_read.specs.Refusing.{Gives, number_in, SomeOffence, Uncovered}
 use Rattle.page_read.proofs.Answers.{row_short, row_long, beyond}
@@ -33,27 +30,27 @@ use Rattle.page_read.proofs.Strays.{uncovered, uncovered_given}
 
 -- the test that gave the refusal with the number c
 data Told (iface : Interface) (m : ℕ) (x : Bool) (bs : List ℕ) (c : ℕ) : Type 0 where
-  nowhere : c ≡ 3 → with_id iface m x ≡ Nothing → Told iface m x bs c
-  short : c ≡ 4 → (i : ℕ) → with_id iface m x ≡ At i → length bs < (row_at i).bytes → Told iface m x bs c
-  long : c ≡ 15 → (i : ℕ) → with_id iface m x ≡ At i → (row_at i).bytes < length bs → Told iface m x bs c
-  offending : c ≡ 5 → (s : ℕ) → judge_on iface m x bs ≡ Refused (NoLabel s) → Told iface m x bs c
-  stray : c ≡ 6 → judge_on iface m x bs ≡ Refused UncoveredBit → Told iface m x bs c
+  nowhere : c ≡ 3 → with_id iface m x ≡ None → Told iface m x bs c
+  short : c ≡ 4 → (i : ℕ) → with_id iface m x ≡ Some i → length bs < (row_at i).bytes → Told iface m x bs c
+  long : c ≡ 15 → (i : ℕ) → with_id iface m x ≡ Some i → (row_at i).bytes < length bs → Told iface m x bs c
+  offending : c ≡ 5 → (s : ℕ) → judge_on iface m x bs ≡ Err (NoLabel s) → Told iface m x bs c
+  stray : c ≡ 6 → judge_on iface m x bs ≡ Err UncoveredBit → Told iface m x bs c
 
 -- the refusal that was given has this number
-is_number : (a : Judged) (v w : Refusal) (c : ℕ) → a ≡ Refused v → a ≡ Refused w → refusals.number_of w ≡ c → c ≡ refusals.number_of v
+is_number : (a : Judged) (v w : Refusal) (c : ℕ) → a ≡ Err v → a ≡ Err w → refusals.number_of w ≡ c → c ≡ refusals.number_of v
 is_number a v w c e f n = let s : w ≡ v = cc in sym n ∙ ap refusals.number_of s
 
 told : (iface : Interface) (m : ℕ) (x : Bool) (bs : List ℕ) (c : ℕ) → Gives c (judge_on iface m x bs) → Told iface m x bs c
 unfolding judge_on judged_number
 told iface m x bs c (w, e, n) = at (with_id iface m x) refl
   where
-    sized : (i : ℕ) (u s : Bool) → judge_on iface m x bs ≡ cond u (Refused (NoLabel (offender (number_of (row_at i).big bs) (rows_of (row_at i).kind)))) (cond s (Refused UncoveredBit) (Frame (row_at i).kind (number_of (row_at i).big bs)))
+    sized : (i : ℕ) (u s : Bool) → judge_on iface m x bs ≡ cond u (Err (NoLabel (offender (number_of (row_at i).big bs) (rows_of (row_at i).kind)))) (cond s (Err UncoveredBit) (Ok ((row_at i).kind, number_of (row_at i).big bs)))
         → Told iface m x bs c
     sized i true s q = offending (is_number (judge_on iface m x bs) (NoLabel (offender (number_of (row_at i).big bs) (rows_of (row_at i).kind))) w c q e n) (offender (number_of (row_at i).big bs) (rows_of (row_at i).kind)) q
     sized i false true q = stray (is_number (judge_on iface m x bs) UncoveredBit w c q e n) q
     sized i false false q = absurd (let z : ◌≡◌ {A = ℕ} 0 1 = cc in omega arith)
 
-    row : (i : ℕ) (l s : Bool) → with_id iface m x ≡ At i → eqb (length bs) (row_at i).bytes ≡ l → ltb (length bs) (row_at i).bytes ≡ s
+    row : (i : ℕ) (l s : Bool) → with_id iface m x ≡ Some i → eqb (length bs) (row_at i).bytes ≡ l → ltb (length bs) (row_at i).bytes ≡ s
         → judge_on iface m x bs ≡ judged_row (row_at i) bs → Told iface m x bs c
     row i true s f p o q =
         sized i (unlabelled (number_of (row_at i).big bs) (rows_of (row_at i).kind)) (stray_below (8 * length bs) (number_of (row_at i).big bs) (rows_of (row_at i).kind))
@@ -65,9 +62,9 @@ told iface m x bs c (w, e, n) = at (with_id iface m x) refl
         let l : (row_at i).bytes < length bs = beyond (length bs) (row_at i).bytes (ltb-false (length bs) (row_at i).bytes o) (eqb-false (length bs) (row_at i).bytes p) in
         long (is_number (judge_on iface m x bs) TooLong w c (q ∙ row_long bs (row_at i) l) e n) i f l
 
-    at : (f : Found) → with_id iface m x ≡ f → Told iface m x bs c
-    at (At i) f = row i (eqb (length bs) (row_at i).bytes) (ltb (length bs) (row_at i).bytes) f refl refl (ap (judged_at bs) f)
-    at Nothing f = nowhere (is_number (judge_on iface m x bs) UnknownIdentifier w c (ap (judged_at bs) f) e n) f
+    at : (f : Option ℕ) → with_id iface m x ≡ f → Told iface m x bs c
+    at (Some i) f = row i (eqb (length bs) (row_at i).bytes) (ltb (length bs) (row_at i).bytes) f refl refl (ap (judged_at bs) f)
+    at None f = nowhere (is_number (judge_on iface m x bs) UnknownIdentifier w c (ap (judged_at bs) f) e n) f
 
 -- THEOREM: 01, "Reading gives 3 to 6", and 15 by 02, Req 02
 pub reading_gives : (iface : Interface) (m : ℕ) (x : Bool) (bs : List ℕ) (c : ℕ) → Gives c (judge_on iface m x bs) → ((3 ≤ c) × (c ≤ 6)) ⊎ (c ≡ 15)
@@ -82,11 +79,11 @@ reading_gives iface m x bs c g = go (told iface m x bs c g)
 
 -- the row that is found for a message of the list
 module _ (iface : Interface) (m : ℕ) (x : Bool) (bs : List ℕ) where
-  at_row : (i : ℕ) → with_id iface m x ≡ At i → judge_on iface m x bs ≡ judged_row (row_at i) bs
+  at_row : (i : ℕ) → with_id iface m x ≡ Some i → judge_on iface m x bs ≡ judged_row (row_at i) bs
   unfolding judge_on
   at_row i f = ap (judged_at bs) f
 
-  bytes_of_lem : (k : ℕ) → Has iface m x k → (i : ℕ) × (with_id iface m x ≡ At i) × ((row_at i).bytes ≡ (message_of k).2)
+  bytes_of_lem : (k : ℕ) → Has iface m x k → (i : ℕ) × (with_id iface m x ≡ Some i) × ((row_at i).bytes ≡ (message_of k).2)
   bytes_of_lem k l =
       let p = has_found iface m x k l in
       (p.0, p.1, sym (found_has iface m x p.0 p.1).bytes ∙ ap (λ (j : ℕ). (message_of j).2) p.2)
@@ -99,7 +96,7 @@ unfolding judge_on
 gives_3 iface m x bs =
     (λ g k l. there (told iface m x bs 3 g) (has_found iface m x k l).0 (has_found iface m x k l).1, λ n. (UnknownIdentifier, ap (judged_at bs) (on_none iface m x n), refl))
   where
-    there : Told iface m x bs 3 → (i : ℕ) → with_id iface m x ≡ At i → ⊥
+    there : Told iface m x bs 3 → (i : ℕ) → with_id iface m x ≡ Some i → ⊥
     there (nowhere q f) i p = let z : ◌≡◌ {A = ℕ} 0 1 = cc in omega arith
     there (short q j f l) i p = omega arith
     there (long q j f l) i p = omega arith

@@ -1,5 +1,6 @@
 -- Refusal 6 is given exactly where "a bit that no signal covers is 1" (`uncovered`, `uncovered-given`), and an accepted frame has no such bit (`covered-all`).
 -- Assumes nothing.
+use Rattle.std.specs.Prelude.{Ok, Err}
 use mathlib.Core.Path.{◌≡◌, refl, sym, ap, ◌∙◌, subst}
 use mathlib.Core.Bool.{Bool, true, false, cond}
 use mathlib.Core.Logic.{◌⊎◌, inl, inr}
@@ -14,10 +15,10 @@ use Rattle.signal.proofs.Complement.{half_of}
 use Rattle.payload.proofs.Words.{place_lt, place_place, bit_of_lem, bit_past}
 use Rattle.page_search.specs.page_table.specs.declared.Interface.{Interface}
 use Rattle.page_search.specs.page_table.specs.declared.Row.{Row}
-use Rattle.page_read.specs.declared.Judged.TheVariants.{Frame, Refused}
 use Rattle.refusals.specs.declared.Refusal.TheVariants.{UncoveredBit}
 use Rattle.page_search.specs.page_table.specs.Table.{row_at, rows_of, length_of, big_of, HasBit, covered}
 use Rattle.page_search.specs.page_table.specs.Listed.{Among}
+use Rattle.page_read.specs.Judged.{Judged}
 use Rattle.page_read.specs.Judge.{unlabelled, stray_below, judged_number, judge_on}
 use Rattle.page_read.specs.Refusing.{number_in, Uncovered}
 use Rattle.page_search.specs.page_table.proofs.Heads.{says}
@@ -55,15 +56,15 @@ bit_one k bs hb s e =
 -- ---- the theorems
 
 -- THEOREM: refusal 6 is given only where "a bit that no signal covers is 1"
-pub uncovered : (iface : Interface) (m : ℕ) (x : Bool) (bs : List ℕ) → Bytes bs → judge_on iface m x bs ≡ Refused UncoveredBit → Uncovered iface m x bs
+pub uncovered : (iface : Interface) (m : ℕ) (x : Bool) (bs : List ℕ) → Bytes bs → judge_on iface m x bs ≡ Err UncoveredBit → Uncovered iface m x bs
 uncovered iface m x bs hb e =
-    go (reached iface m x bs (Refused UncoveredBit) e (λ q. let z : ◌≡◌ {A = ℕ} 0 1 = cc in omega arith) (λ q. let z : ◌≡◌ {A = ℕ} 0 1 = cc in omega arith) (λ q. let z : ◌≡◌ {A = ℕ} 0 1 = cc in omega arith))
+    go (reached iface m x bs (Err UncoveredBit) e (λ q. let z : ◌≡◌ {A = ℕ} 0 1 = cc in omega arith) (λ q. let z : ◌≡◌ {A = ℕ} 0 1 = cc in omega arith) (λ q. let z : ◌≡◌ {A = ℕ} 0 1 = cc in omega arith))
   where
-    go : Reached iface m x bs (Refused UncoveredBit) → Uncovered iface m x bs
+    go : Reached iface m x bs (Err UncoveredBit) → Uncovered iface m x bs
     go c =
         let k = (row_at c.place).kind in
-        let o = reached_kind iface m x bs (Refused UncoveredBit) c in
-        let n = reached_number iface m x bs (Refused UncoveredBit) c in
+        let o = reached_kind iface m x bs (Err UncoveredBit) c in
+        let n = reached_number iface m x bs (Err UncoveredBit) c in
         let w = says k in
         let d = sixth k (8 * length bs) (number_of (row_at c.place).big bs) c.judged in
         let b = bit_one k bs hb (o.sized ∙ w.2)
@@ -79,14 +80,14 @@ uncovered iface m x bs hb e =
         }
 
 -- THEOREM: and given there
-pub uncovered_given : (iface : Interface) (m : ℕ) (x : Bool) (bs : List ℕ) → Bytes bs → Uncovered iface m x bs → judge_on iface m x bs ≡ Refused UncoveredBit
+pub uncovered_given : (iface : Interface) (m : ℕ) (x : Bool) (bs : List ℕ) → Bytes bs → Uncovered iface m x bs → judge_on iface m x bs ≡ Err UncoveredBit
 unfolding judged_number
 uncovered_given iface m x bs hb u =
     of_kind_lem iface m x bs u.kind u.frame
     ∙ rw (each_labelled (number_in u.kind bs) (rows_of u.kind) u.labelled) (go (stray_below (8 * length bs) (number_in u.kind bs) (rows_of u.kind)) refl)
   where
     go : (b : Bool) → stray_below (8 * length bs) (number_in u.kind bs) (rows_of u.kind) ≡ b
-        → cond b (Refused UncoveredBit) (Frame u.kind (number_in u.kind bs)) ≡ Refused UncoveredBit
+        → cond {A = Judged} b (Err UncoveredBit) (Ok (u.kind, number_in u.kind bs)) ≡ Err UncoveredBit
     go true s = refl
     go false s =
         let k = u.kind in
@@ -96,16 +97,16 @@ uncovered_given iface m x bs hb u =
         absurd (omega (arith, z, u.is_one))
 
 -- THEOREM: in an accepted frame every bit that no signal has is 0
-pub covered_all : (iface : Interface) (m : ℕ) (x : Bool) (bs : List ℕ) (k n : ℕ) → judge_on iface m x bs ≡ Frame k n → Bytes bs
+pub covered_all : (iface : Interface) (m : ℕ) (x : Bool) (bs : List ℕ) (k n : ℕ) → judge_on iface m x bs ≡ Ok (k, n) → Bytes bs
     → (b : ℕ) → ((r : Row) → Among r (rows_of k) → HasBit r b → ⊥) → bit_at bs b ≡ 0
 covered_all iface m x bs k n e hb b u = go (reached_frame iface m x bs k n e) (half_of (8 * length bs) b)
   where
-    go : Reached iface m x bs (Frame k n) → (b < 8 * length bs) ⊎ (8 * length bs ≤ b) → bit_at bs b ≡ 0
+    go : Reached iface m x bs (Ok (k, n)) → (b < 8 * length bs) ⊎ (8 * length bs ≤ b) → bit_at bs b ≡ 0
     go c (inl l) =
         let j = (row_at c.place).kind in
         let w = says j in
         let t = taken j (8 * length bs) (number_of (row_at c.place).big bs) k n c.judged in
-        bit_zero j bs b hb ((reached_kind iface m x bs (Frame k n) c).sized ∙ w.2)
-        (ap (λ (y : ℕ). stray_below (8 * length bs) y (rows_of j)) (ap (λ (z : Bool). number_of z bs) (sym w.3) ∙ reached_number iface m x bs (Frame k n) c) ∙ t.3) l
+        bit_zero j bs b hb ((reached_kind iface m x bs (Ok (k, n)) c).sized ∙ w.2)
+        (ap (λ (y : ℕ). stray_below (8 * length bs) y (rows_of j)) (ap (λ (z : Bool). number_of z bs) (sym w.3) ∙ reached_number iface m x bs (Ok (k, n)) c) ∙ t.3) l
         (subst (λ (y : ℕ). (q : Row) → Among q (rows_of y) → HasBit q b → ⊥) (sym t.0) u)
     go c (inr l) = bit_past bs b l

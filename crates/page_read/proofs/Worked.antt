@@ -1,5 +1,6 @@
 -- The laws of bits and of reading on frames: ChargeControl1 with 53.3 % and PWM active, 82 15, as it is and with a bit that no signal has, and
 -- New_Charge_Session with protocol 8 and plug 5, which both have no label.
+use Rattle.std.specs.Prelude.{Ok, Err}
 use mathlib.Core.Path.{◌≡◌, refl}
 use mathlib.Core.Bool.{true, false}
 use mathlib.Core.Logic.{◌⊎◌, inl}
@@ -16,7 +17,6 @@ use Rattle.page_search.specs.page_table.specs.declared.Interface.TheVariants.{Ne
 use Rattle.page_search.specs.page_table.specs.Table.{rows, of_kind, first_at, row_at, rows_of, length_of, big_of, bits_at, covered}
 use Rattle.page_search.specs.page_table.specs.Listed.{Among}
 use Rattle.page_search.specs.page_table.proofs.PageBits.{page_bit, no_signal_lem}
-use Rattle.page_read.specs.declared.Judged.TheVariants.{Frame, Refused}
 use Rattle.page_read.specs.Judge.{unlabelled, offender, stray_below, judged_number, judge_on}
 use Rattle.page_read.specs.Refusing.{FirstOffence, Uncovered}
 use Rattle.page_read.proofs.Strays.{covered_all}
@@ -37,7 +37,7 @@ bytes : Bytes duty × Bytes stray
 unfolding le_bytes
 bytes = (are_of false 8 0x1582, are_of false 8 0x8000000000001582)
 
-computed : (judge_on Newer 6 false duty ≡ Frame 9 0x8215000000000000) × (judge_on Newer 6 false stray ≡ Refused UncoveredBit) × (judge_on Newer 0x6b001 true session ≡ Refused (NoLabel 0))
+computed : (judge_on Newer 6 false duty ≡ Ok (9, 0x8215000000000000)) × (judge_on Newer 6 false stray ≡ Err UncoveredBit) × (judge_on Newer 0x6b001 true session ≡ Err (NoLabel 0))
     × (covered (rows_of 9) (place (big_of 9) (length_of 9) 63) ≡ false)
 unfolding rows of_kind first_at length_of big_of covered unlabelled offender stray_below judged_number judge_on get_bits le_number be_number
 computed = (refl, refl, refl, refl)
@@ -63,7 +63,7 @@ strays = (gives_6 Newer 6 false stray bytes.1).0 (UncoveredBit, computed.1, refl
 pub protocol : FirstOffence Newer 0x6b001 true session 0
 protocol = first_offence Newer 0x6b001 true session 0 computed.2
 
-pub protocol_given : judge_on Newer 0x6b001 true session ≡ Refused (NoLabel 0)
+pub protocol_given : judge_on Newer 0x6b001 true session ≡ Err (NoLabel 0)
 protocol_given = offence_given Newer 0x6b001 true session 0 protocol
 
 pub five : ((3 ≤ 5) × (5 ≤ 6)) ⊎ (◌≡◌ {A = ℕ} 5 15)

@@ -1,14 +1,11 @@
 -- What reading a frame answers: 01, "Reading gives 3 to 6", the lowest that applies.
-use Rattle.std.specs.Prelude.{ℕ, zero, suc, ◌*◌, min, Bool, false, cond, not, ◌&&◌, ◌||◌, List, [], ◌∷◌, eqb, ltb, length, get_or}
+use Rattle.std.specs.Prelude.{ℕ, zero, suc, ◌*◌, min, Bool, false, cond, not, ◌&&◌, ◌||◌, List, [], ◌∷◌, eqb, ltb, length, get_or, Some, None, Ok, Err, Option}
 use Rattle.signal.specs.Signal.{get_bits}
 use Rattle.payload.specs.Payload.{number_of}
 use Rattle.page_search.specs.page_table.specs.declared.Interface.{Interface}
 use Rattle.page_search.specs.page_table.specs.declared.Interface.TheVariants.{Newer}
 use Rattle.page_search.specs.page_table.specs.declared.Row.{Row}
-use Rattle.page_search.specs.page_table.specs.declared.Found.{Found}
-use Rattle.page_search.specs.page_table.specs.declared.Found.TheVariants.{At, Nothing}
-use Rattle.page_read.specs.declared.Judged.{Judged}
-use Rattle.page_read.specs.declared.Judged.TheVariants.{Frame, Refused}
+use Rattle.page_read.specs.Judged.{Judged}
 use Rattle.refusals.specs.declared.Refusal.{Refusal}
 use Rattle.refusals.specs.declared.Refusal.TheVariants.{UnknownIdentifier, TooShort, TooLong, NoLabel, UncoveredBit}
 use Rattle.page_search.specs.page_table.specs.Table.{rows, no_row, row_at, rows_of, has_id, first_at, bits_at, covered, takes}
@@ -36,9 +33,9 @@ stray_below (suc k) n rs = (not (covered rs k) && eqb (get_bits n k 1) 1) || str
 -- 5 before 6
 unfoldable pub judged_number : ℕ → ℕ → ℕ → Judged
 judged_number k bits n =
-    cond (unlabelled n (rows_of k)) (Refused (NoLabel (offender n (rows_of k))))
-    (cond (stray_below bits n (rows_of k)) (Refused UncoveredBit)
-    (Frame k n))
+    cond (unlabelled n (rows_of k)) (Err (NoLabel (offender n (rows_of k))))
+    (cond (stray_below bits n (rows_of k)) (Err UncoveredBit)
+    (Ok (k, n)))
 
 -- 02, Req 02: "4 when too short, 15 when too long"; "The order stays, with 15 in 4's place"
 abbrev pub wrong_length : Row → List ℕ → Refusal
@@ -46,11 +43,11 @@ wrong_length r bs = cond (ltb (length bs) r.bytes) TooShort TooLong
 
 -- 4 or 15 before them, for a message of the table; its number is read in its byte order
 abbrev pub judged_row : Row → List ℕ → Judged
-judged_row r bs = cond (eqb (length bs) r.bytes) (judged_number r.kind (8 * length bs) (number_of r.big bs)) (Refused (wrong_length r bs))
+judged_row r bs = cond (eqb (length bs) r.bytes) (judged_number r.kind (8 * length bs) (number_of r.big bs)) (Err (wrong_length r bs))
 
-abbrev pub judged_at : List ℕ → Found → Judged
-judged_at bs (At i) = judged_row (get_or rows i no_row) bs
-judged_at bs Nothing = Refused UnknownIdentifier
+abbrev pub judged_at : List ℕ → Option ℕ → Judged
+judged_at bs (Some i) = judged_row (get_or rows i no_row) bs
+judged_at bs None = Err UnknownIdentifier
 
 -- 3 first: "identifier not in the table", in this form; 02, Req 04: "Refusal 3 and E4 now read over the wider table". Of the interface's own pages alone: a
 -- reader without a post gives 3 for the other's identifiers
@@ -62,9 +59,9 @@ unfoldable pub judge_of : ℕ → Bool → List ℕ → Judged
 judge_of m extended bs = judged_at bs (with_id Newer m extended)
 
 -- the message that is found by its identifier, where it is one of the interface's, and `other` where it is not
-abbrev pub judged_for : Interface → Refusal → List ℕ → Found → Judged
-judged_for iface other bs (At i) = cond (is_on iface (row_at i).kind) (judged_row (row_at i) bs) (Refused other)
-judged_for iface other bs Nothing = Refused UnknownIdentifier
+abbrev pub judged_for : Interface → Refusal → List ℕ → Option ℕ → Judged
+judged_for iface other bs (Some i) = cond (is_on iface (row_at i).kind) (judged_row (row_at i) bs) (Err other)
+judged_for iface other bs None = Err UnknownIdentifier
 
 -- by the interface's own pages, and `other` in 3's place for an identifier that only the other interface has
 unfoldable pub judge_from : Interface → Refusal → ℕ → Bool → List ℕ → Judged

@@ -1,4 +1,5 @@
 pub mod Judge
+pub mod Judged
 pub mod Refusing
 pub mod Steps
 -- crates that are passed on to those above, which name them through this one

@@ -1,5 +1,5 @@
 -- 01, "Numbers given back": the case of each refusal that reading gives, over the lists of messages and rows.
-use Rattle.std.specs.Prelude.{ℕ, ◌*◌, ◌≤◌, ◌<◌, ◌≡◌, Bool, true, List, length}
+use Rattle.std.specs.Prelude.{ℕ, ◌*◌, ◌≤◌, ◌<◌, ◌≡◌, Bool, true, List, length, Err}
 use Rattle.refusals.specs.declared.Refusal.{Refusal}
 use Rattle.refusals.specs.Refusals as refusals
 use Rattle.payload.specs.Payload.{number_of, bit_at}
@@ -9,13 +9,12 @@ use Rattle.page_search.specs.page_table.specs.Messages.{message_of}
 use Rattle.page_search.specs.page_table.specs.Table.{rows_of, bits_at, takes, HasBit}
 use Rattle.page_search.specs.page_table.specs.Interfaces.{Has}
 use Rattle.page_search.specs.page_table.specs.Listed.{Among, SignalAt}
-use Rattle.page_read.specs.declared.Judged.{Judged}
-use Rattle.page_read.specs.declared.Judged.TheVariants.{Refused}
+use Rattle.page_read.specs.Judged.{Judged}
 use Rattle.page_read.specs.Judge.{offends}
 
 -- the answer is the refusal with the number c
 abbrev pub Gives : ℕ → Judged → Type 0
-Gives c a = (w : Refusal) × (a ≡ Refused w) × (refusals.number_of w ≡ c)
+Gives c a = (w : Refusal) × (a ≡ Err w) × (refusals.number_of w ≡ c)
 
 -- the frame has identifier, form and length of message k of the interface
 pub record OfKind (iface : Interface) (m : ℕ) (x : Bool) (bs : List ℕ) (k : ℕ) : Type 0 where

@@ -1,1 +1,3 @@
 pub mod ChargerRows
+pub mod Labels
+pub mod Arms

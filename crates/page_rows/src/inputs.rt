@@ -3,7 +3,6 @@ ghost use Rattle.std.specs.Prelude.{◌≡◌, ◌≤◌, ◌<◌, get_or};
 ghost use Rattle.page_charger.specs.page_table.specs.Table.{rows, no_row};
 ghost use Rattle.page_charger.specs.page_table.specs.Layout.{row_of};
 
-use crate::NO_LINE;
 use page_charger::page_table::Line;
 
 // The rows with labels, of messages whose every bit is a signal's: the reader asks for them by name.
@@ -14,6 +13,9 @@ pub const CE_STATE: Line = Line(41, 0, 8, 0, false, 0b1111111111);
 pub const ID_STATE: Line = Line(41, 8, 8, 8, false, 0b1111);
 
 // 01: "layouts are one constant table". A row stands at its place in it: the compiler makes look-up tables of the arms.
+// Kept (4): no conversion, but the row at a place of the table (`rows`).
+#[tactic(auto, using(crate::proofs::Arms::row_of_key))]
+#[inline(always)]
 pub fn line_at(i: usize) -> Line
     requires { (169 ≤ i) × (i < 206) }
     ensures { row_of result ≡ get_or rows i no_row }
@@ -62,6 +64,6 @@ pub fn line_at(i: usize) -> Line
         204 => Line(41, 16, 48, 16, false, 0), // Reserved
         // OCPP_Control
         205 => Line(42, 0, 16, 0, true, 0), // Dynamic_Target_Current
-        _ => NO_LINE,
+        _ => unreachable!(),
     }
 }

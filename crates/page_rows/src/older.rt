@@ -4,7 +4,6 @@ ghost use Rattle.std.specs.Prelude.{◌≡◌, ◌≤◌, ◌<◌, get_or};
 ghost use Rattle.page_charger.specs.page_table.specs.Table.{rows, no_row};
 ghost use Rattle.page_charger.specs.page_table.specs.Layout.{row_of};
 
-use crate::NO_LINE;
 use page_charger::page_table::Line;
 
 // The rows with labels, of messages whose every bit is a signal's: the reader asks for them by name.
@@ -31,6 +30,8 @@ pub const OLD_ID_STATE: Line = Line(29, 8, 8, 8, false, 0b1111);
 pub const END: usize = 139;
 
 // 01: "layouts are one constant table". A row stands at its place in it: the compiler makes look-up tables of the arms.
+// Kept (4): no conversion, but the row at a place of the table (`rows`).
+#[tactic(auto, using(crate::proofs::Arms::row_of_key))]
 pub fn line_at(i: usize) -> Line
     requires { (61 ≤ i) × (i < 139) }
     ensures { row_of result ≡ get_or rows i no_row }
@@ -132,6 +133,6 @@ pub fn line_at(i: usize) -> Line
         136 => OLD_CE_STATE, // CE_State
         137 => OLD_ID_STATE, // ID_State
         138 => Line(29, 16, 48, 16, false, 0), // Reserved
-        _ => NO_LINE,
+        _ => unreachable!(),
     }
 }

@@ -4,7 +4,6 @@ ghost use Rattle.std.specs.Prelude.{◌≡◌, ◌≤◌, ◌<◌, get_or};
 ghost use Rattle.page_charger.specs.page_table.specs.Table.{rows, no_row};
 ghost use Rattle.page_charger.specs.page_table.specs.Layout.{row_of};
 
-use crate::NO_LINE;
 use page_charger::page_table::Line;
 
 pub const END: usize = 61;
@@ -75,6 +74,8 @@ pub const PT4_CHARGING_STOPPED: Line = Line(11, 56, 1, 0, false, 0);
 pub const PT4_SELFTEST_FAILED: Line = Line(11, 57, 1, 1, false, 0);
 
 // 01: "layouts are one constant table". A row stands at its place in it: the compiler makes look-up tables of the arms.
+// Kept (4): no conversion, but the row at a place of the table (`rows`).
+#[tactic(auto, using(crate::proofs::Arms::row_of_key))]
 pub fn line_at(i: usize) -> Line
     requires { (30 ≤ i) × (i < 61) }
     ensures { row_of result ≡ get_or rows i no_row }
@@ -114,6 +115,6 @@ pub fn line_at(i: usize) -> Line
         58 => PT4_TEMPERATURE, // PT4_Temperature
         59 => PT4_CHARGING_STOPPED, // PT4_ChargingStopped
         60 => PT4_SELFTEST_FAILED, // PT4_SelftestFailed
-        _ => NO_LINE,
+        _ => unreachable!(),
     }
 }

@@ -4,12 +4,14 @@ ghost use Rattle.std.specs.Prelude.{◌≡◌, ◌≤◌, ◌<◌, get_or};
 ghost use Rattle.page_charger.specs.page_table.specs.Table.{rows, no_row};
 ghost use Rattle.page_charger.specs.page_table.specs.Layout.{row_of};
 
-use crate::NO_LINE;
 use page_charger::page_table::Line;
 
 pub const END: usize = 169;
 
 // 01: "layouts are one constant table". A row stands at its place in it: the compiler makes look-up tables of the arms.
+// Kept (4): no conversion, but the row at a place of the table (`rows`).
+#[tactic(auto, using(crate::proofs::Arms::row_of_key))]
+#[inline(always)]
 pub fn line_at(i: usize) -> Line
     requires { (139 ≤ i) × (i < 169) }
     ensures { row_of result ≡ get_or rows i no_row }
@@ -52,6 +54,6 @@ pub fn line_at(i: usize) -> Line
         166 => Line(36, 0, 16, 0, true, 0), // EV_Minimum_Energy_Request
         167 => Line(36, 16, 16, 16, true, 0), // EV_Target_Energy_Request
         168 => Line(36, 32, 16, 32, true, 0), // EV_Maximum_Energy_Request
-        _ => NO_LINE,
+        _ => unreachable!(),
     }
 }

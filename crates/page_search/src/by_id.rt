@@ -1,120 +1,73 @@
 // The search by identifier: through the messages, as one number each.
-ghost use Rattle.std.specs.Prelude.{◌≡◌};
-ghost use Rattle.page_rows.specs.page_table.specs.Messages.{kind_count, message_count, rest_kind, key_of};
-ghost use Rattle.page_rows.specs.page_table.specs.Table.{rows, has_id, first_at, among, kind_found, with_message};
+ghost use Rattle.std.specs.Prelude.{◌≡◌, ◌==◌};
+ghost use Rattle.std.specs.List.{position};
+ghost use Rattle.page_rows.specs.page_table.specs.Messages.{key_of};
+ghost use Rattle.page_rows.specs.page_table.specs.Table.{rows, has_id, first_at, kind_found, with_message};
 ghost use Rattle.page_rows.specs.page_table.specs.Interfaces.{with_id};
 
-use page_rows::page_table::{Found, FoundMessage, Interface, KIND_COUNT, REST_KIND};
+use page_rows::page_table::{Interface, KIND_COUNT, Message, REST_KIND};
 use page_rows::{MESSAGES, OLDER, REST, is_on, message_at};
 
-// How many messages document 001 has, and the rest of 000.
-const OLDER_COUNT: usize = 18;
-
-const REST_COUNT: usize = 13;
-
+// Kept (5): docs/PROMISES.md names `judge_of id extended bytes`, and the C interface hands identifier and form in one by one.
 // An identifier and its form as one number, so that the compiler makes one jump by it.
 fn key(id: u32, extended: bool) -> u64
     ensures { result ≡ key_of id extended }
 {
-    if extended {
-        return 2 * (id as u64) + 1;
-    }
-    2 * (id as u64)
+    2 * u64::from(id) + u64::from(extended)
 }
 
-// The kind of the message with an identifier of this form, among the base messages and 004's. The array is copied once and searched in a loop, which the
-// compiler unrolls to a jump: of thirty messages it does not, so that each part has its own.
-fn kind_with_id(id: u32, extended: bool) -> Found
-    ensures { result ≡ kind_found (among 0 kind_count (first_at (has_id id extended) 0 rows)) }
+// The place in a stretch of messages of the first that has an identifier of this form. Of a stretch that is known beforehand the compiler unrolls the search to
+// a jump, but not of thirty messages: so that the base messages with 004's, those of 001 and the rest of 000's are searched one behind the other.
+// Kept (3): a labelled loop is the form that 01 asks for here.
+#[inline(always)]
+fn place_in(messages: &[Message], id: u32, extended: bool) -> Option<usize>
+    ensures { result ≡ position (λ m. key_of m.0 m.1 == key_of id extended) messages.now }
 {
     let wanted = key(id, extended);
-    let messages = MESSAGES;
     let mut k: usize = 0;
     'messages: loop {
-        if KIND_COUNT <= k {
-            break 'messages Found::Nothing;
+        if messages.len() <= k {
+            break 'messages None;
         }
         let m = messages[k];
         if key(m.0, m.1) == wanted {
-            break 'messages Found::At(k);
+            break 'messages Some(k);
         }
         k += 1;
     }
 }
 
-// And among those of document 001.
-fn older_kind_with_id(id: u32, extended: bool) -> Found
-    ensures { result ≡ kind_found (among kind_count rest_kind (first_at (has_id id extended) 0 rows)) }
-{
-    let wanted = key(id, extended);
-    let messages = OLDER;
-    let mut k: usize = 0;
-    'messages: loop {
-        if OLDER_COUNT <= k {
-            break 'messages Found::Nothing;
-        }
-        let m = messages[k];
-        if key(m.0, m.1) == wanted {
-            let kind = KIND_COUNT + k;
-            break 'messages Found::At(kind);
-        }
-        k += 1;
-    }
-}
-
-// And among the rest of 000's.
-fn rest_kind_with_id(id: u32, extended: bool) -> Found
-    ensures { result ≡ kind_found (among rest_kind message_count (first_at (has_id id extended) 0 rows)) }
-{
-    let wanted = key(id, extended);
-    let messages = REST;
-    let mut k: usize = 0;
-    'messages: loop {
-        if REST_COUNT <= k {
-            break 'messages Found::Nothing;
-        }
-        let m = messages[k];
-        if key(m.0, m.1) == wanted {
-            let kind = REST_KIND + k;
-            break 'messages Found::At(kind);
-        }
-        k += 1;
-    }
-}
-
-// And among all.
-fn any_kind_with_id(id: u32, extended: bool) -> Found
+// The kind of the message with an identifier of this form.
+// Kept (1): as a chain of `or_else` and `map` the proof stands open at what each closure's sum asks of the place, `or_else-requires`.
+fn kind_with_id(id: u32, extended: bool) -> Option<usize>
     ensures { result ≡ kind_found (first_at (has_id id extended) 0 rows) }
 {
-    if let Found::At(k) = kind_with_id(id, extended) {
-        return Found::At(k);
+    if let Some(k) = place_in(&MESSAGES, id, extended) {
+        return Some(k);
     }
-    if let Found::At(k) = older_kind_with_id(id, extended) {
-        return Found::At(k);
+    if let Some(k) = place_in(&OLDER, id, extended) {
+        return Some(KIND_COUNT + k);
     }
-    rest_kind_with_id(id, extended)
+    if let Some(k) = place_in(&REST, id, extended) {
+        return Some(REST_KIND + k);
+    }
+    None
 }
 
-// The message with an identifier of this form, on whichever interface has it.
-pub fn with_id(id: u32, extended: bool) -> FoundMessage
+// The message with an identifier of this form, on whichever interface has it: its kind, the place of its first row, its bytes, and its byte order.
+// Kept (5): a tuple, since docs/PROMISES.md names its clause, whose definition `with_message` is one; who asks takes it apart by name at once, or wants the
+// kind alone.
+pub fn with_id(id: u32, extended: bool) -> Option<(usize, usize, usize, bool)>
     ensures { result ≡ with_message (first_at (has_id id extended) 0 rows) }
 {
-    let Found::At(k) = any_kind_with_id(id, extended) else {
-        return FoundMessage::Nothing;
-    };
-    let m = message_at(k);
-    FoundMessage::At(k, m.4, m.2, m.3)
+    let k = kind_with_id(id, extended)?;
+    let Message(_, _, bytes, big, at) = message_at(k);
+    Some((k, at, bytes, big))
 }
 
 // And on one of the two.
-pub fn message_on(iface: Interface, id: u32, extended: bool) -> FoundMessage
+pub fn message_on(iface: Interface, id: u32, extended: bool) -> Option<(usize, usize, usize, bool)>
     ensures { result ≡ with_message (with_id iface id extended) }
 {
-    let FoundMessage::At(kind, at, len, big) = with_id(id, extended) else {
-        return FoundMessage::Nothing;
-    };
-    if is_on(iface, kind) {
-        return FoundMessage::At(kind, at, len, big);
-    }
-    FoundMessage::Nothing
+    with_id(id, extended).filter(|&(kind, _, _, _)| is_on(iface, kind))
 }

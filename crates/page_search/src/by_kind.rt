@@ -2,36 +2,37 @@
 ghost use Rattle.std.specs.Prelude.{◌≡◌};
 ghost use Rattle.page_rows.specs.page_table.specs.Table.{rows, first_at, has_kind, is_signal};
 
-use page_rows::page_table::{Found, MESSAGE_COUNT};
-use page_rows::{ROW_COUNT, message_at, row_to_seek};
+use page_rows::page_table::{MESSAGE_COUNT, Message};
+use page_rows::{ROW_COUNT, message_at, row_at};
 
-pub fn first_of_kind(kind: usize) -> Found
+// Kept (1): with `then_some` writing a frame of 000 took a quarter longer, 54 ns where it takes 43; with `then` and a closure the proof of `returns` stood
+// open.
+pub fn first_of_kind(kind: usize) -> Option<usize>
     ensures { result ≡ first_at (has_kind kind) 0 rows }
 {
     if MESSAGE_COUNT <= kind {
-        return Found::Nothing;
+        return None;
     }
-    Found::At(message_at(kind).4)
+    let Message(_, _, _, _, at) = message_at(kind);
+    Some(at)
 }
 
 // The row of the signal of a kind that starts at a bit: only an exact start counts. The kind's rows stand together.
-pub fn signal_at(kind: usize, start: u32) -> Found
+// Kept (3): a labelled loop is the form that 01 asks for here.
+pub fn signal_at(kind: usize, start: u32) -> Option<usize>
     ensures { result ≡ first_at (is_signal kind start) 0 rows }
 {
-    let Found::At(at) = first_of_kind(kind) else {
-        return Found::Nothing;
-    };
-    let mut i = at;
+    let mut i = first_of_kind(kind)?;
     'rows: loop {
         if ROW_COUNT <= i {
-            break 'rows Found::Nothing;
+            break 'rows None;
         }
-        let r = row_to_seek(i);
+        let r = row_at(i);
         if r.kind != kind {
-            break 'rows Found::Nothing;
+            break 'rows None;
         }
         if r.start == start {
-            break 'rows Found::At(i);
+            break 'rows Some(i);
         }
         i += 1;
     }

@@ -1,6 +1,7 @@
 -- The first row that passes a test: which it is, and that the rows of its kind stand together from it on. The first with an identifier is the first of its
 -- kind, and the other way.
 -- Assumes nothing.
+use Rattle.std.specs.Prelude.{Some, None, Option}
 use mathlib.Core.Path.{◌≡◌, refl, sym, ap, ap₂, ◌∙◌, subst}
 use mathlib.Core.Bool.{Bool, true, false, cond}
 use mathlib.Core.List.{List, [], ◌∷◌}
@@ -11,8 +12,6 @@ use lib.Dec.{leb}
 use lib.ListN.{length, get_or, drop}
 use borrow.Author.Tests.{leb-true, le-leb, eqb-true, eqb-false, eq-eqb, ne_eqb}
 use Rattle.page_table.specs.declared.Row.{Row}
-use Rattle.page_table.specs.declared.Found.{Found}
-use Rattle.page_table.specs.declared.Found.TheVariants.{At, Nothing}
 use Rattle.page_table.specs.Table.{rows, row_count, no_row, has_kind, has_id, keep, of_kind, rows_of, block, first_at, head_row, identifier_of, extended_of, length_of, big_of}
 use Rattle.page_table.specs.Rules.{every, in_turn, all_in_turn}
 use Rattle.page_table.proofs.Rules.{both_true, not_both, table_parts, rows_length, every_at, every_so, turn_at, id_true, id_self, id_other, same_message, other_message, kinds_up, kind_out}
@@ -27,12 +26,12 @@ pub record First (p : Row → Bool) (i : ℕ) (l : List Row) (j : ℕ) : Type 0 
   pub passes : p (get_or l off no_row) ≡ true
   pub before : (m : ℕ) → m < off → p (get_or l m no_row) ≡ false
 
-pub first_is : (p : Row → Bool) (i j : ℕ) (l : List Row) → first_at p i l ≡ At j → First p i l j
+pub first_is : (p : Row → Bool) (i j : ℕ) (l : List Row) → first_at p i l ≡ Some j → First p i l j
 unfolding first_at
 first_is p i j [] e = absurd (let z : ◌≡◌ {A = ℕ} 0 1 = cc in omega arith)
 first_is p i j (r ∷ rs) e = go (p r) refl e (λ q. first_is p (suc i) j rs q)
   where
-    go : (b : Bool) → p r ≡ b → cond b (At i) (first_at p (suc i) rs) ≡ At j → (first_at p (suc i) rs ≡ At j → First p (suc i) rs j) → First p i (r ∷ rs) j
+    go : (b : Bool) → p r ≡ b → cond b (Some i) (first_at p (suc i) rs) ≡ Some j → (first_at p (suc i) rs ≡ Some j → First p (suc i) rs j) → First p i (r ∷ rs) j
     go true t e f =
         let q : i ≡ j = cc in
         record { off = 0; place = omega arith; within = omega arith; passes = t; before = λ m h. absurd (not-suc-le-zero h) }
@@ -47,31 +46,31 @@ first_is p i j (r ∷ rs) e = go (p r) refl e (λ q. first_is p (suc i) j rs q)
         }
 
 pub is_first : (p : Row → Bool) (i d : ℕ) (l : List Row) → d < length l → p (get_or l d no_row) ≡ true → ((m : ℕ) → m < d → p (get_or l m no_row) ≡ false)
-    → first_at p i l ≡ At (i + d)
+    → first_at p i l ≡ Some (i + d)
 unfolding first_at
 is_first p i d [] h t b = absurd (not-suc-le-zero h)
-is_first p i zero (r ∷ rs) h t b = rw t (ap At (sym (add-zero i)))
+is_first p i zero (r ∷ rs) h t b = rw t (ap Some (sym (add-zero i)))
 is_first p i (suc d) (r ∷ rs) h t b =
     rw (b 0 (omega arith))
-    (is_first p (suc i) d rs (le_of_suc-le-suc h) t (λ m l. b (suc m) (omega arith)) ∙ ap At (suc-add i d ∙ sym (add-suc i d)))
+    (is_first p (suc i) d rs (le_of_suc-le-suc h) t (λ m l. b (suc m) (omega arith)) ∙ ap Some (suc-add i d ∙ sym (add-suc i d)))
 
-pub found_in : (p : Row → Bool) (i : ℕ) → first_at p 0 rows ≡ At i → (i < row_count) × (p (get_or rows i no_row) ≡ true)
+pub found_in : (p : Row → Bool) (i : ℕ) → first_at p 0 rows ≡ Some i → (i < row_count) × (p (get_or rows i no_row) ≡ true)
 found_in p i e =
     let c = first_is p 0 i rows e in
     let o : c.off ≡ i = omega (arith, c.place) in
     (omega (arith, c.within, rows_length), subst (λ (x : ℕ). p (get_or rows x no_row) ≡ true) o c.passes)
 
 -- no row passes before the first
-found_before : (p : Row → Bool) (i m : ℕ) → first_at p 0 rows ≡ At i → m < i → p (get_or rows m no_row) ≡ false
+found_before : (p : Row → Bool) (i m : ℕ) → first_at p 0 rows ≡ Some i → m < i → p (get_or rows m no_row) ≡ false
 found_before p i m e h =
     let c = first_is p 0 i rows e in
     c.before m (omega (arith, c.place))
 
 -- where two tests pass first
-found_too : (p q : Row → Bool) (i : ℕ) → first_at p 0 rows ≡ At i → q (get_or rows i no_row) ≡ true
-    → ((m : ℕ) → m < i → p (get_or rows m no_row) ≡ false → q (get_or rows m no_row) ≡ false) → first_at q 0 rows ≡ At i
+found_too : (p q : Row → Bool) (i : ℕ) → first_at p 0 rows ≡ Some i → q (get_or rows i no_row) ≡ true
+    → ((m : ℕ) → m < i → p (get_or rows m no_row) ≡ false → q (get_or rows m no_row) ≡ false) → first_at q 0 rows ≡ Some i
 found_too p q i e t f =
-    is_first q 0 i rows (rw rows_length (found_in p i e).0) t (λ m h. f m h (found_before p i m e h)) ∙ ap At (zero-add i)
+    is_first q 0 i rows (rw rows_length (found_in p i e).0) t (λ m h. f m h (found_before p i m e h)) ∙ ap Some (zero-add i)
 
 -- ---- where the rows of a kind stand
 
@@ -103,15 +102,15 @@ pub record Block (k : ℕ) (i : ℕ) (l : List Row) (j : ℕ) : Type 0 where
   pub head : get_or l off no_row ≡ head_row (of_kind k l)
   pub some : 1 ≤ length (of_kind k l)
 
-blocked : (k i j : ℕ) (l : List Row) → all_in_turn l ≡ true → first_at (has_kind k) i l ≡ At j → Block k i l j
+blocked : (k i j : ℕ) (l : List Row) → all_in_turn l ≡ true → first_at (has_kind k) i l ≡ Some j → Block k i l j
 unfolding first_at block of_kind
 blocked k i j [] ts e = absurd (let z : ◌≡◌ {A = ℕ} 0 1 = cc in omega arith)
 blocked k i j (r ∷ rs) ts e =
     let sp = both_true (every (in_turn r) rs) (all_in_turn rs) ts in
     go (has_kind k r) refl e sp.0 sp.1 (λ q. blocked k (suc i) j rs sp.1 q)
   where
-    go : (b : Bool) → has_kind k r ≡ b → cond b (At i) (first_at (has_kind k) (suc i) rs) ≡ At j → every (in_turn r) rs ≡ true → all_in_turn rs ≡ true
-        → (first_at (has_kind k) (suc i) rs ≡ At j → Block k (suc i) rs j) → Block k i (r ∷ rs) j
+    go : (b : Bool) → has_kind k r ≡ b → cond b (Some i) (first_at (has_kind k) (suc i) rs) ≡ Some j → every (in_turn r) rs ≡ true → all_in_turn rs ≡ true
+        → (first_at (has_kind k) (suc i) rs ≡ Some j → Block k (suc i) rs j) → Block k i (r ∷ rs) j
     go true t e ts us f =
         let q : i ≡ j = cc in
         let w : r.kind ≡ k = eqb-true r.kind k t in
@@ -128,7 +127,7 @@ blocked k i j (r ∷ rs) ts e =
         let c = f e in
         record { off = suc c.off; place = omega (arith, c.place); rest = rw t c.rest; head = rw t c.head; some = rw t c.some }
 
-pub first_kind : (k i : ℕ) → first_at (has_kind k) 0 rows ≡ At i
+pub first_kind : (k i : ℕ) → first_at (has_kind k) 0 rows ≡ Some i
     → (i < row_count) × (block k (drop i rows) ≡ rows_of k) × (get_or rows i no_row ≡ head_row (rows_of k)) × (1 ≤ length (rows_of k))
 first_kind k i e =
     let c = blocked k 0 i rows table_parts.2 e in
@@ -139,23 +138,23 @@ first_kind k i e =
       c.some,
     )
 
-none_in : (k i : ℕ) (l : List Row) → first_at (has_kind k) i l ≡ Nothing → of_kind k l ≡ []
+none_in : (k i : ℕ) (l : List Row) → first_at (has_kind k) i l ≡ None → of_kind k l ≡ []
 unfolding first_at of_kind
 none_in k i [] e = refl
 none_in k i (r ∷ rs) e = go (has_kind k r) e (λ q. none_in k (suc i) rs q)
   where
-    go : (b : Bool) → cond b (At i) (first_at (has_kind k) (suc i) rs) ≡ Nothing → (first_at (has_kind k) (suc i) rs ≡ Nothing → of_kind k rs ≡ [])
+    go : (b : Bool) → cond b (Some i) (first_at (has_kind k) (suc i) rs) ≡ None → (first_at (has_kind k) (suc i) rs ≡ None → of_kind k rs ≡ [])
         → keep b r (of_kind k rs) ≡ []
     go true e f = absurd (let z : ◌≡◌ {A = ℕ} 0 1 = cc in omega arith)
     go false e f = f e
 
-pub none_kind : (k : ℕ) → first_at (has_kind k) 0 rows ≡ Nothing → rows_of k ≡ []
+pub none_kind : (k : ℕ) → first_at (has_kind k) 0 rows ≡ None → rows_of k ≡ []
 none_kind k e = none_in k 0 rows e
 
 -- ---- identifiers
 
 -- the first row with an identifier is the first row of its kind
-pub id_kind_lem : (m : ℕ) (x : Bool) (i : ℕ) → first_at (has_id m x) 0 rows ≡ At i → first_at (has_kind (get_or rows i no_row).kind) 0 rows ≡ At i
+pub id_kind_lem : (m : ℕ) (x : Bool) (i : ℕ) → first_at (has_id m x) 0 rows ≡ Some i → first_at (has_kind (get_or rows i no_row).kind) 0 rows ≡ Some i
 id_kind_lem m x i e =
     let r = get_or rows i no_row in
     let f = found_in (has_id m x) i e in
@@ -167,7 +166,7 @@ id_kind_lem m x i e =
     let same_id : has_id m x q ≡ true = ap₂ (λ (y : ℕ) (z : Bool). has_id y z q) (sym w.0 ∙ sym a.0) (w.1 ∙ sym a.1) ∙ id_self q in
     not_both (has_id m x q) same_id n))
 
-pub first_id : (m : ℕ) (x : Bool) (i : ℕ) → first_at (has_id m x) 0 rows ≡ At i
+pub first_id : (m : ℕ) (x : Bool) (i : ℕ) → first_at (has_id m x) 0 rows ≡ Some i
     → (i < row_count) × ((get_or rows i no_row).id ≡ m) × (block (get_or rows i no_row).kind (drop i rows) ≡ rows_of (get_or rows i no_row).kind)
     × (head_row (rows_of (get_or rows i no_row).kind) ≡ get_or rows i no_row) × ((get_or rows i no_row).extended ≡ x)
 first_id m x i e =
@@ -178,16 +177,16 @@ first_id m x i e =
 
 -- the first row of a kind is the first with its identifier
 pub known : (k : ℕ) → 1 ≤ length (rows_of k)
-    → (i : ℕ) × (first_at (has_id (identifier_of k) (extended_of k)) 0 rows ≡ At i) × ((get_or rows i no_row).kind ≡ k) × ((get_or rows i no_row).bytes ≡ length_of k)
+    → (i : ℕ) × (first_at (has_id (identifier_of k) (extended_of k)) 0 rows ≡ Some i) × ((get_or rows i no_row).kind ≡ k) × ((get_or rows i no_row).bytes ≡ length_of k)
     × ((get_or rows i no_row).big ≡ big_of k)
 unfolding identifier_of extended_of length_of big_of
 known k h = go (first_at (has_kind k) 0 rows) refl
   where
-    go : (f : Found) → first_at (has_kind k) 0 rows ≡ f
-        → (i : ℕ) × (first_at (has_id (head_row (rows_of k)).id (head_row (rows_of k)).extended) 0 rows ≡ At i) × ((get_or rows i no_row).kind ≡ k)
+    go : (f : Option ℕ) → first_at (has_kind k) 0 rows ≡ f
+        → (i : ℕ) × (first_at (has_id (head_row (rows_of k)).id (head_row (rows_of k)).extended) 0 rows ≡ Some i) × ((get_or rows i no_row).kind ≡ k)
         × ((get_or rows i no_row).bytes ≡ (head_row (rows_of k)).bytes) × ((get_or rows i no_row).big ≡ (head_row (rows_of k)).big)
-    go Nothing e = absurd (omega (arith, h, ap length (none_kind k e)))
-    go (At i) e =
+    go None e = absurd (omega (arith, h, ap length (none_kind k e)))
+    go (Some i) e =
         let r = get_or rows i no_row in
         let c = first_kind k i e in
         let w : r.kind ≡ k = eqb-true r.kind k (found_in (has_kind k) i e).1 in
@@ -195,7 +194,7 @@ known k h = go (first_at (has_kind k) 0 rows) refl
         = λ j l n. let q = get_or rows j no_row in
         id_other q r (other_message q r (λ t. eqb-false q.kind k n (t ∙ w)) (turn_at rows table_parts.2 j i l (rw rows_length c.0))).1 in (
           i,
-          subst (λ (x : Row). first_at (has_id x.id x.extended) 0 rows ≡ At i) c.2 (found_too (has_kind k) (has_id r.id r.extended) i e (id_self r) alone),
+          subst (λ (x : Row). first_at (has_id x.id x.extended) 0 rows ≡ Some i) c.2 (found_too (has_kind k) (has_id r.id r.extended) i e (id_self r) alone),
           w,
           ap (λ (x : Row). x.bytes) c.2,
           ap (λ (x : Row). x.big) c.2,

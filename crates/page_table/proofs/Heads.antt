@@ -1,5 +1,6 @@
 -- What the messages say is what the rows say: of a kind (`says`), where its rows stand (`first-place`, `no_kind`), and which has an identifier (`id-place`).
 -- Assumes nothing.
+use Rattle.std.specs.Prelude.{Some, None, Option}
 use mathlib.Core.Path.{◌≡◌, refl, sym, ap, ap₂, ◌∙◌, subst}
 use mathlib.Core.Bool.{Bool, true, false, not, ◌&&◌}
 use mathlib.Core.Logic.{◌⊎◌, inl, inr}
@@ -12,13 +13,10 @@ use borrow.Author.Tests.{eqb-true, ltb-true, ne_eqb}
 use Rattle.signal.proofs.Complement.{half_of}
 use Rattle.page_table.specs.declared.Row.{Row}
 use Rattle.page_table.specs.declared.Message.{Message}
-use Rattle.page_table.specs.declared.Found.{Found}
-use Rattle.page_table.specs.declared.Found.TheVariants.{At, Nothing}
-use Rattle.page_table.specs.declared.FoundMessage.TheVariants as message
 use Rattle.page_table.specs.Messages.{message_count, messages, no_message, message_of, same, key_of}
 use Rattle.page_table.specs.Table.{rows, row_at, has_kind, has_id, rows_of, head_row, first_at, kind_found, with_message, identifier_of, extended_of, length_of, big_of}
 use Rattle.page_table.specs.Rules.{every}
-use Rattle.page_table.proofs.Rules.{both_true, same_true, rows_length, every_at, every_so, id_true}
+use Rattle.page_table.proofs.Rules.{both_true, same_true, rows_length, every_at, every_so}
 use Rattle.page_table.proofs.Firsts.{found_in, first_kind, none_kind, id_kind_lem, known}
 use Rattle.page_table.proofs.Searches.{none_found}
 use Rattle.page_table.proofs.Below.{all_below, below_at}
@@ -36,9 +34,9 @@ unfolding rows
 rows_agree = refl
 
 -- a message's first row is the first of its kind
-abbrev found_at : ℕ → Found → Bool
-found_at i (At j) = eqb j i
-found_at i Nothing = false
+abbrev found_at : ℕ → Option ℕ → Bool
+found_at i (Some j) = eqb j i
+found_at i None = false
 
 all_placed : all_below (λ k. found_at (message_of k).4 (first_at (has_kind k) 0 rows)) message_count ≡ true
 unfolding all_below rows first_at
@@ -72,15 +70,15 @@ agreed r e =
       big = same_true m.3 r.big t.1;
     }
 
-pub first_place : (k : ℕ) → k < message_count → first_at (has_kind k) 0 rows ≡ At (message_of k).4
+pub first_place : (k : ℕ) → k < message_count → first_at (has_kind k) 0 rows ≡ Some (message_of k).4
 first_place k h =
     go (first_at (has_kind k) 0 rows) (below_at (λ j. found_at (message_of j).4 (first_at (has_kind j) 0 rows)) message_count k all_placed h)
   where
-    go : (f : Found) → found_at (message_of k).4 f ≡ true → f ≡ At (message_of k).4
-    go (At j) e = ap At (eqb-true j (message_of k).4 e)
-    go Nothing e = absurd (let z : ◌≡◌ {A = ℕ} 0 1 = cc in omega arith)
+    go : (f : Option ℕ) → found_at (message_of k).4 f ≡ true → f ≡ Some (message_of k).4
+    go (Some j) e = ap Some (eqb-true j (message_of k).4 e)
+    go None e = absurd (let z : ◌≡◌ {A = ℕ} 0 1 = cc in omega arith)
 
-pub no_kind : (k : ℕ) → message_count ≤ k → first_at (has_kind k) 0 rows ≡ Nothing
+pub no_kind : (k : ℕ) → message_count ≤ k → first_at (has_kind k) 0 rows ≡ None
 no_kind k h =
     none_found (has_kind k) 0 rows
     (every_so agrees (λ r. not (has_kind k r)) (λ r e. ap not (ne_eqb r.kind k (λ q. omega (arith, (agreed r e).kind)))) rows rows_agree)
@@ -130,35 +128,35 @@ kind_key k = key_of (message_of k).0 (message_of k).1
 
 -- it is that of kind k, whose first row is the first with the identifier
 pub id_place : (m : ℕ) (x : Bool) (k : ℕ) → k < message_count → kind_key k ≡ key_of m x
-    → (first_at (has_id m x) 0 rows ≡ At (message_of k).4) × ((row_at (message_of k).4).kind ≡ k)
+    → (first_at (has_id m x) 0 rows ≡ Some (message_of k).4) × ((row_at (message_of k).4).kind ≡ k)
 id_place m x k h e =
     let p = first_place k h in
     let n = known k (first_kind k (message_of k).4 p).3 in
     let i = n.0 in
     let t = key_same (message_of k).0 m (message_of k).1 x e in
     let s = says k in
-    let place : At (message_of k).4 ≡ At i = sym p ∙ subst (λ (j : ℕ). first_at (has_kind j) 0 rows ≡ At i) n.2 (id_kind_lem (identifier_of k) (extended_of k) i n.1) in
+    let place : Some (message_of k).4 ≡ Some i = sym p ∙ subst (λ (j : ℕ). first_at (has_kind j) 0 rows ≡ Some i) n.2 (id_kind_lem (identifier_of k) (extended_of k) i n.1) in
     let at : (message_of k).4 ≡ i = cc in
-    let found : first_at (has_id m x) 0 rows ≡ At i
+    let found : first_at (has_id m x) 0 rows ≡ Some i
     = ap₂ (λ (j : ℕ) (y : Bool). first_at (has_id j y) 0 rows) (sym t.0 ∙ s.0) (sym t.1 ∙ s.1) ∙ n.1 in
-    (found ∙ ap At (sym at), ap (λ (j : ℕ). (row_at j).kind) at ∙ n.2)
+    (found ∙ ap Some (sym at), ap (λ (j : ℕ). (row_at j).kind) at ∙ n.2)
 
 -- the message of a kind that was found is that of the row
-pub kind_message : (k : ℕ) (f : Found) → kind_found f ≡ At k → ((i : ℕ) → f ≡ At i → first_at (has_kind (row_at i).kind) 0 rows ≡ At i)
-    → message.At k (message_of k).4 (message_of k).2 (message_of k).3 ≡ with_message f
-kind_message k (At i) e first =
+pub kind_message : (k : ℕ) (f : Option ℕ) → kind_found f ≡ Some k → ((i : ℕ) → f ≡ Some i → first_at (has_kind (row_at i).kind) 0 rows ≡ Some i)
+    → Some (k, (message_of k).4, (message_of k).2, (message_of k).3) ≡ with_message f
+kind_message k (Some i) e first =
     let q : (row_at i).kind ≡ k = cc in
-    let p : first_at (has_kind k) 0 rows ≡ At i = subst (λ (j : ℕ). first_at (has_kind j) 0 rows ≡ At i) q (first i refl) in
+    let p : first_at (has_kind k) 0 rows ≡ Some i = subst (λ (j : ℕ). first_at (has_kind j) 0 rows ≡ Some i) q (first i refl) in
     let f = found_in (has_kind k) i p in
     let a = agreed (row_at i) (every_at agrees rows rows_agree i (rw rows_length f.0)) in
     let below : k < message_count = subst (λ (j : ℕ). j < message_count) q a.kind in
-    let place : At (message_of k).4 ≡ At i = sym (first_place k below) ∙ p in
+    let place : Some (message_of k).4 ≡ Some i = sym (first_place k below) ∙ p in
     let at : (message_of k).4 ≡ i = cc in
-    ap₂ (λ (u v : ℕ). message.At u v (message_of k).2 (message_of k).3) (sym q) at
-    ∙ ap₂ (λ (u : ℕ) (v : Bool). message.At (row_at i).kind i u v)
+    ap₂ (λ (u v : ℕ). Some (u, v, (message_of k).2, (message_of k).3)) (sym q) at
+    ∙ ap₂ (λ (u : ℕ) (v : Bool). Some ((row_at i).kind, i, u, v))
     (ap (λ (j : ℕ). (message_of j).2) (sym q) ∙ a.bytes) (ap (λ (j : ℕ). (message_of j).3) (sym q) ∙ a.big)
-kind_message k Nothing e first = absurd (let z : ◌≡◌ {A = ℕ} 0 1 = cc in omega arith)
+kind_message k None e first = absurd (let z : ◌≡◌ {A = ℕ} 0 1 = cc in omega arith)
 
-pub kind_nothing : (f : Found) → kind_found f ≡ Nothing → message.Nothing ≡ with_message f
-kind_nothing (At i) e = absurd (let z : ◌≡◌ {A = ℕ} 0 1 = cc in omega arith)
-kind_nothing Nothing e = refl
+pub kind_nothing : (f : Option ℕ) → kind_found f ≡ None → None ≡ with_message f
+kind_nothing (Some i) e = absurd (let z : ◌≡◌ {A = ℕ} 0 1 = cc in omega arith)
+kind_nothing None e = refl

@@ -1,7 +1,8 @@
 -- What an interface finds by an identifier: a row of the table whose message it has (`own-found`, `found-own`), a message that it has (`found-has`,
 -- `has-found`), or none (`on_none`). No row is found on an interface that does not have its message.
 -- Assumes nothing.
-use mathlib.Core.Path.{◌≡◌, refl, sym, ap, ap₂, ◌∙◌}
+use Rattle.std.specs.Prelude.{Some, None, Option}
+use mathlib.Core.Path.{◌≡◌, refl, sym, ap, ◌∙◌}
 use mathlib.Core.Bool.{Bool, true, false, cond}
 use mathlib.Core.List.{List, [], ◌∷◌, ◌++◌}
 use Prim.Native.Nat.{ℕ, zero, suc, ◌+◌, ◌<◌}
@@ -9,13 +10,9 @@ use native.Mathlib.Nat.{le_of_suc-le-suc, not-suc-le-zero, zero-add, suc-add}
 use native.Mathlib.Omega.{arith}
 use lib.ListN.{length, get_or}
 use Rattle.page_table.specs.declared.Interface.{Interface}
-use Rattle.page_table.specs.declared.Interface.TheVariants.{Newer, Older}
-use Rattle.page_table.specs.declared.Found.{Found}
-use Rattle.page_table.specs.declared.Found.TheVariants.{At, Nothing}
-use Rattle.page_table.specs.declared.FoundMessage.TheVariants as message
 use Rattle.page_table.specs.Messages.{kind_count, rest_kind, charger_messages, safety_messages, older_messages, rest_messages, no_message, message_of}
-use Rattle.page_table.specs.Table.{rows, row_at, first_at, has_id, kind_found, with_message}
-use Rattle.page_table.specs.Interfaces.{safety_kind, is_on, found_on, with_id, Has}
+use Rattle.page_table.specs.Table.{rows, row_at, first_at, has_id, with_message}
+use Rattle.page_table.specs.Interfaces.{is_on, found_on, with_id, Has}
 use Rattle.page_table.proofs.Listed.{found_listed, listed_found}
 
 -- ---- the messages of an interface, one behind the other
@@ -42,62 +39,54 @@ rest_message k = sym (behind (charger_messages ++ (safety_messages ++ older_mess
 -- ---- what is found
 
 -- what is found on an interface is what the table's first row with the identifier is, and one of the interface's
-pub own_found : (iface : Interface) (f : Found) (i : ℕ) → found_on iface f ≡ At i → (f ≡ At i) × (is_on iface (row_at i).kind ≡ true)
-own_found iface (At j) i e = go (is_on iface (row_at j).kind) refl e
+pub own_found : (iface : Interface) (f : Option ℕ) (i : ℕ) → found_on iface f ≡ Some i → (f ≡ Some i) × (is_on iface (row_at i).kind ≡ true)
+own_found iface (Some j) i e = go (is_on iface (row_at j).kind) refl e
   where
-    go : (b : Bool) → is_on iface (row_at j).kind ≡ b → cond b (At j) Nothing ≡ At i → (At j ≡ At i) × (is_on iface (row_at i).kind ≡ true)
+    go : (b : Bool) → is_on iface (row_at j).kind ≡ b → cond b (Some j) None ≡ Some i → (Some j ≡ Some i) × (is_on iface (row_at i).kind ≡ true)
     go true o e = let s : j ≡ i = cc in (e, ap (λ (k : ℕ). is_on iface (row_at k).kind) (sym s) ∙ o)
     go false o e = absurd (let z : ◌≡◌ {A = ℕ} 0 1 = cc in omega arith)
-own_found iface Nothing i e = absurd (let z : ◌≡◌ {A = ℕ} 0 1 = cc in omega arith)
+own_found iface None i e = absurd (let z : ◌≡◌ {A = ℕ} 0 1 = cc in omega arith)
 
-pub found_own : (iface : Interface) (f : Found) (i : ℕ) → f ≡ At i → is_on iface (row_at i).kind ≡ true → found_on iface f ≡ At i
-found_own iface f i e o = ap (found_on iface) e ∙ ap (λ (b : Bool). cond b (At i) Nothing) o
+pub found_own : (iface : Interface) (f : Option ℕ) (i : ℕ) → f ≡ Some i → is_on iface (row_at i).kind ≡ true → found_on iface f ≡ Some i
+found_own iface f i e o = ap (found_on iface) e ∙ ap (λ (b : Bool). cond b (Some i) None) o
 
--- a message that is found, on an interface: by whether its kind is one of the interface's
-pub message_own : (iface : Interface) (f : Found) (k i len : ℕ) (big : Bool) → with_message f ≡ message.At k i len big → is_on iface k ≡ true
-    → message.At k i len big ≡ with_message (found_on iface f)
-message_own iface (At j) k i len big e o =
-    let s : (row_at j).kind ≡ k = cc in
-    sym e ∙ sym (ap (λ (b : Bool). with_message (cond b (At j) Nothing)) (ap (is_on iface) s ∙ o))
-message_own iface Nothing k i len big e o = absurd (let z : ◌≡◌ {A = ℕ} 0 1 = cc in omega arith)
-
-pub message_other : (iface : Interface) (f : Found) (k i len : ℕ) (big : Bool) → with_message f ≡ message.At k i len big → is_on iface k ≡ false
-    → message.Nothing ≡ with_message (found_on iface f)
-message_other iface (At j) k i len big e o =
-    let s : (row_at j).kind ≡ k = cc in
-    sym (ap (λ (b : Bool). with_message (cond b (At j) Nothing)) (ap (is_on iface) s ∙ o))
-message_other iface Nothing k i len big e o = refl
-
-pub message_none : (iface : Interface) (f : Found) → with_message f ≡ message.Nothing → message.Nothing ≡ with_message (found_on iface f)
-message_none iface (At j) e = absurd (let z : ◌≡◌ {A = ℕ} 0 1 = cc in omega arith)
-message_none iface Nothing e = refl
+-- what is told of a message that is found is said by the row
+pub found_says : (j k i len : ℕ) (big : Bool) → with_message (Some j) ≡ Some (k, i, len, big)
+    → ((row_at j).kind ≡ k) × (j ≡ i) × ((row_at j).bytes ≡ len) × ((row_at j).big ≡ big)
+found_says j k i len big e =
+    let p : ((row_at j).kind, j, (row_at j).bytes, (row_at j).big) ≡ (k, i, len, big) = cc in (
+      ap (λ (q : ℕ × ℕ × ℕ × Bool). q.0) p,
+      ap (λ (q : ℕ × ℕ × ℕ × Bool). q.1) p,
+      ap (λ (q : ℕ × ℕ × ℕ × Bool). q.2) p,
+      ap (λ (q : ℕ × ℕ × ℕ × Bool). q.3) p,
+    )
 
 -- the row that is found says what the list says of its kind, which the interface has
 pub record Told (iface : Interface) (m : ℕ) (x : Bool) (i : ℕ) : Type 0 where
-  pub first : first_at (has_id m x) 0 rows ≡ At i
+  pub first : first_at (has_id m x) 0 rows ≡ Some i
   pub has : Has iface m x (row_at i).kind
   pub bytes : (message_of (row_at i).kind).2 ≡ (row_at i).bytes
   pub big : (message_of (row_at i).kind).3 ≡ (row_at i).big
 
-pub found_has : (iface : Interface) (m : ℕ) (x : Bool) (i : ℕ) → with_id iface m x ≡ At i → Told iface m x i
+pub found_has : (iface : Interface) (m : ℕ) (x : Bool) (i : ℕ) → with_id iface m x ≡ Some i → Told iface m x i
 found_has iface m x i f =
     let o = own_found iface (first_at (has_id m x) 0 rows) i f in
     let t = found_listed m x i o.0 in
     record { first = o.0; has = record { listed = t.listed; own = o.1 }; bytes = t.bytes; big = t.big }
 
-pub has_found : (iface : Interface) (m : ℕ) (x : Bool) (k : ℕ) → Has iface m x k → (i : ℕ) × (with_id iface m x ≡ At i) × ((row_at i).kind ≡ k)
+pub has_found : (iface : Interface) (m : ℕ) (x : Bool) (k : ℕ) → Has iface m x k → (i : ℕ) × (with_id iface m x ≡ Some i) × ((row_at i).kind ≡ k)
 has_found iface m x k h =
     let p = listed_found m x k h.listed in
     (p.0, found_own iface (first_at (has_id m x) 0 rows) p.0 p.1 (ap (is_on iface) p.2 ∙ h.own), p.2)
 
 -- and where none of them has it
-pub on_none : (iface : Interface) (m : ℕ) (x : Bool) → ((k : ℕ) → Has iface m x k → ⊥) → with_id iface m x ≡ Nothing
+pub on_none : (iface : Interface) (m : ℕ) (x : Bool) → ((k : ℕ) → Has iface m x k → ⊥) → with_id iface m x ≡ None
 on_none iface m x n = go (first_at (has_id m x) 0 rows) refl
   where
-    own : (i : ℕ) (b : Bool) → first_at (has_id m x) 0 rows ≡ At i → is_on iface (row_at i).kind ≡ b → cond b (At i) Nothing ≡ Nothing
+    own : (i : ℕ) (b : Bool) → first_at (has_id m x) 0 rows ≡ Some i → is_on iface (row_at i).kind ≡ b → cond b (Some i) None ≡ None
     own i true f o = absurd (n (row_at i).kind (record { listed = (found_listed m x i f).listed; own = o }))
     own i false f o = refl
 
-    go : (f : Found) → first_at (has_id m x) 0 rows ≡ f → found_on iface f ≡ Nothing
-    go (At i) f = own i (is_on iface (row_at i).kind) f refl
-    go Nothing f = refl
+    go : (f : Option ℕ) → first_at (has_id m x) 0 rows ≡ f → found_on iface f ≡ None
+    go (Some i) f = own i (is_on iface (row_at i).kind) f refl
+    go None f = refl

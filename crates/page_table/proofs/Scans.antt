@@ -1,96 +1,90 @@
--- A search over a stretch of the messages, from kind a up to b: what it finds (`scan-found`, `scan-is`), or that none of them has the identifier (`scan-none`).
--- Stretches one behind the other search all (`scan-on`, `scan-all`). Assumes nothing.
-use mathlib.Core.Path.{◌≡◌, refl, sym, ap, ap₂, ◌∙◌, subst}
-use mathlib.Core.Bool.{Bool, true, false, cond, ◌&&◌}
+-- A search of the messages by identifier, kind by kind: one that has it is what the table's search finds (`one_has`), and where none has it that finds nothing
+-- (`none_has`). The newer messages with 004's, those of 001 and the rest of 000's are searched one behind the other, each by std's `position`
+-- (`newer_has`, `older_has`, `rest_has`, `none_have`). Assumes nothing.
+use Rattle.std.specs.Prelude.{Option}
+use mathlib.Core.Path.{◌≡◌, refl, sym, ap, ap₂, ◌∙◌}
+use mathlib.Core.Bool.{Bool, true, false, cond}
 use mathlib.Core.Logic.{◌⊎◌, inl, inr}
-use Prim.Native.Nat.{ℕ, ◌+◌, ◌≤◌, ◌<◌, zero-le}
+use mathlib.Core.List.{List, ◌++◌}
+use Prim.Native.Nat.{ℕ, ◌+◌, ◌-◌, ◌≤◌, ◌<◌}
+use Rattle.std.proofs.Common.{Some, None}
 use native.Mathlib.Omega.{arith}
-use lib.Dec.{leb, ltb}
-use borrow.Author.Tests.{leb-true, ltb-true, le-leb, lt-leb, lt-ltb}
+use lib.Dec.{eqb}
+use lib.ListN.{length, get_or}
+use borrow.Author.Tests.{eqb-true, eq-eqb, lt-ltb}
+use Rattle.std.specs.List.{position, position_or_len}
+use Rattle.std.proofs.lemmas.List.Quantifiers.{position-Some}
+use Rattle.std.proofs.lemmas.List.Sums.{fails_before_first}
 use Rattle.signal.proofs.Complement.{half_of}
-use Rattle.page_table.specs.declared.Found.{Found}
-use Rattle.page_table.specs.declared.Found.TheVariants.{At, Nothing}
-use Rattle.page_table.specs.Messages.{message_count, message_of, key_of}
-use Rattle.page_table.specs.Table.{rows, row_at, first_at, has_id, among, kind_found}
-use Rattle.page_table.proofs.Rules.{both_true}
+use Rattle.page_table.specs.declared.Message.{Message}
+use Rattle.page_table.specs.Messages.{message_count, kind_count, rest_kind, charger_messages, safety_messages, older_messages, rest_messages, no_message, key_of}
+use Rattle.page_table.specs.Table.{rows, row_at, first_at, has_id, kind_found}
 use Rattle.page_table.proofs.Heads.{kind_key, id_place}
+use Rattle.page_table.proofs.Interfaces.{newer_message, older_message, rest_message}
 use Rattle.page_table.proofs.Listed.{found_listed}
 
-abbrev within : ℕ → ℕ → ℕ → Bool
-within a b k = leb a k && ltb k b
+pub one_has : (m : ℕ) (x : Bool) (k : ℕ) → k < message_count → kind_key k ≡ key_of m x → Some k ≡ kind_found (first_at (has_id m x) 0 rows)
+one_has m x k h e = let p = id_place m x k h e in sym (ap kind_found p.0 ∙ ap Some p.1)
 
-is_within_lem : (a b k : ℕ) → a ≤ k → k < b → within a b k ≡ true
-is_within_lem a b k low high = rw (le-leb a k low, lt-ltb k b high)
-
-pub scan_found : (a b m : ℕ) (x : Bool) (k : ℕ) → a ≤ k → k < b → k < message_count → kind_key k ≡ key_of m x
-    → At k ≡ kind_found (among a b (first_at (has_id m x) 0 rows))
-scan_found a b m x k low high h e =
-    let p = id_place m x k h e in
-    let i = (message_of k).4 in
-    sym (ap (λ (f : Found). kind_found (among a b f)) p.0
-    ∙ ap (λ (t : Bool). kind_found (cond t (At i) Nothing)) (ap (within a b) p.1 ∙ is_within_lem a b k low high)
-    ∙ ap At p.1)
-
-pub scan_none : (a b m : ℕ) (x : Bool) → ((k : ℕ) → a ≤ k → k < b → kind_key k ≡ key_of m x → ⊥) → Nothing ≡ kind_found (among a b (first_at (has_id m x) 0 rows))
-scan_none a b m x none = go (first_at (has_id m x) 0 rows) refl
+pub none_has : (m : ℕ) (x : Bool) → ((k : ℕ) → k < message_count → kind_key k ≡ key_of m x → ⊥) → None ≡ kind_found (first_at (has_id m x) 0 rows)
+none_has m x none = go (first_at (has_id m x) 0 rows) refl
   where
-    at : (i : ℕ) → first_at (has_id m x) 0 rows ≡ At i → (t : Bool) → within a b (row_at i).kind ≡ t → Nothing ≡ kind_found (cond t (At i) Nothing)
-    at i f true w =
-        let k = (row_at i).kind in
-        let l = (found_listed m x i f).listed in
-        let in_both = both_true (leb a k) (ltb k b) w in
-        absurd (none k (leb-true a k in_both.0) (ltb-true k b in_both.1) (ap₂ key_of l.identifier l.form))
-    at i f false w = refl
+    go : (f : Option ℕ) → first_at (has_id m x) 0 rows ≡ f → None ≡ kind_found f
+    go (Some i) f = let l = (found_listed m x i f).listed in absurd (none (row_at i).kind l.in_table (ap₂ key_of l.identifier l.form))
+    go None f = refl
 
-    go : (f : Found) → first_at (has_id m x) 0 rows ≡ f → Nothing ≡ kind_found (among a b f)
-    go (At i) f = at i f (within a b (row_at i).kind) refl
-    go Nothing f = refl
+-- a message has the identifier of a key
+abbrev pub has_key : ℕ → Message → Bool
+has_key w m = eqb (key_of m.0 m.1) w
 
--- what a stretch finds is what all of them find
-pub scan_is : (a b : ℕ) (f : Found) (k : ℕ) → kind_found (among a b f) ≡ At k → At k ≡ kind_found f
-scan_is a b (At i) k e = go (within a b (row_at i).kind) e
+-- std's search finds one that has it
+at_place : (w : ℕ) (l : List Message) (k : ℕ) → position (has_key w) l ≡ Some k → (k < length l) × (key_of (get_or l k no_message).0 (get_or l k no_message).1 ≡ w)
+at_place w l k e = let p = position-Some (has_key w) l k no_message e in (p.0, eqb-true _ w p.1)
+
+-- and where it finds none, none has it
+nowhere : (w : ℕ) (l : List Message) (k : ℕ) → position (has_key w) l ≡ None → k < length l → key_of (get_or l k no_message).0 (get_or l k no_message).1 ≡ w → ⊥
+nowhere w l k e h s = go (half_of (length l) (position_or_len (has_key w) l))
   where
-    go : (t : Bool) → kind_found (cond t (At i) Nothing) ≡ At k → At k ≡ At (row_at i).kind
-    go true e = sym e
-    go false e = absurd (let z : ◌≡◌ {A = ℕ} 0 1 = cc in omega arith)
-scan_is a b Nothing k e = sym e
+    go : (position_or_len (has_key w) l < length l) ⊎ (length l ≤ position_or_len (has_key w) l) → ⊥
+    go (inl u) =
+        let t : cond true (Some (position_or_len (has_key w) l)) None ≡ None
+        = ap (λ (b : Bool). cond b (Some (position_or_len (has_key w) l)) None) (sym (lt-ltb _ _ u)) ∙ e in
+        cc
+    go (inr u) =
+        let f : has_key w (get_or l k no_message) ≡ false = fails_before_first (has_key w) l k no_message (omega arith) in
+        let g : has_key w (get_or l k no_message) ≡ true = eq-eqb _ w s in
+        cc
 
--- where a stretch finds nothing, the next finds what both do
-pub scan_on : (a b c : ℕ) → a ≤ b → (f : Found) → kind_found (among a b f) ≡ Nothing → kind_found (among b c f) ≡ kind_found (among a c f)
-scan_on a b c h (At i) e = outside (within a b k) refl e
+abbrev key_at : Message → ℕ
+key_at m = key_of m.0 m.1
+
+pub newer_has : (m : ℕ) (x : Bool) (k : ℕ) → position (has_key (key_of m x)) (charger_messages ++ safety_messages) ≡ Some k → Some k ≡ kind_found (first_at (has_id m x) 0 rows)
+newer_has m x k e =
+    let p = at_place (key_of m x) (charger_messages ++ safety_messages) k e in
+    one_has m x k (omega (arith, p.0)) (ap key_at (sym (newer_message k p.0)) ∙ p.1)
+
+pub older_has : (m : ℕ) (x : Bool) (k : ℕ) → position (has_key (key_of m x)) older_messages ≡ Some k → Some (kind_count + k) ≡ kind_found (first_at (has_id m x) 0 rows)
+older_has m x k e =
+    let p = at_place (key_of m x) older_messages k e in
+    one_has m x (kind_count + k) (omega (arith, p.0)) (ap key_at (sym (older_message k (omega (arith, p.0)))) ∙ p.1)
+
+pub rest_has : (m : ℕ) (x : Bool) (k : ℕ) → position (has_key (key_of m x)) rest_messages ≡ Some k → Some (rest_kind + k) ≡ kind_found (first_at (has_id m x) 0 rows)
+rest_has m x k e =
+    let p = at_place (key_of m x) rest_messages k e in
+    one_has m x (rest_kind + k) (omega (arith, p.0)) (ap key_at (sym (rest_message k)) ∙ p.1)
+
+pub none_have : (m : ℕ) (x : Bool) → position (has_key (key_of m x)) (charger_messages ++ safety_messages) ≡ None → position (has_key (key_of m x)) older_messages ≡ None
+    → position (has_key (key_of m x)) rest_messages ≡ None → None ≡ kind_found (first_at (has_id m x) 0 rows)
+none_have m x a b d = none_has m x (λ k h e. first k h e (half_of kind_count k))
   where
-    k : ℕ
-    k = (row_at i).kind
+    later : (k : ℕ) → k < message_count → kind_key k ≡ key_of m x → kind_count ≤ k → (k < rest_kind) ⊎ (rest_kind ≤ k) → ⊥
+    later k h e l (inl u) =
+        let s : kind_count + (k - kind_count) ≡ k = omega arith in
+        nowhere (key_of m x) older_messages (k - kind_count) b (omega arith) (ap key_at (older_message (k - kind_count) (omega arith)) ∙ ap kind_key s ∙ e)
+    later k h e l (inr u) =
+        let s : rest_kind + (k - rest_kind) ≡ k = omega arith in
+        nowhere (key_of m x) rest_messages (k - rest_kind) d (omega arith) (ap key_at (rest_message (k - rest_kind)) ∙ ap kind_key s ∙ e)
 
-    same : within b c k ≡ within a c k → kind_found (among b c (At i)) ≡ kind_found (among a c (At i))
-    same = ap (λ (t : Bool). kind_found (cond t (At i) Nothing))
-
-    by_side : within a b k ≡ false → (k < b) ⊎ (b ≤ k) → within b c k ≡ within a c k
-    by_side w (inl l) = go (half_of a k)
-      where
-        go : (k < a) ⊎ (a ≤ k) → within b c k ≡ within a c k
-        go (inl below) = rw (lt-leb b k (omega arith), lt-leb a k (omega arith))
-        go (inr above) = absurd (let z : ◌≡◌ {A = Bool} true false = sym (is_within_lem a b k above l) ∙ w in let q : ◌≡◌ {A = ℕ} 0 1 = cc in omega arith)
-    by_side w (inr l) = rw (le-leb b k l, le-leb a k (omega arith))
-
-    outside : (t : Bool) → within a b k ≡ t → kind_found (cond t (At i) Nothing) ≡ Nothing → kind_found (among b c (At i)) ≡ kind_found (among a c (At i))
-    outside true w e = absurd (let z : ◌≡◌ {A = ℕ} 0 1 = cc in omega arith)
-    outside false w e = same (by_side w (half_of b k))
-scan_on a b c h Nothing e = refl
-
--- and the stretch of all kinds is the whole table
-pub scan_all : (m : ℕ) (x : Bool) → kind_found (among 0 message_count (first_at (has_id m x) 0 rows)) ≡ kind_found (first_at (has_id m x) 0 rows)
-scan_all m x = go (first_at (has_id m x) 0 rows) refl
-  where
-    go : (f : Found) → first_at (has_id m x) 0 rows ≡ f → kind_found (among 0 message_count f) ≡ kind_found f
-    go (At i) f =
-        ap (λ (t : Bool). kind_found (cond t (At i) Nothing)) (is_within_lem 0 message_count (row_at i).kind zero-le (found_listed m x i f).listed.in_table)
-    go Nothing f = refl
-
--- one message more that has it not
-pub one_more_lem : (P : ℕ → Type 0) (k : ℕ) → ((j : ℕ) → j < k → P j → ⊥) → (P k → ⊥) → (j : ℕ) → j < k + 1 → P j → ⊥
-one_more_lem P k before here j h = go (half_of k j)
-  where
-    go : (j < k) ⊎ (k ≤ j) → P j → ⊥
-    go (inl l) p = before j l p
-    go (inr l) p = let e : j ≡ k = omega arith in here (subst P e p)
+    first : (k : ℕ) → k < message_count → kind_key k ≡ key_of m x → (k < kind_count) ⊎ (kind_count ≤ k) → ⊥
+    first k h e (inl u) = nowhere (key_of m x) (charger_messages ++ safety_messages) k a u (ap key_at (newer_message k u) ∙ e)
+    first k h e (inr u) = later k h e u (half_of rest_kind k)

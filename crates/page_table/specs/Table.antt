@@ -1,13 +1,9 @@
 -- The table: 01, "The message and signal layouts are one constant table". Messages holds its messages, Charger, Safety, Older and Rest its rows:
 -- identifiers, lengths, starts, widths, signs and labels stand there and nowhere else.
-use Rattle.std.specs.Prelude.{ℕ, suc, ◌+◌, ◌/◌, ◌%◌, ◌^◌, ◌≤◌, ◌<◌, ◌≡◌, Bool, true, false, cond, ◌&&◌, ◌||◌, List, [], ◌∷◌, ◌++◌, eqb, leb, ltb, get_or}
+use Rattle.std.specs.Prelude.{ℕ, suc, ◌+◌, ◌/◌, ◌%◌, ◌^◌, ◌≤◌, ◌<◌, Bool, true, false, cond, ◌&&◌, ◌||◌, List, [], ◌∷◌, ◌++◌, eqb, get_or, Some, None, Option}
 use Rattle.signal.specs.Signal.{get_bits, covers}
 use Rattle.payload.specs.Order as order
 use Rattle.page_table.specs.declared.Row.{Row}
-use Rattle.page_table.specs.declared.Found.{Found}
-use Rattle.page_table.specs.declared.Found.TheVariants.{At, Nothing}
-use Rattle.page_table.specs.declared.FoundMessage.{FoundMessage}
-use Rattle.page_table.specs.declared.FoundMessage.TheVariants as message
 use Rattle.page_table.specs.Messages.{same}
 use Rattle.page_table.specs.Layout.{row}
 use Rattle.page_table.specs.Charger.{charger_count, charger_rows}
@@ -65,24 +61,19 @@ block k [] = []
 block k (r ∷ rs) = cond (has_kind k r) (r ∷ block k rs) []
 
 -- the place, counted from i, of the first row that passes a test
-unfoldable pub first_at : (Row → Bool) → ℕ → List Row → Found
-first_at p i [] = Nothing
-first_at p i (r ∷ rs) = cond (p r) (At i) (first_at p (suc i) rs)
+unfoldable pub first_at : (Row → Bool) → ℕ → List Row → Option ℕ
+first_at p i [] = None
+first_at p i (r ∷ rs) = cond (p r) (Some i) (first_at p (suc i) rs)
 
 -- the kind of the row at a place
-abbrev pub kind_found : Found → Found
-kind_found (At i) = At (row_at i).kind
-kind_found Nothing = Nothing
-
--- a row that is found, where the kind of its message is one of those from a on, up to b
-abbrev pub among : ℕ → ℕ → Found → Found
-among a b (At i) = cond (leb a (row_at i).kind && ltb (row_at i).kind b) (At i) Nothing
-among a b Nothing = Nothing
+abbrev pub kind_found : Option ℕ → Option ℕ
+kind_found (Some i) = Some (row_at i).kind
+kind_found None = None
 
 -- the message of the row at a place: its kind, that place, its bytes and its byte order
-abbrev pub with_message : Found → FoundMessage
-with_message (At i) = message.At (row_at i).kind i (row_at i).bytes (row_at i).big
-with_message Nothing = message.Nothing
+abbrev pub with_message : Option ℕ → Option (ℕ × ℕ × ℕ × Bool)
+with_message (Some i) = Some ((row_at i).kind, i, (row_at i).bytes, (row_at i).big)
+with_message None = None
 
 -- what a kind's first row says of the message; 0 and false for a number that is no kind
 abbrev pub head_row : List Row → Row

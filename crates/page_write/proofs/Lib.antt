@@ -5,3 +5,4 @@ pub mod WrittenBits
 pub mod Worked
 pub mod Refusing
 pub mod Words
+pub mod Packing

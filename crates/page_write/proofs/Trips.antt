@@ -1,6 +1,7 @@
 -- 01: "Every allowed frame is read to its one message; writing it gives the same bytes, and what is written reads back as itself",
 -- of the raw numbers of every kind at once, on either interface (`back_on`, `raws-there`; `raws-back` on the newer one).
 -- Assumes nothing.
+use Rattle.std.specs.Prelude.{Some, Ok}
 use Rattle.std.proofs.Common.{◌≡◌, ℕ, zero, suc, ◌+◌, ◌-◌, ◌*◌, ◌^◌, ◌<◌, ◌≤◌, Bool, true, false, cond, not, ◌&&◌, ◌||◌, leb, List, [], ◌∷◌, length, get_or, take, ℤ, pos, sym, refl, ap, ◌∙◌, subst, ap₂, inl, inr, zero-le, le_of_suc-le-suc, not-suc-le-zero, arith, pow_pos, eq-eqb, le-leb, leb-true}
 use borrow.Author.Tests.{not-false}
 use Rattle.signal.specs.Signal.{get_bits, put_bits, covers}
@@ -12,8 +13,6 @@ use Rattle.page_read.specs.payload.proofs.Orders.{number_bound, length_of_lem, n
 use Rattle.page_read.specs.page_table.specs.declared.Interface.{Interface}
 use Rattle.page_read.specs.page_table.specs.declared.Interface.TheVariants.{Newer}
 use Rattle.page_read.specs.page_table.specs.declared.Row.{Row}
-use Rattle.page_read.specs.declared.Judged.TheVariants.{Frame}
-use Rattle.page_read.specs.page_table.specs.declared.Found.TheVariants.{At}
 use Rattle.page_read.specs.page_table.specs.Interfaces.{is_on, with_id}
 use Rattle.page_read.specs.page_table.specs.Table.{rows, first_at, has_id, no_row, rows_of, head_row, identifier_of, extended_of, length_of, big_of, lowest, bits_at, Fine, covered, takes}
 use Rattle.page_read.specs.Judge.{unlabelled, stray_below, judged_number, judge_on, judge_of}
@@ -31,7 +30,7 @@ use Rattle.page_read.proofs.Interfaces.{newer, on_own}
 
 -- ---- an accepted frame
 
-pub accepted_on : (iface : Interface) (m : ℕ) (extended : Bool) (bs : List ℕ) (k n : ℕ) → judge_on iface m extended bs ≡ Frame k n → Taken iface m extended bs k n
+pub accepted_on : (iface : Interface) (m : ℕ) (extended : Bool) (bs : List ℕ) (k n : ℕ) → judge_on iface m extended bs ≡ Ok (k, n) → Taken iface m extended bs k n
 unfolding identifier_of extended_of length_of big_of
 accepted_on iface m extended bs k n e =
     let c = reached_frame iface m extended bs k n e in
@@ -52,16 +51,16 @@ accepted_on iface m extended bs k n e =
     }
 
 -- and the other way: what passes all that is accepted
-pub accepts : (iface : Interface) (m : ℕ) (extended : Bool) (bs : List ℕ) (k n : ℕ) → Taken iface m extended bs k n → judge_on iface m extended bs ≡ Frame k n
+pub accepts : (iface : Interface) (m : ℕ) (extended : Bool) (bs : List ℕ) (k n : ℕ) → Taken iface m extended bs k n → judge_on iface m extended bs ≡ Ok (k, n)
 unfolding judge_on judged_number
 accepts iface m extended bs k n t =
     let c = known k t.some in
-    let f : with_id iface (identifier_of k) (extended_of k) ≡ At c.0
+    let f : with_id iface (identifier_of k) (extended_of k) ≡ Some c.0
     = found_own iface (first_at (has_id (identifier_of k) (extended_of k)) 0 rows) c.0 c.1 (ap (is_on iface) c.2 ∙ t.own) in
     rw (← t.identifier, ← t.form, f, c.3, eq-eqb (length bs) (length_of k) t.sized, c.2, c.4, ← t.number, t.labelled, t.clean)
 
 -- on the newer interface
-pub accepted : (m : ℕ) (extended : Bool) (bs : List ℕ) (k n : ℕ) → judge_of m extended bs ≡ Frame k n → Taken Newer m extended bs k n
+pub accepted : (m : ℕ) (extended : Bool) (bs : List ℕ) (k n : ℕ) → judge_of m extended bs ≡ Ok (k, n) → Taken Newer m extended bs k n
 accepted m extended bs k n e = accepted_on Newer m extended bs k n (sym (newer m extended bs) ∙ e)
 
 -- ---- numbers put in their signals' places
@@ -297,7 +296,7 @@ pub packed_lt : (k : ℕ) (zs : List ℤ) → can_write k zs ≡ true → packed
 packed_lt k zs e = packed_on_lt (8 * length_of k) 0 0 (rows_of k) zs (ordered k) (can_write_lem k zs e).1 (pow_pos (8 * length_of k))
 
 -- THEOREM: an accepted frame's raw numbers can be written, and give its number and its bytes again
-pub back_on : (iface : Interface) (m : ℕ) (extended : Bool) (bs : List ℕ) (k n : ℕ) → judge_on iface m extended bs ≡ Frame k n → Bytes bs → Back k n bs
+pub back_on : (iface : Interface) (m : ℕ) (extended : Bool) (bs : List ℕ) (k n : ℕ) → judge_on iface m extended bs ≡ Ok (k, n) → Bytes bs → Back k n bs
 unfolding raws_of
 back_on iface m extended bs k n e hb = go (accepted_on iface m extended bs k n e)
   where
@@ -315,7 +314,7 @@ back_on iface m extended bs k n e hb = go (accepted_on iface m extended bs k n e
           bytes = ap₂ (bytes_of (big_of k)) (sym t.sized) t.number ∙ bytes_of_lem (big_of k) bs hb;
         }
 
-pub raws_back : (m : ℕ) (extended : Bool) (bs : List ℕ) (k n : ℕ) → judge_of m extended bs ≡ Frame k n → Bytes bs → Back k n bs
+pub raws_back : (m : ℕ) (extended : Bool) (bs : List ℕ) (k n : ℕ) → judge_of m extended bs ≡ Ok (k, n) → Bytes bs → Back k n bs
 raws_back m extended bs k n e hb = back_on Newer m extended bs k n (sym (newer m extended bs) ∙ e) hb
 
 -- THEOREM: raw numbers that can be written make a frame that is accepted, and that has them again

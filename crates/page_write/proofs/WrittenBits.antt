@@ -1,7 +1,9 @@
 -- What `write_raws` stores, in the page's own words: each bit of a signal is that of its raw number (`raw-bit`), every other bit of the message is 0
 -- (`raw-else`), and behind the message the buffer is as it was (`raw-behind`). A refused writing leaves the buffer whole (`raws-refused`).
 -- Assumes nothing.
+use Rattle.std.specs.Prelude.{Ok, Err}
 use Rattle.std.proofs.Common.{◌≡◌, ℕ, ◌+◌, ◌*◌, ◌<◌, ◌≤◌, Bool, true, false, cond, leb, List, length, get_or, ℤ, pos, sym, refl, ap, ◌∙◌, subst, ap₂, arith, leb-false, leb-true}
+use Rattle.refusals.proofs.Pairs.{ok_pair}
 use Rattle.signal.specs.Signal.{get_bits}
 use Rattle.signal.specs.Raw.{bits_in}
 use Rattle.page_read.specs.payload.specs.Payload.{stored_in, bit_at}
@@ -14,7 +16,6 @@ use Rattle.refusals.specs.declared.Refusal.{Refusal}
 use Rattle.page_read.specs.page_table.specs.declared.Row.{Row}
 use Rattle.page_read.specs.page_table.specs.Table.{no_row, rows_of, identifier_of, length_of, big_of, lowest, HasBit}
 use Rattle.page_read.specs.page_table.specs.Listed.{Among}
-use Rattle.page_write.specs.declared.Written.TheVariants.{Wrote, Refused}
 use Rattle.page_write.specs.Raws.{packed_on, can_write, written_by, write_raws_of, buffer_after}
 use Rattle.page_read.specs.page_table.proofs.Rules.{ordered, among_kept, row_message}
 use Rattle.page_read.specs.page_table.proofs.PageBits.{no_place}
@@ -28,28 +29,28 @@ pub record WroteRaws (k : ℕ) (zs : List ℤ) (buf : List ℕ) (m l : ℕ) : Ty
   pub identifier : identifier_of k ≡ m
   pub sized : length_of k ≡ l
 
-pub wrote_raws : (k : ℕ) (zs : List ℤ) (buf : List ℕ) (m l : ℕ) → write_raws_of k zs buf ≡ Wrote m l → WroteRaws k zs buf m l
+pub wrote_raws : (k : ℕ) (zs : List ℤ) (buf : List ℕ) (m l : ℕ) → write_raws_of k zs buf ≡ Ok (m, l) → WroteRaws k zs buf m l
 unfolding write_raws_of
 wrote_raws k zs buf m l e = go (can_write k zs) (leb (length_of k) (length buf)) refl refl e
   where
-    go : (a b : Bool) → can_write k zs ≡ a → leb (length_of k) (length buf) ≡ b → written_by k a b ≡ Wrote m l → WroteRaws k zs buf m l
-    go true true p q e = record { fits = p; room = leb-true (length_of k) (length buf) q; identifier = cc; sized = cc }
+    go : (a b : Bool) → can_write k zs ≡ a → leb (length_of k) (length buf) ≡ b → written_by k a b ≡ Ok (m, l) → WroteRaws k zs buf m l
+    go true true p q e = record { fits = p; room = leb-true (length_of k) (length buf) q; identifier = (ok_pair e).0; sized = (ok_pair e).1 }
     go true false p q e = absurd (let z : ◌≡◌ {A = ℕ} 0 1 = cc in omega arith)
     go false true p q e = absurd (let z : ◌≡◌ {A = ℕ} 0 1 = cc in omega arith)
     go false false p q e = absurd (let z : ◌≡◌ {A = ℕ} 0 1 = cc in omega arith)
 
 -- THEOREM: "lent bytes stay as they were"
-pub raws_refused : (k : ℕ) (zs : List ℤ) (buf : List ℕ) (w : Refusal) → write_raws_of k zs buf ≡ Refused w → buffer_after k zs buf ≡ buf
+pub raws_refused : (k : ℕ) (zs : List ℤ) (buf : List ℕ) (w : Refusal) → write_raws_of k zs buf ≡ Err w → buffer_after k zs buf ≡ buf
 unfolding write_raws_of buffer_after
 raws_refused k zs buf w e = go (can_write k zs) (leb (length_of k) (length buf)) refl e
   where
-    go : (a b : Bool) → leb (length_of k) (length buf) ≡ b → written_by k a b ≡ Refused w
+    go : (a b : Bool) → leb (length_of k) (length buf) ≡ b → written_by k a b ≡ Err w
         → cond a (stored_in (big_of k) (length_of k) (packed_on 0 (rows_of k) zs) buf) buf ≡ buf
     go true true q e = absurd (let z : ◌≡◌ {A = ℕ} 0 1 = cc in omega arith)
     go true false q e = stored_not (big_of k) (length_of k) (packed_on 0 (rows_of k) zs) buf (leb-false (length_of k) (length buf) q)
     go false b q e = refl
 
-module _ (k : ℕ) (zs : List ℤ) (buf : List ℕ) (m l : ℕ) (e : write_raws_of k zs buf ≡ Wrote m l) where
+module _ (k : ℕ) (zs : List ℤ) (buf : List ℕ) (m l : ℕ) (e : write_raws_of k zs buf ≡ Ok (m, l)) where
   stored : buffer_after k zs buf ≡ stored_in (big_of k) (length_of k) (packed_on 0 (rows_of k) zs) buf
   unfolding buffer_after
   stored = rw (wrote_raws k zs buf m l e).fits

@@ -1,11 +1,10 @@
 -- The raw whole numbers of a kind's signals, read from a payload number and written into one.
-use Rattle.std.specs.Prelude.{ℕ, zero, suc, Bool, true, false, cond, ◌&&◌, List, [], ◌∷◌, length, ℤ, pos, nat_le}
+use Rattle.std.specs.Prelude.{ℕ, zero, suc, Bool, true, false, cond, ◌&&◌, List, [], ◌∷◌, length, ℤ, pos, nat_le, Ok, Err}
 use Rattle.signal.specs.Signal.{put_bits}
 use Rattle.page_read.specs.payload.specs.Payload.{stored_in}
 use Rattle.signal.specs.Raw.{fits_in, bits_in, value_in}
 use Rattle.page_read.specs.page_table.specs.declared.Row.{Row}
-use Rattle.page_write.specs.declared.Written.{Written}
-use Rattle.page_write.specs.declared.Written.TheVariants.{Wrote, Refused}
+use Rattle.page_write.specs.Written.{Written}
 use Rattle.refusals.specs.declared.Refusal.TheVariants.{NoRawNumber, ShortBuffer}
 use Rattle.page_read.specs.page_table.specs.Table.{rows_of, identifier_of, length_of, big_of, lowest, bits_at, takes}
 pub use Rattle.page_read.specs.page_table.specs.Table.{signal_count}
@@ -62,8 +61,8 @@ can_write k zs = nat_le 1 (length (rows_of k)) && all_take (rows_of k) zs
 abbrev pub written_by : ℕ → Bool → Bool → Written
 written_by k fits room =
     cond fits
-    (cond room (Wrote (identifier_of k) (length_of k)) (Refused ShortBuffer))
-    (Refused NoRawNumber)
+    (cond room (Ok (identifier_of k, length_of k)) (Err ShortBuffer))
+    (Err NoRawNumber)
 
 unfoldable pub write_raws_of : ℕ → List ℤ → List ℕ → Written
 write_raws_of k zs buf = written_by k (can_write k zs) (nat_le (length_of k) (length buf))

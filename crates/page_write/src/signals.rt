@@ -4,9 +4,9 @@ ghost use Rattle.page_read.specs.page_table.specs.Table.{rows, no_row, row_count
 ghost use Rattle.page_write.specs.Raws.{whole_at, wholes_of, pad};
 ghost use Rattle.page_write.specs.Steps.{pack_of};
 
-use crate::Packed;
 use crate::at_row::{put_raw, row_takes};
-use page_read::page_rows::{ROW_COUNT, row_at, row_to_unpack};
+use crate::{Raws, SIGNALS};
+use page_read::page_rows::{ROW_COUNT, row_at};
 use page_read::page_table::Row;
 
 fn signal_whole(r: Row, n: u64) -> i64
@@ -16,27 +16,26 @@ fn signal_whole(r: Row, n: u64) -> i64
     signal::whole(signal::get(n, r.low, r.width), r.signed, r.width)
 }
 
-pub fn unpack(at: usize, kind: usize, n: u64) -> [i64; 16]
+// Kept (6): no heap and fixed memory is a rule of the project, and no message has more than `SIGNALS`.
+// Kept (2): the walk over a kind's rows stands in page_read's `sifted` and in `pack` too: it is the head of a loop, whose bodies differ.
+// Kept (3): tried with `raws.iter_mut()` zipped with the rows' numbers: `signal_whole-requires`, `loop-raw-preserved` and `returns-then-r-kind` stood open, and
+// the invariant that the check asks for them is over the borrows that were handed out (`yielded`), of a zip that is left early.
+pub fn unpack(at: usize, kind: usize, n: u64) -> Raws
     ensures { result ≡ pad signal_count (wholes_of n (block kind (drop at rows))) }
 {
-    let mut raws = [0i64; 16];
-    let mut j: usize = 0;
-    let mut i = at;
-    'rows: loop {
-        if ROW_COUNT <= i {
-            break 'rows raws;
+    let mut raws = [0; SIGNALS];
+    for i in at..ROW_COUNT {
+        let j = i - at;
+        if SIGNALS <= j {
+            return raws;
         }
-        if 16 <= j {
-            break 'rows raws;
-        }
-        let r = row_to_unpack(i);
+        let r = row_at(i);
         if r.kind != kind {
-            break 'rows raws;
+            return raws;
         }
         raws[j] = signal_whole(r, n);
-        j += 1;
-        i += 1;
     }
+    raws
 }
 
 // The raw number of the row that stands `place` rows after `at`, and 0 where that is none of the kind.
@@ -55,29 +54,22 @@ pub fn raw_after(at: usize, kind: usize, place: usize, n: u64) -> i64
     signal_whole(r, n)
 }
 
-pub fn pack(at: usize, kind: usize, raws: [i64; 16]) -> Packed
+// The payload number of raw numbers that all fit and have their labels.
+// Kept (3): tried with `map`, `take_while` and `enumerate` over the rows' numbers: its check did not end within three minutes.
+pub fn pack(at: usize, kind: usize, raws: Raws) -> Option<u64>
     ensures { result ≡ pack_of (block kind (drop at rows)) raws }
 {
     let mut n: u64 = 0;
-    let mut j: usize = 0;
-    let mut i = at;
-    'rows: loop {
-        if ROW_COUNT <= i {
-            break 'rows Packed::Number(n);
-        }
+    for i in at..ROW_COUNT {
         let r = row_at(i);
         if r.kind != kind {
-            break 'rows Packed::Number(n);
+            return Some(n);
         }
-        if 16 <= j {
-            break 'rows Packed::Refused;
-        }
-        let z = raws[j];
+        let z = *raws.get(i - at)?;
         if !row_takes(r, z) {
-            break 'rows Packed::Refused;
+            return None;
         }
         n = put_raw(r, n, z);
-        j += 1;
-        i += 1;
     }
+    Some(n)
 }

@@ -5,3 +5,4 @@ pub mod Words
 pub mod Stored
 pub mod WholeBytes
 pub mod Written
+pub mod Joins

@@ -1,2 +1,3 @@
 pub mod Payload
 pub mod Order
+pub mod Joined

@@ -1,6 +1,7 @@
 -- What the words of reading, writing and changing tell, of every call (`Told` of `plain_words`): an accepted answer is a kind, at most 8 bytes, or 0. And a
 -- refusal leaves what is lent as it was (`..-refused`).
 -- Assumes nothing.
+use Rattle.std.specs.Prelude.{Ok, Err}
 use mathlib.Core.Path.{◌≡◌, refl}
 use mathlib.Core.Bool.{Bool, true, false, cond, true≢false}
 use mathlib.Core.List.{List, ◌++◌}
@@ -13,11 +14,9 @@ use Rattle.refusals.specs.declared.Refusal.TheVariants.{NoRawNumber, ShortBuffer
 use Rattle.payload.specs.Payload.{bytes_of, stored_in}
 use Rattle.page_table.specs.Messages.{message_count}
 use Rattle.page_table.specs.Table.{rows_of, identifier_of, length_of, big_of, signal_count}
-use Rattle.page_read.specs.declared.Judged.{Judged}
-use Rattle.page_read.specs.declared.Judged.TheVariants as judged
+use Rattle.page_read.specs.Judged.{Judged}
 use Rattle.page_read.specs.Judge.{judge_of}
-use Rattle.page_write.specs.declared.Written.{Written}
-use Rattle.page_write.specs.declared.Written.TheVariants as written
+use Rattle.page_write.specs.Written.{Written}
 use Rattle.page_write.specs.Raws.{raws_of, packed_on, can_write, write_raws_of, buffer_after}
 use Rattle.page_change.specs.Change.{change_of, bytes_after}
 use Rattle.page_bounds.proofs.Bounds.{SmallJudged, SmallWritten, judge_small, change_small, write_small}
@@ -32,8 +31,8 @@ module _ (m : ℕ) (x : Bool) (bs : List ℕ) (raws : List ℤ) where
   read_within = go (judge_of m x bs) (judge_small m x bs)
     where
       go : (j : Judged) → SmallJudged j → Within (message_count - 1) (read_outcome j (length raws))
-      go (judged.Frame k n) l = either (Within (message_count - 1)) (leb signal_count (length raws)) (omega arith) (omega arith)
-      go (judged.Refused w) l = l
+      go (Ok (k, n)) l = either (Within (message_count - 1)) (leb signal_count (length raws)) (omega arith) (omega arith)
+      go (Err w) l = l
 
   pub read_told : Told (message_count - 1) (read_outcome (judge_of m x bs) (length raws)) (read_word m x bs raws)
   unfolding read_word
@@ -48,8 +47,8 @@ module _ (m : ℕ) (x : Bool) (bs : List ℕ) (raws : List ℤ) where
       room k n false e = refl
 
       go : (j : Judged) → is_accepted (read_outcome j (length raws)) ≡ false → raws_left j raws ≡ raws
-      go (judged.Frame k n) e = room k n (leb signal_count (length raws)) e
-      go (judged.Refused w) e = refl
+      go (Ok (k, n)) e = room k n (leb signal_count (length raws)) e
+      go (Err w) e = refl
 
 -- ---- writing
 
@@ -59,8 +58,8 @@ module _ (k : ℕ) (raws : List ℤ) (buf : List ℕ) where
       either (Within 8) (is_ready k (length raws)) (go (write_raws_of k (take signal_count raws) buf) (write_small k (take signal_count raws) buf)) (omega arith)
     where
       go : (w : Written) → SmallWritten w → Within 8 (written_outcome w)
-      go (written.Wrote i n) l = l
-      go (written.Refused w) l = l
+      go (Ok (i, n)) l = l
+      go (Err w) l = l
 
   pub write_told : Told 8 (write_outcome k raws buf) (write_word k raws buf)
   unfolding write_word
@@ -76,7 +75,7 @@ module _ (k : ℕ) (raws : List ℤ) (buf : List ℕ) where
       after = bytes_of (big_of k) (length_of k) (packed_on 0 (rows_of k) (take signal_count raws)) ++ drop (length_of k) buf
 
       go : (a b c : Bool)
-          → is_accepted (cond a (written_outcome (cond b (cond c (written.Wrote (identifier_of k) (length_of k)) (written.Refused ShortBuffer)) (written.Refused NoRawNumber))) (refuses NoRawNumber)) ≡ false
+          → is_accepted (cond a (written_outcome (cond {A = Written} b (cond c (Ok (identifier_of k, length_of k)) (Err ShortBuffer)) (Err NoRawNumber))) (refuses NoRawNumber)) ≡ false
           → cond a (cond b (cond c after buf) buf) buf ≡ buf
       go true true true e = absurd (true≢false e)
       go true true false e = refl
@@ -90,8 +89,8 @@ module _ (m : ℕ) (x : Bool) (bs : List ℕ) (s : ℕ) (z : ℤ) where
   change_within = go (change_of m x bs s z) (change_small m x bs s z)
     where
       go : (j : Judged) → SmallJudged j → Within 0 (changed_outcome j)
-      go (judged.Frame k n) l = omega arith
-      go (judged.Refused w) l = omega arith
+      go (Ok (k, n)) l = omega arith
+      go (Err w) l = omega arith
 
   pub change_told : Told 0 (changed_outcome (change_of m x bs s z)) (change_word m x bs s z)
   unfolding change_word
@@ -102,5 +101,5 @@ module _ (m : ℕ) (x : Bool) (bs : List ℕ) (s : ℕ) (z : ℤ) where
   change_refused l = go (change_of m x bs s z) (not_accepted 0 (changed_outcome (change_of m x bs s z)) (omega arith) change_within l)
     where
       go : (j : Judged) → is_accepted (changed_outcome j) ≡ false → bytes_after bs j ≡ bs
-      go (judged.Frame k n) e = absurd (true≢false e)
-      go (judged.Refused w) e = refl
+      go (Ok (k, n)) e = absurd (true≢false e)
+      go (Err w) e = refl

@@ -1,5 +1,6 @@
 -- The laws of FrameWords on a New_Charge_Session with plug 5, a number to which the page gives no label: refusal 5 with start 8, by its word alone, and the
 -- lent numbers as they were; and on a change to plug 5 and a write of too few numbers, which leave the lent bytes.
+use Rattle.std.specs.Prelude.{Err}
 use mathlib.Core.Path.{◌≡◌, refl, sym, ap, subst}
 use mathlib.Core.Bool.{true}
 use mathlib.Core.List.{List, [], ◌∷◌}
@@ -11,8 +12,7 @@ use Rattle.refusals.specs.declared.Refusal.TheVariants.{NoLabel}
 use Rattle.signal.specs.Signal.{get_bits}
 use Rattle.payload.specs.Payload.{le_number}
 use Rattle.page_table.specs.Table.{rows, of_kind, first_at, big_of, covered}
-use Rattle.page_read.specs.declared.Judged.{Judged}
-use Rattle.page_read.specs.declared.Judged.TheVariants as judged
+use Rattle.page_read.specs.Judged.{Judged}
 use Rattle.page_read.specs.Judge.{unlabelled, offender, stray_below, judged_number, judge_of}
 use Rattle.page_change.specs.Change.{change_of, bytes_after}
 use Rattle.plain_words.specs.Words.{outcome_word, number_in, start_in}
@@ -22,7 +22,7 @@ use Rattle.plain_frames.proofs.FrameWords.{read_told, read_refused, write_refuse
 abbrev plug : List ℕ
 plug = 2 ∷ 5 ∷ []
 
-unlabelled_plug : judge_of 0x6b001 true plug ≡ judged.Refused (NoLabel 8)
+unlabelled_plug : judge_of 0x6b001 true plug ≡ Err (NoLabel 8)
 unfolding judge_of judged_number unlabelled offender stray_below rows first_at of_kind le_number get_bits
 unlabelled_plug = refl
 

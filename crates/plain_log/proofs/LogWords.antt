@@ -8,19 +8,17 @@ use native.Mathlib.Omega.{arith}
 use lib.Dec.{leb, ltb, eqb}
 use lib.ListN.{length, drop, replicate}
 use borrow.Author.Tests.{ltb-true}
+use Rattle.std.specs.Prelude.{Ok, Err}
 use Rattle.refusals.specs.declared.Refusal.TheVariants.{ShortBuffer}
 use Rattle.refusals.specs.Refusals.{start_of}
-use Rattle.log_numbers.specs.declared.Num.{Num}
-use Rattle.log_numbers.specs.declared.Num.TheVariants as num
-use Rattle.log_numbers.specs.Number.{groups, read_number}
-use Rattle.log_records.specs.declared.Taken.{Taken}
-use Rattle.log_records.specs.declared.Taken.TheVariants.{Whole, Cut, Bad}
+use Rattle.log_numbers.specs.declared.NumberError.TheVariants as num
+use Rattle.log_numbers.specs.Number.{Num, groups, read_number}
+use Rattle.log_records.specs.declared.RecordError.TheVariants.{Cut, Bad}
 use Rattle.log_records.specs.declared.Found.{Found}
 use Rattle.log_records.specs.declared.Found.TheVariants as found
-use Rattle.log_write.specs.declared.Logged.{Logged}
-use Rattle.log_write.specs.declared.Logged.TheVariants.{Bytes, Refused}
+use Rattle.log_write.specs.Logged.{Logged}
 use Rattle.log_records.specs.Record.{Rec, tick, frame, part_of, identifiers, record_bytes, Loggable, longest_record}
-use Rattle.log_records.specs.Reading.{on_number, part, length_part, above_of, identifier_part, channel_part, time_part, record_at, placed, found_at}
+use Rattle.log_records.specs.Reading.{Taken, on_number, part, length_part, above_of, identifier_part, channel_part, time_part, record_at, placed, found_at}
 use Rattle.log_write.specs.Writing.{Timed, judged, written_of, stored, buffer_after}
 use Rattle.log_numbers.proofs.Numbers.{size_le, size_one}
 use Rattle.log_write.proofs.Stores.{tick_length, frame_length}
@@ -38,8 +36,8 @@ longest (frame t c x i p) h =
 
 -- the refusals of the log carry no start
 abbrev Startless : Logged → Type 0
-Startless (Bytes n) = Unit {0}
-Startless (Refused w) = start_of w < 64
+Startless (Ok n) = Unit {0}
+Startless (Err w) = start_of w < 64
 
 above : (b : Bool) → start_of (above_of b) < 64
 above true = omega arith
@@ -50,7 +48,7 @@ unfolding written_of
 written_startless x out = go x (roomed (length (record_bytes x))) (either Startless (ltb (length out) (length (record_bytes x))) (omega arith) tt)
   where
     roomed : ℕ → Logged
-    roomed l = cond (ltb (length out) l) (Refused ShortBuffer) (Bytes l)
+    roomed l = cond (ltb (length out) l) (Err ShortBuffer) (Ok l)
 
     go : (y : Rec) (w : Logged) → Startless w → Startless (judged y w)
     go (tick t c) w h = either Startless (ltb 31 c) (omega arith) h
@@ -63,8 +61,8 @@ module _ (x : Rec) (out : List ℕ) (h : Timed x) where
   log_within = go (written_of x out) refl (written_startless x out)
     where
       go : (w : Logged) → written_of x out ≡ w → Startless w → Within longest_record (logged_outcome w)
-      go (Bytes n) e l = let s = written_loggable x out n e in omega (arith, s.1, longest x (s.0 h))
-      go (Refused w) e l = omega arith
+      go (Ok n) e l = let s = written_loggable x out n e in omega (arith, s.1, longest x (s.0 h))
+      go (Err w) e l = omega arith
 
   pub log_told : Told longest_record (logged_outcome (written_of x out)) (logged_word (written_of x out))
   log_told = word_tells longest_record (logged_outcome (written_of x out)) (omega arith) log_within
@@ -73,32 +71,32 @@ module _ (x : Rec) (out : List ℕ) (h : Timed x) where
   log_refused l = go (written_of x out) (not_accepted longest_record (logged_outcome (written_of x out)) (omega arith) log_within l)
     where
       go : (w : Logged) → is_accepted (logged_outcome w) ≡ false → stored x out w ≡ out
-      go (Bytes n) e = absurd (true≢false e)
-      go (Refused w) e = refl
+      go (Ok n) e = absurd (true≢false e)
+      go (Err w) e = refl
 
 -- a word below 65,536 is the writer's count of bytes, of whatever time
-pub log_accepted : (x : Rec) (out : List ℕ) → logged_word (written_of x out) < 65536 → written_of x out ≡ Bytes (logged_word (written_of x out))
+pub log_accepted : (x : Rec) (out : List ℕ) → logged_word (written_of x out) < 65536 → written_of x out ≡ Ok (logged_word (written_of x out))
 log_accepted x out l = go (written_of x out) l
   where
-    go : (w : Logged) → logged_word w < 65536 → w ≡ Bytes (logged_word w)
-    go (Bytes n) m = refl
-    go (Refused w) m = absurd (let z : ⊥ = omega arith in z)
+    go : (w : Logged) → logged_word w < 65536 → w ≡ Ok (logged_word w)
+    go (Ok n) m = refl
+    go (Err w) m = absurd (let z : ⊥ = omega arith in z)
 
 -- ---- reading
 
 abbrev Mild : Taken → Type 0
-Mild (Whole e) = Unit {0}
-Mild Cut = Unit {0}
-Mild (Bad w) = start_of w < 64
+Mild (Ok e) = Unit {0}
+Mild (Err Cut) = Unit {0}
+Mild (Err (Bad w)) = start_of w < 64
 
 module _ (s : List ℕ) where
   part-mild : (i : ℕ) (go : ℕ → ℕ → Taken) → ((n j : ℕ) → Mild (go n j)) → Mild (part s i go)
   part-mild i go h = by (read_number (drop i s))
     where
       by : (n : Num) → Mild (on_number i go n)
-      by (num.Value n j) = h n _
-      by num.Cut = tt
-      by num.Ill = omega arith
+      by (Ok (n, j)) = h n _
+      by (Err num.Cut) = tt
+      by (Err num.Ill) = omega arith
 
   length-mild : (t c p l i : ℕ) → Mild (length_part s t c p l i)
   unfolding length_part
@@ -123,9 +121,9 @@ module _ (s : List ℕ) where
     found_within = either (λ (f : Found). Within 2 (found_outcome f places)) (leb (length s) at) (omega arith) (go (record_at s at) (record-mild at))
       where
         go : (t : Taken) → Mild t → Within 2 (found_outcome (placed at t) places)
-        go (Whole e) l = either (Within 2) (leb entry_count places) (omega arith) (omega arith)
-        go Cut l = omega arith
-        go (Bad w) l = l
+        go (Ok e) l = either (Within 2) (leb entry_count places) (omega arith) (omega arith)
+        go (Err Cut) l = omega arith
+        go (Err (Bad w)) l = l
 
     pub found_told : Told 2 (found_outcome (found_at s at) places) (found_word (found_at s at) places)
     found_told = word_tells 2 (found_outcome (found_at s at) places) (omega arith) found_within
@@ -167,7 +165,7 @@ pub tick_kept : buffer_after (tick 300 2) (room 4) ≡ room 4
 tick_kept = log_refused (tick 300 2) (room 4) (omega arith) (omega (arith, tick_word_lem.1))
 
 -- the word is the writer's count of bytes, and no more than 20
-pub tick_bytes : written_of (tick 300 2) (room 5) ≡ Bytes (logged_word (written_of (tick 300 2) (room 5)))
+pub tick_bytes : written_of (tick 300 2) (room 5) ≡ Ok (logged_word (written_of (tick 300 2) (room 5)))
 tick_bytes = log_accepted (tick 300 2) (room 5) (ltb-true (logged_word (written_of (tick 300 2) (room 5))) 65536 tick_told)
 
 pub tick_short : length (record_bytes (tick 300 2)) ≤ longest_record

@@ -1,18 +1,17 @@
 -- The night log over the C interface, in numbers and bytes alone.
-use Rattle.std.specs.Prelude.{ℕ, cond, List, [], ◌∷◌, ◌++◌, leb, length, drop}
+use Rattle.std.specs.Prelude.{ℕ, cond, List, [], ◌∷◌, ◌++◌, leb, length, drop, Ok, Err}
 use Rattle.refusals.specs.declared.Refusal.TheVariants.{ShortBuffer}
 use Rattle.log_records.specs.declared.Entry.{Entry}
 use Rattle.log_records.specs.declared.Found.{Found}
 use Rattle.log_records.specs.declared.Found.TheVariants as found
-use Rattle.log_write.specs.declared.Logged.{Logged}
-use Rattle.log_write.specs.declared.Logged.TheVariants as logged
+use Rattle.log_write.specs.Logged.{Logged}
 use Rattle.plain_words.specs.Words.{Outcome, answers, refuses, outcome_word}
 
 -- ---- writing a record: the number of its bytes, or the refusal
 
 abbrev pub logged_outcome : Logged → Outcome
-logged_outcome (logged.Bytes n) = answers n
-logged_outcome (logged.Refused w) = refuses w
+logged_outcome (Ok n) = answers n
+logged_outcome (Err w) = refuses w
 
 abbrev pub logged_word : Logged → ℕ
 logged_word w = outcome_word (logged_outcome w)

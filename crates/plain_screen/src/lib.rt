@@ -1,5 +1,7 @@
 // The service screen over the C interface: a probe's degrees, and a duty held to 100.0 %, each of a message's raw number. For C
 // callers that need no table.
+#![tactic(auto)]
+
 ghost use Rattle.std.specs.Prelude.{◌≡◌};
 ghost use Rattle.service.specs.Probes.{probe_of};
 ghost use Rattle.service.specs.Duty.{limited_duty};
@@ -11,11 +13,7 @@ use service::Probe;
 pub extern "C" fn rokemaipu_probe_used(raw: i16) -> bool
     ensures { result ≡ is_used (probe_of raw) }
 {
-    let p = service::probe_of(raw);
-    match p {
-        Probe::NotUsed => false,
-        Probe::Degrees(_) => true,
-    }
+    matches!(service::probe_of(raw), Probe::Degrees(_))
 }
 
 // 0.0 of a probe that is not used.
@@ -23,8 +21,7 @@ pub extern "C" fn rokemaipu_probe_used(raw: i16) -> bool
 pub extern "C" fn rokemaipu_probe_degrees(raw: i16) -> f32
     ensures { result ≡ shown_degrees (probe_of raw) }
 {
-    let p = service::probe_of(raw);
-    match p {
+    match service::probe_of(raw) {
         Probe::NotUsed => 0.0,
         Probe::Degrees(x) => x,
     }

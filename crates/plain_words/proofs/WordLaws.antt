@@ -3,14 +3,15 @@
 -- Assumes nothing.
 use mathlib.Core.Path.{◌≡◌, refl, sym}
 use mathlib.Core.Bool.{Bool, true, false, cond, true≢false}
-use Prim.Native.Nat.{ℕ, ◌≤◌, ◌<◌}
+use Prim.Native.Nat.{ℕ, ◌-◌, ◌/◌, ◌%◌, ◌≤◌, ◌<◌}
 use native.Mathlib.Omega.{arith}
-use lib.Dec.{ltb}
-use borrow.Author.Tests.{lt-ltb, le-ltb}
+use borrow.Author.Tests.{lt-ltb, le-ltb, ltb-true}
 use Rattle.refusals.specs.declared.Refusal.{Refusal}
 use Rattle.refusals.specs.declared.Refusal.TheVariants.{ChannelFree, Earlier, UnknownIdentifier, TooShort, NoLabel, UncoveredBit, NoRawNumber, ShortBuffer, NoSuchPost, NoSuchChannel, ChannelTaken, LimitOutside, NoSignal, NotSetUp, TooLong, IllNumber, LogChannel, LogStandard, LogExtended, LogLength, LogTick, BatchBytes, BatchRecord, BatchAnswers, CountFull, CompareLog, CompareRecords, CompareRoom, OtherInterface}
-use Rattle.refusals.specs.Refusals.{number_of}
-use Rattle.plain_words.specs.Words.{Outcome, answers, refuses, refusal_word, outcome_word, number_in, start_in, is_accepted, number_given, start_given, Within, Told}
+use Rattle.refusals.specs.Refusals.{number_of, start_of}
+use Rattle.std.specs.Prelude.{ltb, Ok, Err}
+use Rattle.plain_words.specs.declared.Refused.{Refused}
+use Rattle.plain_words.specs.Words.{Outcome, answers, refuses, refusal_word, outcome_word, refused_by, answer_in, is_accepted, Within, Told}
 
 -- what holds of both holds of either
 pub either : {A : Type 0} (P : A → Type 0) (b : Bool) {x y : A} → P x → P y → P (cond b x y)
@@ -66,3 +67,27 @@ word_tells most (refuses w) l h =
 pub not_accepted : (most : ℕ) (o : Outcome) → most < 65536 → Within most o → 65536 ≤ outcome_word o → is_accepted o ≡ false
 not_accepted most (answers n) l h m = absurd (let z : ⊥ = omega arith in z)
 not_accepted most (refuses w) l h m = refl
+
+-- ---- the word taken apart again is what it was made of
+
+pub answer_back : (n : ℕ) → n < 65536 → answer_in (outcome_word (answers n)) ≡ Ok n
+answer_back n h = rw (lt-ltb n 65536 h)
+
+-- of every refusal, whatever its start
+pub refusal_back : (w : Refusal) → answer_in (outcome_word (refuses w)) ≡ Err (refused_by w)
+refusal_back w =
+    let n : (refusal_word w - 65536) % 256 ≡ number_of w = omega (arith, number_small w) in
+    let s : (refusal_word w - 65536) / 256 ≡ start_of w = omega (arith, number_small w) in
+    rw (le-ltb (refusal_word w) 65536 (omega arith)) (λ i. Err (record { number = n i; start = s i }))
+
+-- a word that an answer comes from is that answer
+pub answer_is : (a n : ℕ) → answer_in a ≡ Ok n → (a < 65536) × (a ≡ n)
+answer_is a n e = go (ltb a 65536) refl _ e
+  where
+    go : (b : Bool) → ltb a 65536 ≡ b → (r : Refused) → cond b (Ok a) (Err r) ≡ Ok n → (a < 65536) × (a ≡ n)
+    go true l r h = (ltb-true a 65536 l, cc)
+    go false l r h = cc
+
+-- 69,637 is 65,536, 5, and 256 times the start 16
+night_back : answer_in 69637 ≡ Err (record { number = 5; start = 16 })
+night_back = refusal_back (NoLabel 16)

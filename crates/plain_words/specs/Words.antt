@@ -1,12 +1,18 @@
 -- The one 32-bit word that a C entry answers: of what the call comes to, and what the header's functions take out of it again.
-use Rattle.std.specs.Prelude.{ℕ, ◌+◌, ◌*◌, ◌/◌, ◌%◌, ◌≤◌, ◌<◌, ◌≡◌, Bool, true, false, cond, ltb}
+use Rattle.std.specs.Prelude.{ℕ, ◌+◌, ◌-◌, ◌*◌, ◌/◌, ◌%◌, ◌≤◌, ◌<◌, ◌≡◌, Bool, true, false, cond, ltb, Result, Ok, Err}
 use Rattle.refusals.specs.declared.Refusal.{Refusal}
 use Rattle.refusals.specs.Refusals.{number_of, start_of}
+use Rattle.plain_words.specs.declared.Refused.{Refused}
 
 -- what a call comes to: accepted, with a number, or refused
 pub data Outcome : Type 0 where
   answers : ℕ → Outcome
   refuses : Refusal → Outcome
+
+-- of what a function answers
+abbrev pub outcome_of : Result ℕ Refusal → Outcome
+outcome_of (Ok n) = answers n
+outcome_of (Err w) = refuses w
 
 -- 65,536 plus the refusal's number plus 256 times the start bit that 5 carries (02, Req 02: "Every caller that hands a refusal on now hands the
 -- start bit on too")
@@ -16,6 +22,16 @@ refusal_word w = 65536 + number_of w + 256 * start_of w
 abbrev pub outcome_word : Outcome → ℕ
 outcome_word (answers n) = n
 outcome_word (refuses w) = refusal_word w
+
+-- ---- what the word is taken apart into again
+
+-- a refusal by its two numbers
+abbrev pub refused_by : Refusal → Refused
+refused_by w = record { number = number_of w; start = start_of w }
+
+-- an answer word below 65,536 is accepted, and any other is 65,536, the refusal's number and 256 times the start bit
+abbrev pub answer_in : ℕ → Result ℕ Refused
+answer_in a = cond (ltb a 65536) (Ok a) (Err (record { number = (a - 65536) % 256; start = (a - 65536) / 256 }))
 
 -- ---- what a caller asks of the word: `rokemaipu_refusal` and `rokemaipu_start_bit` of the header
 

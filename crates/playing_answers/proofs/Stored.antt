@@ -2,25 +2,18 @@
 use Prim.Native.Nat.{ℕ, suc, ◌+◌, ◌-◌, ◌/◌, ◌%◌, ◌≤◌, ◌<◌}
 use native.Mathlib.Omega.{arith}
 use mathlib.Core.Path.{◌≡◌, sym, ap, ◌∙◌}
-use mathlib.Core.List.{List, [], ◌∷◌, ◌++◌}
-use lib.ListN.{length, drop, set, drop_of_length-le}
+use mathlib.Core.List.{List, ◌∷◌, ◌++◌}
+use lib.ListN.{length, drop, set}
 use lib.Seq.{append_snoc}
-use borrow.Author.Tests.{lt-ltb, le-ltb, eq-eqb, ne_eqb}
-use Rattle.text_numbers.specs.Ascii.{space, zero_sign}
+use borrow.Author.Tests.{lt-ltb}
+use Rattle.text_numbers.specs.Ascii.{zero_sign}
 use Rattle.text_numbers.specs.Numbers.{glyph_of, numeral}
-use Rattle.plain_words.specs.Words.{number_in, start_in}
-use Rattle.notation_answers.specs.Answers.{line_feed}
-use Rattle.playing_answers.specs.Texts.{start_text, refused_text, found_text, answer_text}
 use Rattle.text_numbers.proofs.Numerals.{one_digit, more_digits, in_front}
 
 pub stored : (l : List ℕ) (at b : ℕ) → 1 ≤ at → at ≤ length l → drop (at - 1) (set l (at - 1) b) ≡ b ∷ drop at l
 stored l at b h k =
     let e : suc (at - 1) ≡ at = omega arith in
     in_front l (at - 1) b (omega arith) ∙ ap (λ (i : ℕ). b ∷ drop i l) e
-
--- a line feed in the last place of a line's room
-pub ended : (l : List ℕ) → length l ≡ 86 → line_feed ∷ drop 86 l ≡ line_feed ∷ []
-ended l e = ap (λ (r : List ℕ). line_feed ∷ r) (let all : length l ≤ 86 = omega (arith, e) in drop_of_length-le l all)
 
 pub glyph : (d : ℕ) → d < 10 → zero_sign + d ≡ glyph_of d
 unfolding glyph_of
@@ -41,23 +34,3 @@ module _ (l : List ℕ) (i rest : ℕ) (h : 1 ≤ i) (k : i ≤ length l) where
       ap (λ (ds : List ℕ). ds ++ drop i l) (one_digit 10 (omega arith) rest few)
       ∙ ap (λ (x : ℕ). x ∷ drop i l) (sym (e ∙ glyph rest few))
       ∙ sym (stored l i b h k)
-
--- ---- the cases of an answer
-
-module _ (n s : ℕ) where
-  pub plain : (n ≡ 5 → ⊥) → line_feed ∷ [] ≡ start_text n s
-  unfolding start_text
-  plain h = rw (ne_eqb n 5 h)
-
-  pub started : n ≡ 5 → space ∷ (numeral 10 s ++ (line_feed ∷ [])) ≡ start_text n s
-  unfolding start_text
-  started h = rw (eq-eqb n 5 h)
-
-module _ (w : ℕ) where
-  pub is_found : w < 65536 → found_text w ≡ answer_text w
-  unfolding answer_text
-  is_found h = rw (lt-ltb w 65536 h)
-
-  pub is_refused : 65536 ≤ w → refused_text (number_in w) (start_in w) ≡ answer_text w
-  unfolding answer_text
-  is_refused h = rw (le-ltb w 65536 h)

@@ -1,141 +1,140 @@
 // A record's line of a replay (02, Req 05) from its answer word. It is made from its end to its front in a room of its own, so that each byte is stored
 // once, and goes to the output as one text. For `playing_batches` alone. The public function takes any input.
-ghost use Rattle.std.specs.Prelude.{◌≡◌, [], ◌∷◌, ◌++◌, ◌+◌, ◌≤◌, eqb, length, drop};
-ghost use Rattle.text_numbers.specs.Ascii.{space};
-ghost use Rattle.text_numbers.specs.Numbers.{numeral};
-ghost use Rattle.plain_words.specs.Words.{number_in, start_in};
-ghost use Rattle.notation_answers.specs.Answers.{Wrote};
-ghost use Rattle.playing_answers.specs.Texts.{start_text, refused_text, found_text, answer_text, post_text, word_line};
+// Kept (1, 4): a batch leaves its answers as words of 32 bits in the lent array, and the line is made of such a word.
+// Kept (2): the methods of a line are no twins: each puts other bytes. Nor are its digits `text_written`'s, which go to a table that is then put on a sheet:
+// here each byte is stored once, in its place.
+#![tactic(auto, unfolding(crate::specs::Texts::start_text, crate::specs::Texts::answer_text, crate::specs::Texts::post_text))]
 
-use text_pen::Pen;
+ghost use Rattle.std.specs.Prelude.{◌≡◌, [], ◌∷◌, ◌++◌, ◌+◌, ◌<◌, ◌≤◌, eqb, length};
+ghost use Rattle.text_numbers.specs.Numbers.{numeral};
+ghost use Rattle.text_pen.specs.Pens.{Wrote};
+ghost use Rattle.plain_words.specs.Words.{number_in};
+ghost use Rattle.playing_answers.specs.Texts.{refused_text, answer_text, post_text, word_line};
+
+use plain_words::answer_in;
+use std::marker::Model;
+use text_pen::Sheet;
 
 // Four numbers of at most 20 digits and six other bytes.
 const ROOM: usize = 86;
 
-// A byte in front of what stands from `at` on.
-fn put_byte(line: &mut [u8], at: usize, byte: u8) -> usize
-    requires { (1 ≤ at) × (at ≤ length line.old) }
-    ensures { (drop result line.new ≡ byte ∷ drop at line.old) × (result + 1 ≡ at) }
-{
-    let i = at - 1;
-    line[i] = byte;
-    i
+// The end of a line: the bytes from `at` on. More of it goes in front.
+// Kept (6): the room has the fixed size of the longest line, since there is no heap.
+#[derive(Drop)]
+struct Line {
+    room: [u8; ROOM],
+    at: usize,
 }
 
-// A number in front of it, by the fewest digits.
-fn digits(line: &mut [u8], at: usize, n: u64) -> usize
-    requires { (20 ≤ at) × (at ≤ length line.old) }
-    ensures { (drop result line.new ≡ numeral 10 n ++ drop at line.old) × (result ≤ at) × (at ≤ result + 20) }
-{
-    let mut i = at;
-    let mut rest = n;
-    while rest >= 10 {
+// To a contract a line is its text.
+impl Model for Line {
+    ghost use Rattle.std.specs.Prelude.{ℕ, ◌≤◌, List, drop};
+
+    ghost Value = { List ℕ };
+
+    ghost view = { λ l. drop l.at l.room };
+
+    ghost invariant = { λ l. l.at ≤ 86 };
+}
+
+impl Line {
+    fn new() -> Self
+        ensures { result ≡ [] }
+    {
+        Line {
+            room: [0; ROOM],
+            at: ROOM,
+        }
+    }
+
+    fn text(&self) -> &[u8]
+        ensures { result.now ≡ self.now }
+    {
+        &self.room[self.at..]
+    }
+
+    fn put_byte(&mut self, byte: u8)
+        requires { length self.old < 86 }
+        ensures { self.new ≡ byte ∷ self.old }
+    {
+        self.at -= 1;
+        self.room[self.at] = byte;
+    }
+
+    // A number, by the fewest digits.
+    // Kept (3): a turn goes on by what is left of n, and `i` only says where the digits behind stand.
+    fn put_digits(&mut self, n: u64)
+        requires { length self.old + 20 ≤ 86 }
+        ensures text { self.new ≡ numeral 10 n ++ self.old }
+        ensures few { length self.new ≤ length self.old + 20 }
+    {
+        let mut i = self.at;
+        let mut rest = n;
+        while rest >= 10 {
+            i -= 1;
+            self.room[i] = b'0' + (rest % 10) as u8;
+            rest /= 10;
+        }
         i -= 1;
-        line[i] = b'0' + (rest % 10) as u8;
-        rest = rest / 10;
+        self.room[i] = b'0' + rest as u8;
+        self.at = i;
     }
-    i -= 1;
-    line[i] = b'0' + rest as u8;
-    i
-}
 
-fn number_in(word: u32) -> u32
-    ensures { result ≡ number_in word }
-{
-    if word < 65536 {
-        return 0;
+    // "a line feed after"; "refusal 5 adds a space and the start bit"
+    fn put_refused(&mut self, n: u32, start: u32)
+        requires { self.old ≡ [] }
+        ensures text { self.new ≡ refused_text n start }
+        ensures few { length self.new ≤ 43 }
+    {
+        self.put_byte(b'\n');
+        if n == 5 {
+            self.put_digits(u64::from(start));
+            self.put_byte(b' ');
+        }
+        self.put_digits(u64::from(n));
+        self.put_byte(b'R');
     }
-    word % 256
-}
 
-fn start_in(word: u32) -> u32
-    ensures { result ≡ start_in word }
-{
-    if word < 65536 {
-        return 0;
+    fn put_answer(&mut self, word: u32)
+        requires { self.old ≡ [] }
+        ensures text { self.new ≡ answer_text word }
+        ensures few { length self.new ≤ 43 }
+    {
+        match answer_in(word) {
+            Ok(found) => {
+                self.put_byte(b'\n');
+                self.put_digits(u64::from(found));
+                self.put_byte(b'A');
+            }
+            // Of the start the line has one byte, as the header's function answers it (`start_in`).
+            Err(w) => self.put_refused(w.number, w.start % 256),
+        }
     }
-    word / 256 % 256
-}
 
-// "refusal 5 adds a space and the start bit"
-fn put_start(line: &mut [u8], n: u32, start: u32) -> usize
-    requires { length line.old ≡ 86 }
-    ensures { (drop result line.new ≡ start_text n start) × (result ≤ 85) × (64 ≤ result) }
-{
-    let at = put_byte(line, ROOM, b'\n');
-    if n != 5 {
-        return at;
+    // "post (dash for refusal 1)"
+    fn put_post(&mut self, post: u32, word: u32)
+        requires { length self.old + 20 ≤ 86 }
+        ensures text { self.new ≡ post_text post (eqb (number_in word) 1) ++ self.old }
+        ensures few { length self.new ≤ length self.old + 20 }
+    {
+        if answer_in(word).is_err_and(|w| w.number == 1) {
+            self.put_byte(b'-');
+        } else {
+            self.put_digits(u64::from(post));
+        }
     }
-    let d = digits(line, at, start as u64);
-    put_byte(line, d, b' ')
 }
 
-fn put_refused(line: &mut [u8], n: u32, start: u32) -> usize
-    requires { length line.old ≡ 86 }
-    ensures { (drop result line.new ≡ refused_text n start) × (result ≤ 85) × (43 ≤ result) }
+// The line of a record: its count, its post, and its answer word, one space between.
+#[tactic(auto, using(text_pen::proofs::Turns::sheets), unfolding(crate::specs::Texts::word_line))]
+pub fn put_line(sheet: &mut Sheet, count: u64, post: u32, word: u32)
+    ensures { Wrote sheet.old (word_line count post word ∷ []) sheet.new }
 {
-    let at = put_start(line, n, start);
-    let d = digits(line, at, n as u64);
-    put_byte(line, d, b'R')
-}
-
-fn put_found(line: &mut [u8], found: u32) -> usize
-    requires { length line.old ≡ 86 }
-    ensures { (drop result line.new ≡ found_text found) × (result ≤ 85) × (43 ≤ result) }
-{
-    let at = put_byte(line, ROOM, b'\n');
-    let d = digits(line, at, found as u64);
-    put_byte(line, d, b'A')
-}
-
-fn put_answer(line: &mut [u8], word: u32) -> usize
-    requires { length line.old ≡ 86 }
-    ensures { (drop result line.new ≡ answer_text word) × (result ≤ 85) × (43 ≤ result) }
-{
-    if word < 65536 {
-        return put_found(line, word);
-    }
-    let n = number_in(word);
-    let start = start_in(word);
-    put_refused(line, n, start)
-}
-
-// "post (dash for refusal 1)"
-fn put_post(line: &mut [u8], at: usize, post: u32, dash: bool) -> usize
-    requires { (20 ≤ at) × (at ≤ length line.old) }
-    ensures { (drop result line.new ≡ post_text post dash ++ drop at line.old) × (result ≤ at) × (at ≤ result + 20) }
-{
-    if dash {
-        return put_byte(line, at, b'-');
-    }
-    digits(line, at, post as u64)
-}
-
-// The post and the answer, with a space in front of each.
-fn put_behind(line: &mut [u8], post: u32, word: u32) -> usize
-    requires { length line.old ≡ 86 }
-    ensures { (drop result line.new ≡ space ∷ (post_text post (eqb (number_in word) 1) ++ (space ∷ answer_text word))) × (result ≤ 85) × (21 ≤ result) }
-{
-    let a = put_answer(line, word);
-    let b = put_byte(line, a, b' ');
-    let dash = number_in(word) == 1;
-    let c = put_post(line, b, post, dash);
-    put_byte(line, c, b' ')
-}
-
-fn made(line: &mut [u8], count: u64, post: u32, word: u32) -> usize
-    requires { length line.old ≡ 86 }
-    ensures { (drop result line.new ≡ word_line count post word) × (result ≤ 86) }
-{
-    let at = put_behind(line, post, word);
-    digits(line, at, count)
-}
-
-// The line of a record: its count, its post, and its answer word.
-pub fn put_line(out: &mut [u8], pen: Pen, count: u64, post: u32, word: u32) -> Pen
-    ensures { Wrote out.old pen (word_line count post word ∷ []) result out.new }
-{
-    let mut line = [0u8; ROOM];
-    let at = made(&mut line, count, post, word);
-    text_pen::put(out, pen, &line[at..])
+    let mut line = Line::new();
+    line.put_answer(word);
+    line.put_byte(b' ');
+    line.put_post(post, word);
+    line.put_byte(b' ');
+    line.put_digits(count);
+    sheet.put(line.text());
 }

@@ -1,19 +1,19 @@
 -- A record has four bytes or more: one for its time, one for its channel, one for its identifier part and one for its length.
+use Rattle.std.specs.Prelude.{Ok, Err}
 use Rattle.std.proofs.Common.{◌≡◌, ℕ, zero, suc, ◌+◌, ◌-◌, ◌*◌, ◌/◌, ◌%◌, ◌<◌, ◌≤◌, Bool, true, false, cond, eqb, ltb, leb, List, length, refl, subst, arith, leb-false}
-use Rattle.log_records.specs.declared.Taken.{Taken}
-use Rattle.log_records.specs.declared.Taken.TheVariants.{Whole, Cut, Bad}
+use Rattle.log_records.specs.declared.RecordError.TheVariants.{Cut, Bad}
 use Rattle.log_records.specs.declared.Found.{Found}
 use Rattle.log_records.specs.declared.Found.TheVariants as found
 use Rattle.log_records.specs.Record.{identifiers}
-use Rattle.log_records.specs.Reading.{part as onPart, length_part, identifier_part, channel_part, time_part, record_at, placed, found_at, onward, read_from, log_of, records_in}
+use Rattle.log_records.specs.Reading.{Taken, part as onPart, length_part, identifier_part, channel_part, time_part, record_at, placed, found_at, onward, read_from, log_of, records_in}
 use Rattle.log_records.proofs.Entries.{entry_lies}
 use Rattle.log_records.proofs.Wholes.{by_part, by_test}
 
 -- the record that was read from `at` on
 abbrev Long : ℕ → Taken → Type 0
-Long at (Whole e) = at + 4 ≤ e.next
-Long at Cut = Unit {0}
-Long at (Bad w) = Unit {0}
+Long at (Ok e) = at + 4 ≤ e.next
+Long at (Err Cut) = Unit {0}
+Long at (Err (Bad w)) = Unit {0}
 
 module _ (s : List ℕ) (at : ℕ) where
   test : (t : Bool) (x y : Taken) → Long at x → Long at y → Long at (cond t x y)
@@ -54,9 +54,9 @@ found_long : (s : List ℕ) (at : ℕ) → LongFound at (found_at s at)
 found_long s at = go (leb (length s) at) refl
   where
     by : (x : Taken) → Long at x → LongFound at (placed at x)
-    by (Whole e) h = h
-    by Cut h = tt
-    by (Bad w) h = tt
+    by (Ok e) h = h
+    by (Err Cut) h = tt
+    by (Err (Bad w)) h = tt
 
     go : (b : Bool) → leb (length s) at ≡ b → LongFound at (cond b found.End (placed at (record_at s at)))
     go true e = tt

@@ -1,4 +1,5 @@
 -- A record of a batch is the record fed singly: its table, its word, its post and its line.
+use Rattle.std.specs.Prelude.{Ok, Err}
 use Rattle.std.proofs.Common.{◌≡◌, ℕ, suc, ◌+◌, ◌*◌, ◌^◌, ◌<◌, ◌≤◌, Bool, true, false, cond, ◌&&◌, eqb, ltb, List, [], ◌∷◌, ◌++◌, length, sym, refl, ap, ◌∙◌, ap₂, mod-lt, arith, length-append, lt-ltb}
 use Rattle.refusals.specs.Refusals.{number_of, start_of}
 use Rattle.plain_words.specs.Words.{refuses, refusal_word, number_in, start_in, Within}
@@ -6,9 +7,7 @@ use Rattle.plain_words.proofs.WordLaws.{either, number_small, word_tells}
 use Rattle.rules.specs.declared.Post.{Post}
 use Rattle.log_records.specs.Record.{Rec, tick, frame}
 use Rattle.watch_rules.specs.declared.Table.{Table}
-use Rattle.watch_rules.specs.declared.Fed.{Fed}
-use Rattle.watch_rules.specs.declared.Answer.{Answer}
-use Rattle.watch_rules.specs.declared.Answer.TheVariants as answer
+use Rattle.watch_rules.specs.Answer.{Answer, Fed}
 use Rattle.watch_rules.specs.Table.{post_count, is_channel, holds, place_of, place_in, post_in, Arriving, feed_at, feed_of}
 use Rattle.watch_rules.specs.Run as request
 use Rattle.lent_runs.specs.lent_words.specs.Words.{answer_outcome, answer_word}
@@ -64,7 +63,7 @@ place_low (p ∷ ps) c = either (λ (n : ℕ). n ≤ suc (length ps)) (holds p.h
 
 -- a refusal's line, by its number and its start
 by_cases : (n i : ℕ) (w : _) (b d : Bool) → eqb (number_of w) 1 ≡ b → eqb (number_of w) 5 ≡ d
-    → numeral 10 n ++ (space ∷ (post_text i (eqb (number_of w) 1) ++ (space ∷ refused_text (number_of w) (start_of w)))) ≡ line_of n i (answer.Refused w)
+    → numeral 10 n ++ (space ∷ (post_text i (eqb (number_of w) 1) ++ (space ∷ refused_text (number_of w) (start_of w)))) ≡ line_of n i (Err w)
 unfolding post_text start_text line_of refused_words text_of
 by_cases n i w true true e f = rw (e, f)
 by_cases n i w true false e f = rw (e, f)
@@ -73,8 +72,8 @@ by_cases n i w false false e f = rw (e, f)
 
 pub line_of_word : (n i : ℕ) (a : Answer) → Within 4095 (answer_outcome a) → word_line n i (answer_word a) ≡ line_of n i a
 unfolding word_line answer_text post_text line_of text_of
-line_of_word n i (answer.Findings f) h = let l : ltb f 65536 ≡ true = lt-ltb f 65536 (omega arith) in rw l
-line_of_word n i (answer.Refused w) h =
+line_of_word n i (Ok f) h = let l : ltb f 65536 ≡ true = lt-ltb f 65536 (omega arith) in rw l
+line_of_word n i (Err w) h =
     let t = word_tells 4095 (refuses w) (omega arith) h in
     ap (λ (x : List ℕ). numeral 10 n ++ (space ∷ (post_text i (eqb (number_in (refusal_word w)) 1) ++ (space ∷ x)))) (ap (λ (b : Bool). cond b (found_text (refusal_word w)) (refused_text (number_in (refusal_word w)) (start_in (refusal_word w)))) t.told)
     ∙ ap₂ (λ (k s : ℕ). numeral 10 n ++ (space ∷ (post_text i (eqb k 1) ++ (space ∷ refused_text k s)))) t.number t.start
@@ -94,8 +93,8 @@ words_lines (x ∷ xs) r ps rest h =
     (ap (λ (u : Table). word_lines ps n xs (words_of u xs ++ rest)) (called_table t x) ∙ words_lines xs (fed_one r x) ps rest (λ c. h c ∙ sym (place_kept t x c)))
 
 in_words : (a : Answer) → Within 4095 (answer_outcome a) → InWords a
-in_words (answer.Findings n) h = omega arith
-in_words (answer.Refused w) h = (omega (arith, number_small w), omega arith)
+in_words (Ok n) h = omega arith
+in_words (Err w) h = (omega (arith, number_small w), omega arith)
 
 -- no line has more than 40 bytes
 pub lines_short : (xs : List Rec) (r : Replay) → ((c : ℕ) → place_of r.table.posts c < 100) → length (text_of (lines_on r xs)) ≤ line_room * length xs

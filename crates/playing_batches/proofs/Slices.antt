@@ -1,23 +1,22 @@
 -- A log fed by the batch has the lines of its records fed singly, however it is cut into slices of whole records.
+use Rattle.std.specs.Prelude.{Ok, Err}
 use Rattle.std.proofs.Common.{◌≡◌, ℕ, zero, suc, ◌+◌, ◌^◌, ◌<◌, ◌≤◌, Bool, true, false, cond, ltb, leb, List, [], ◌∷◌, ◌++◌, length, drop, sym, refl, ap, ◌∙◌, subst, ap₂, inl, true≢false, append_assoc, add-zero, mod-eq_of_lt, zero-add, arith, length-drop, length-take-le, take_all, leb-false, leb-true}
 use mathlib.Core.Option.{Option, none, some}
 use lib.Seq.{take-append_seam}
 use Rattle.refusals.specs.declared.Refusal.{Refusal}
-use Rattle.log_records.specs.declared.Taken.{Taken}
-use Rattle.log_records.specs.declared.Taken.TheVariants.{Whole, Cut, Bad}
+use Rattle.log_records.specs.declared.RecordError.TheVariants.{Cut, Bad}
 use Rattle.log_records.specs.declared.Found.TheVariants as found
 use Rattle.log_records.specs.Record.{Rec}
-use Rattle.log_records.specs.Reading.{record_at, placed, found_at, Log, onward, log_of, records_in}
+use Rattle.log_records.specs.Reading.{Taken, record_at, placed, found_at, Log, onward, log_of, records_in}
 use Rattle.log_records.specs.Pieces.{piece_of, moved_entry, moved, is_firm}
 use Rattle.log_records.proofs.Entries.{entry_lies}
 use Rattle.log_records.proofs.Pieces.{in_pieces, same_record}
 use Rattle.log_records.proofs.Logs.{turn_end}
-use Rattle.log_read.proofs.Scans.{log_at, unroll}
+use Rattle.log_read.proofs.Scans.{log_at, unroll, found_turn}
 use Rattle.watch_rules.specs.declared.Table.{Table}
 use Rattle.watch_rules.specs.Table.{empty_table}
 use Rattle.batch.specs.batch_rules.specs.Batch.{is_whole, why_batch}
 use Rattle.batch.specs.batch_rules.proofs.Laws.{by_why, few_records}
-use Rattle.batch.proofs.Turns.{found_on_lem}
 use Rattle.text_pen.specs.Pens.{text_of}
 use Rattle.playing_nights.specs.declared.Course.{Course}
 use Rattle.playing_nights.specs.declared.Course.TheVariants as course
@@ -26,8 +25,8 @@ use Rattle.playing_nights.specs.Fed.{fed_with, line_for, lines_from}
 use Rattle.playing_nights.specs.Call.{fresh, next_count}
 use Rattle.playing_nights.specs.Night.{Wanted, Ready, ready, stopped, prepared_from, night_of, set_ups_from}
 use Rattle.playing_nights.proofs.Nights.{Stands, set_ups}
-use Rattle.playing_batches.specs.declared.Written.{Written}
-use Rattle.playing_batches.specs.declared.Written.TheVariants.{SetUp, Refused}
+use Rattle.playing_batches.specs.declared.Unwritten.{Unwritten}
+use Rattle.playing_batches.specs.declared.Unwritten.TheVariants.{SetUp, Refused}
 use Rattle.playing_batches.specs.Batched.{fed_one, fed_on, lines_on, room_for, why_of, on_course, why_not, batched_by, lines_by, batched_of, lines_of}
 use Rattle.playing_batches.specs.Slices.{Slice, size_of, behind, on_written, in_slices}
 
@@ -72,13 +71,13 @@ module _ (s : List ℕ) (a k : ℕ) where
   step : (i : ℕ) (x : Taken) → found_at v i ≡ placed i x → is_whole (onward v (log_at v) (placed i x)) ≡ true
       → ((j : ℕ) → i < j → j ≤ length v → is_whole (log_at v j) ≡ true → InFront j (log_at v j)) → InFront i (onward v (log_at v) (placed i x))
   unfolding is_whole records_in
-  step i (Whole e) here w go =
+  step i (Ok e) here w go =
       let l = entry_lies v i e here in
       let there : found_at s (a + i) ≡ found.Record (moved_entry a e) = in_pieces s a k i (inl (ap is_firm here)) ∙ ap (moved a) here in
-      ap records_in (found_on_lem s (a + i) ∙ ap (onward s (log_at s)) there)
+      ap records_in (found_turn s (a + i) ∙ ap (onward s (log_at s)) there)
       ∙ ap₂ (λ (x : Rec) (xs : List Rec). x ∷ xs) (same_record s a k i e here) (go e.next l.1 l.2 w)
-  step i Cut here w go = differ w
-  step i (Bad x) here w go = differ w
+  step i (Err Cut) here w go = differ w
+  step i (Err (Bad x)) here w go = differ w
 
   past : (i : ℕ) → i ≤ length v → length v ≤ i → InFront i (log_at v i)
   unfolding records_in
@@ -114,11 +113,11 @@ module _ (s : List ℕ) (a k : ℕ) where
 -- ---- one call
 
 module _ (r : Replay) (s : List ℕ) (places room : ℕ) where
-  on-why : (P : Option Written → Type 0) → (is_whole (log_of s) ≡ true → P none) → ((n : ℕ) → P (some (Refused n))) → P (why_of (why_batch s places))
+  on-why : (P : Option Unwritten → Type 0) → (is_whole (log_of s) ≡ true → P none) → ((n : ℕ) → P (some (Refused n))) → P (why_of (why_batch s places))
   on-why P lines number = by_why s places (λ o. P (why_of o)) (λ l. number 22) (λ b. number 23) (λ n. number 24) (λ k. lines k.1)
 
   -- lines are written only of whole records
-  by_written : (P : Option Written → Type 0) → (is_whole (log_of s) ≡ true → P none) → ((n : ℕ) → P (some (Refused n))) → ((w : Refusal) → P (some (SetUp w))) → P (why_not r s places room)
+  by_written : (P : Option Unwritten → Type 0) → (is_whole (log_of s) ≡ true → P none) → ((n : ℕ) → P (some (Refused n))) → ((w : Refusal) → P (some (SetUp w))) → P (why_not r s places room)
   unfolding why_not
   by_written P lines number set_up = go (ltb room (room_for s)) r.course
     where
@@ -145,7 +144,7 @@ module _ (c : Slice) (cs : List Slice) (r : Replay) (s : List ℕ) (at : ℕ) (t
   abbrev told : List ℕ
   told = text_of (lines_on r xs)
 
-  abbrev Gives : Option Written → Type 0
+  abbrev Gives : Option Unwritten → Type 0
   Gives o = on_written (lines_by o r xs c.2) (in_slices cs (batched_by o r xs).replay s (at + c.0)) (batched_by o r xs).answer ≡ some text
       → text ≡ text_of (lines_on r (records_in (log_at s at)))
 
@@ -163,7 +162,7 @@ module _ (c : Slice) (cs : List Slice) (r : Replay) (s : List ℕ) (at : ℕ) (t
       (λ n h. cc) (λ w h. cc)
 
   -- a replay that a set-up ended has no lines
-  abbrev Stops : Option Written → Type 0
+  abbrev Stops : Option Unwritten → Type 0
   Stops o = on_written (lines_by o r xs c.2) (in_slices cs (batched_by o r xs).replay s (at + c.0)) (batched_by o r xs).answer ≡ some text → text ≡ []
 
   stops : (w : Refusal) (b : Bool) (k : Course) → k ≡ course.Refused w → Stops (cond b (some (Refused 8)) (on_course k (why_of (why_batch slice c.1))))

@@ -1,4 +1,5 @@
 -- The laws of slices on 02's example, whose log is fed in two batches of a record each.
+use Rattle.std.specs.Prelude.{Ok}
 use Rattle.std.proofs.Common.{◌≡◌, ℕ, ◌*◌, ◌≤◌, true, List, [], ◌∷◌, ◌++◌, length, replicate, sym, refl, arith}
 use mathlib.Core.Option.{some}
 use lib.ListN.{length-replicate}
@@ -12,7 +13,6 @@ use Rattle.log_read.proofs.Scans.{log_at}
 use Rattle.text_numbers.specs.Numbers.{glyph_of, digits_in, numeral}
 use Rattle.text_pen.specs.Pens.{text_of}
 use Rattle.watch_rules.specs.declared.Table.{Table}
-use Rattle.watch_rules.specs.declared.Answer.TheVariants.{Findings}
 use Rattle.watch_rules.specs.Table.{post_count, empty_table, place_of, place_named, some_place, place_in, heard_of, feed_at, feed_of, is_other, set_up_of}
 use Rattle.rule_limits.specs.Limits.{limits_fit}
 use Rattle.batch.specs.batch_rules.specs.Batch.{is_whole, why_batch}
@@ -85,8 +85,8 @@ pub ticks_short : length (text_of (lines_on fresh (records_in (log_of ticks)))) 
 ticks_short = lines_short (records_in (log_of ticks)) fresh (λ c. omega (arith, place_low empty_table.posts c, length-replicate {A = Post} post_count free_post))
 
 -- "1 0 A0"
-pub found_line : word_line 1 0 0 ≡ line_of 1 0 (Findings 0)
-found_line = line_of_word 1 0 (Findings 0) (omega arith)
+pub found_line : word_line 1 0 0 ≡ line_of 1 0 (Ok 0)
+found_line = line_of_word 1 0 (Ok 0) (omega arith)
 
 pub tick_place : (t : Table) → place_of (fed_with t (tick 300 2)).table.posts 2 ≡ place_of t.posts 2
 tick_place t = place_kept t (tick 300 2) 2

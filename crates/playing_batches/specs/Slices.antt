@@ -1,10 +1,10 @@
 -- A log fed by the batch: slices of it, one behind the other, each with buffers of its own.
-use Rattle.std.specs.Prelude.{ℕ, ◌+◌, List, [], ◌∷◌, ◌++◌, length, take}
+use Rattle.std.specs.Prelude.{ℕ, ◌+◌, List, [], ◌∷◌, ◌++◌, length, take, Result, Ok, Err}
 use Rattle.std.proofs.Math.Option.{Option, none, some}
 use Rattle.log_records.specs.Pieces.{piece_of}
 use Rattle.playing_nights.specs.declared.Replay.{Replay}
-use Rattle.playing_batches.specs.declared.Written.{Written}
-use Rattle.playing_batches.specs.declared.Written.TheVariants.{Lines, SetUp, Refused}
+use Rattle.playing_batches.specs.declared.Lines.{Lines}
+use Rattle.playing_batches.specs.declared.Unwritten.{Unwritten}
 use Rattle.playing_batches.specs.Batched.{batched_of, lines_of}
 
 -- so many bytes of the log, so many places for answers, and the buffer for lines as it was lent
@@ -20,10 +20,9 @@ behind text (some more) = some (text ++ more)
 behind text none = none
 
 -- on from an answer: lines are the bytes that it tells of, at the front of the buffer
-abbrev pub on_written : List ℕ → Option (List ℕ) → Written → Option (List ℕ)
-on_written out more (Lines records bytes) = behind (take bytes out) more
-on_written out more (SetUp w) = none
-on_written out more (Refused n) = none
+abbrev pub on_written : List ℕ → Option (List ℕ) → Result Lines Unwritten → Option (List ℕ)
+on_written out more (Ok l) = behind (take l.bytes out) more
+on_written out more (Err why) = none
 
 -- the text of the slices' lines, from byte `at` of the log s on; none where one was refused
 unfoldable pub in_slices : List Slice → Replay → List ℕ → ℕ → Option (List ℕ)

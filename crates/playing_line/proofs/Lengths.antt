@@ -1,4 +1,5 @@
 -- A line has at most 40 bytes.
+use Rattle.std.specs.Prelude.{Ok, Err}
 use mathlib.Core.Path.{◌≡◌, refl}
 use mathlib.Core.Bool.{Bool, true, false, cond}
 use mathlib.Core.List.{List, [], ◌∷◌, ◌++◌}
@@ -12,8 +13,7 @@ use Rattle.text_numbers.specs.Ascii.{space, dash}
 use Rattle.text_numbers.specs.Numbers.{numeral}
 use Rattle.text_pen.specs.Pens.{text_of}
 use Rattle.notation_answers.specs.Answers.{line_feed, capital_a, capital_r, named_words, end_words}
-use Rattle.watch_rules.specs.declared.Answer.{Answer}
-use Rattle.watch_rules.specs.declared.Answer.TheVariants.{Findings, Refused}
+use Rattle.watch_rules.specs.Answer.{Answer}
 use Rattle.playing_line.specs.Lines.{line_room, unheld, post_words, refused_words, answer_words, line_of, InWords}
 use Rattle.playing_line.proofs.Digits.{few_digits}
 
@@ -57,8 +57,8 @@ refused_long n s hn hs = go (eqb n 5) refl
     go false e = omega (arith, size_append (front n) [], size_named (space ∷ capital_r ∷ []) n, ten_long n hn)
 
 answer_long : (a : Answer) → InWords a → size (answer_words a) ≤ 14
-answer_long (Findings f) h = omega (arith, size_named (space ∷ capital_a ∷ []) f, ten_long f h)
-answer_long (Refused w) h = refused_long (number_of w) (start_of w) h.0 h.1
+answer_long (Ok f) h = omega (arith, size_named (space ∷ capital_a ∷ []) f, ten_long f h)
+answer_long (Err w) h = refused_long (number_of w) (start_of w) h.0 h.1
 
 -- a count of 64 bits, a post of two digits (02, Req 13), and an answer of 32 bits
 pub line_short : (n i : ℕ) (a : Answer) → n < 2 ^ 64 → i < 100 → InWords a → length (line_of n i a) ≤ line_room

@@ -1,4 +1,5 @@
 -- Each line is what 01's rules give when read afresh over the accepted steps.
+use Rattle.std.specs.Prelude.{Ok, Err}
 use Prim.Native.Nat.{ℕ, ◌+◌, ◌^◌, ◌≤◌, ◌<◌}
 use mathlib.Core.Path.{◌≡◌, refl, ap, ap₂, subst, ◌∙◌}
 use mathlib.Core.List.{List, [], ◌∷◌}
@@ -6,9 +7,8 @@ use lib.ListN.{length}
 use Rattle.log_records.specs.Record.{Rec}
 use Rattle.log_records.specs.Reading.{Log, log_of, records_in}
 use Rattle.watch_rules.specs.declared.Table.{Table}
-use Rattle.watch_rules.specs.declared.Answer.{Answer}
-use Rattle.watch_rules.specs.declared.Setting.{Setting}
-use Rattle.watch_rules.specs.declared.Setting.TheVariants as setting
+use Rattle.watch_rules.specs.Answer.{Answer}
+use Rattle.watch_rules.specs.Setting.{Setting}
 use Rattle.watch_rules.specs.Table.{place_of, empty_table, set_up_of}
 use Rattle.watch_rules.specs.Steps.{Steps, feed_steps, set_up_steps, Kept}
 use Rattle.watch_rules.proofs.Placed.{place_look}
@@ -50,8 +50,8 @@ setting_alike : (a b : Setting) (x : Ready Table) (y : Ready Steps) → a ≡ b 
 setting_alike a b x y e h = subst (λ (z : Setting). Alike (on_setting a x) (on_setting z y)) e (go a)
   where
     go : (a : Setting) → Alike (on_setting a x) (on_setting a y)
-    go setting.Done = h
-    go (setting.Refused w) = refl
+    go (Ok tt) = h
+    go (Err w) = refl
 
 prepared_alike : (us : List Wanted) (t : Table) (s : Steps) → Kept t s → Alike (prepared_from t us) (prepared01 s us)
 unfolding prepared_from prepared01

@@ -1,5 +1,6 @@
 -- What a call and a set-up leave alone, and where a line leads. 02, Req 05: "a line buffer under 40 bytes gets 8 first"; "Set-ups come before the first
 -- record".
+use Rattle.std.specs.Prelude.{Ok, Err}
 use Prim.Native.Nat.{ℕ, ◌≤◌, ◌<◌}
 use native.Mathlib.Omega.{arith}
 use mathlib.Core.Path.{◌≡◌, refl, sym, ap, ◌∙◌}
@@ -14,10 +15,9 @@ use Rattle.log_records.specs.declared.Found.{Found}
 use Rattle.log_records.specs.declared.Found.TheVariants as found
 use Rattle.log_records.specs.Reading.{rec_of, found_at}
 use Rattle.playing_nights.specs.declared.Course.{Course}
-use Rattle.watch_rules.specs.declared.Answer.TheVariants.{Findings}
 use Rattle.playing_nights.specs.declared.Course.TheVariants.{SetUps, Records, Refused}
 use Rattle.playing_nights.specs.declared.Replay.{Replay}
-use Rattle.playing_nights.specs.declared.Preparing.TheVariants.{Late}
+use Rattle.playing_nights.specs.declared.Unprepared.TheVariants.{Late}
 use Rattle.playing_nights.specs.declared.Played.{Played}
 use Rattle.playing_nights.specs.declared.Played.TheVariants.{Line, Short}
 use Rattle.playing_line.specs.Lines.{line_room}
@@ -29,7 +29,7 @@ use Rattle.playing_nights.proofs.Steps.{call_short, set_up_on_lem}
 
 module _ (r : Replay) (s : List ℕ) (at : ℕ) (out : List ℕ) where
   -- before all else, also where a set-up was refused or the log is bad
-  pub short_first : length out < line_room → (next_line r s at (length out) ≡ record { replay = r; answer = Short; heard = Findings 0 }) × (buffer_after r s at out ≡ out)
+  pub short_first : length out < line_room → (next_line r s at (length out) ≡ record { replay = r; answer = Short; heard = Ok 0 }) × (buffer_after r s at out ≡ out)
   short_first h =
       let e : call_of r s at (length out) ≡ other Short = sym (call_short r s at (length out) h) in
       (ap (next_by r) e, ap (buffer_by out) e)
@@ -88,5 +88,5 @@ module _ (r : Replay) (s : List ℕ) (at : ℕ) (out : List ℕ) where
     after_line = ap (λ (x : Call). (next_by r x).replay.course) line_found.2
 
     -- and then no set-up changes anything
-    pub set_up_late : (i c : ℕ) (lim : PlainLimits) → set_up_in (next_line r s at (length out)).replay i c lim ≡ record { replay = (next_line r s at (length out)).replay; answer = Late }
+    pub set_up_late : (i c : ℕ) (lim : PlainLimits) → set_up_in (next_line r s at (length out)).replay i c lim ≡ record { replay = (next_line r s at (length out)).replay; answer = Err Late }
     set_up_late i c lim = sym (set_up_on_lem (next_line r s at (length out)).replay i c lim Records after_line)

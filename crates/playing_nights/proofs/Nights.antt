@@ -1,4 +1,5 @@
 -- A night's lines are those of its records fed singly to the watch, for every log and every list of set-ups.
+use Rattle.std.specs.Prelude.{Ok, Err}
 use mathlib.Core.Path.{◌≡◌, refl, sym, ap, ◌∙◌}
 use mathlib.Core.List.{List, [], ◌∷◌}
 use Prim.Native.Nat.{ℕ, zero, suc, ◌+◌, ◌^◌, ◌≤◌, ◌<◌}
@@ -15,8 +16,7 @@ use Rattle.log_records.specs.Record.{Rec, AllLoggable, log_bytes}
 use Rattle.log_records.specs.Reading.{rec_of, found_at, Log, onward, read_from, log_of, wholly, records_in}
 use Rattle.log_records.proofs.Logs.{log_cut}
 use Rattle.watch_rules.specs.declared.Table.{Table}
-use Rattle.watch_rules.specs.declared.Setting.{Setting}
-use Rattle.watch_rules.specs.declared.Setting.TheVariants as setting
+use Rattle.watch_rules.specs.Setting.{Setting}
 use Rattle.watch_rules.specs.Table.{empty_table, set_up_of}
 use Rattle.playing_nights.specs.declared.Course.{Course}
 use Rattle.playing_nights.specs.declared.Course.TheVariants.{SetUps, Records, Refused}
@@ -121,8 +121,8 @@ set_ups (u ∷ us) t =
   where
     go : (a : Setting) → Stands (prepared_from (set_up_of t u.0 u.1 u.2).table us) (set_ups_from (record { table = (set_up_of t u.0 u.1 u.2).table; count = 0; course = SetUps }) us)
         → Stands (on_setting a (prepared_from (set_up_of t u.0 u.1 u.2).table us)) (set_ups_from (record { table = (set_up_of t u.0 u.1 u.2).table; count = 0; course = course_after a }) us)
-    go setting.Done h = h
-    go (setting.Refused w) h = ended us _ w refl
+    go (Ok tt) h = h
+    go (Err w) h = ended us _ w refl
 
 -- ---- a whole night
 

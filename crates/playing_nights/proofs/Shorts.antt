@@ -1,4 +1,5 @@
 -- Every line that can occur has at most 40 bytes: the watch's answers have small numbers, and a post at most two digits.
+use Rattle.std.specs.Prelude.{Some, None, Ok, Err, Option}
 use Prim.Native.Nat.{ℕ, zero, suc, ◌+◌, ◌*◌, ◌^◌, ◌≤◌, ◌<◌, min}
 use native.Mathlib.Omega.{arith}
 use mathlib.Core.Path.{sym, subst}
@@ -7,17 +8,13 @@ use mathlib.Core.List.{List, [], ◌∷◌}
 use lib.Dec.{ltb, eqb}
 use lib.ListN.{length, get_or}
 use Rattle.page_table.specs.declared.Row.{Row}
-use Rattle.page_table.specs.declared.Found.{Found}
-use Rattle.page_table.specs.declared.Found.TheVariants.{At, Nothing}
-use Rattle.page_read.specs.declared.Judged.{Judged}
-use Rattle.page_read.specs.declared.Judged.TheVariants as judged
+use Rattle.page_read.specs.Judged.{Judged}
 use Rattle.page_table.specs.declared.Interface.{Interface}
 use Rattle.page_table.specs.Table.{rows, rows_of, no_row}
-use Rattle.page_table.specs.Interfaces.{with_id}
+use Rattle.page_table.specs.Interfaces.{with_id, interface_of}
 use Rattle.page_read.specs.Judge.{unlabelled, offends, offender, stray_below, judged_number, judged_at, judge_on}
 use Rattle.page_interfaces.specs.Foreign.{is_foreign, judge_for}
 use Rattle.rule_limits.specs.declared.PlainLimits.{PlainLimits}
-use Rattle.rule_limits.specs.Sensor.{interface_of}
 use Rattle.rules.specs.History.{Event, History, frame, tick}
 use Rattle.rules.specs.Times.{stamp_of, earlier_in}
 use Rattle.rule_asks.specs.Judgements.{bit}
@@ -28,7 +25,6 @@ use Rattle.log_records.specs.declared.Found.TheVariants as found
 use Rattle.log_records.specs.Record.{Rec}
 use Rattle.log_records.specs.Record as rec
 use Rattle.log_records.specs.Reading.{found_at, onward, read_from, log_of, records_in}
-use Rattle.watch_rules.specs.declared.Answer.TheVariants.{Refused}
 use Rattle.watch_rules.specs.declared.Arrival.{Arrival}
 use Rattle.watch_rules.specs.declared.Arrival.TheVariants.{Tick, Frame, Unread}
 use Rattle.watch_rules.specs.Table.{post_count, is_channel, arrival_of, Arriving}
@@ -83,8 +79,8 @@ offender_le n (r ∷ rs) =
     by_cond (λ i. i ≤ 64) (offends n r) (min r.start (offender n rs)) (offender n rs) (omega (arith, offender_le n rs)) (offender_le n rs)
 
 abbrev Unread-small : Judged → Type 0
-Unread-small (judged.Frame k n) = Unit {0}
-Unread-small (judged.Refused w) = InWords (Refused w)
+Unread-small (Ok (k, n)) = Unit {0}
+Unread-small (Err w) = InWords (Err w)
 
 number_small : (k bits n : ℕ) → Unread-small (judged_number k bits n)
 unfolding judged_number
@@ -95,27 +91,27 @@ judged_small : (iface : Interface) (m : ℕ) (extended : Bool) (bs : List ℕ) �
 unfolding judge_for judge_on
 judged_small iface m extended bs = by_cond Unread-small (is_foreign iface m extended) _ _ (omega arith, omega arith) (at_place_lem (with_id iface m extended))
   where
-    at_place_lem : (f : Found) → Unread-small (judged_at bs f)
-    at_place_lem Nothing = (omega arith, omega arith)
-    at_place_lem (At i) =
+    at_place_lem : (f : Option ℕ) → Unread-small (judged_at bs f)
+    at_place_lem None = (omega arith, omega arith)
+    at_place_lem (Some i) =
         let r : Row = get_or rows i no_row in
         by_cond Unread-small (eqb (length bs) r.bytes) _ _ (number_small r.kind (8 * length bs) _)
-        (by_cond (λ w. InWords (Refused w)) (ltb (length bs) r.bytes) _ _ (omega arith, omega arith) (omega arith, omega arith))
+        (by_cond (λ w. InWords (Err w)) (ltb (length bs) r.bytes) _ _ (omega arith, omega arith) (omega arith, omega arith))
 
 -- ---- the watch's answers
 
 abbrev Arrival-small : Arrival → Type 0
 Arrival-small Tick = Unit {0}
 Arrival-small (Frame k n) = Unit {0}
-Arrival-small (Unread w) = InWords (Refused w)
+Arrival-small (Unread w) = InWords (Err w)
 
 arrival_small : (x : Rec) (lim : PlainLimits) → Arrival-small (arrival_in x lim)
 arrival_small (rec.tick time c) lim = tt
 arrival_small (rec.frame time c extended id payload) lim = go (judge_for (interface_of lim.interface) id extended payload) (judged_small (interface_of lim.interface) id extended payload)
   where
     go : (j : Judged) → Unread-small j → Arrival-small (arrival_of j)
-    go (judged.Frame k n) h = tt
-    go (judged.Refused w) h = h
+    go (Ok (k, n)) h = tt
+    go (Err w) h = h
 
 found_small : (lim : PlainLimits) (hist : History) (t : ℕ) (a : Arrival) → Arrival-small a → InWords (found01 lim hist t a)
 found_small lim hist t Tick h = by_cond InWords (is_full hist) _ _ (omega arith, omega arith) (findings_small lim hist (tick (stamp_of hist t)))

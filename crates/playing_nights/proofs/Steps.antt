@@ -7,9 +7,8 @@ use borrow.Author.Tests.{lt-ltb, le-ltb}
 use Rattle.rule_limits.specs.declared.PlainLimits.{PlainLimits}
 use Rattle.log_records.specs.declared.Entry.{Entry}
 use Rattle.log_records.specs.Reading.{rec_of, found_at}
-use Rattle.watch_rules.specs.declared.Fed.{Fed}
-use Rattle.watch_rules.specs.declared.Setting.{Setting}
-use Rattle.watch_rules.specs.declared.Settled.{Settled}
+use Rattle.watch_rules.specs.Answer.{Fed}
+use Rattle.watch_rules.specs.Setting.{Setting, Settled}
 use Rattle.watch_rules.specs.Table.{place_of, set_up_of}
 use Rattle.playing_nights.specs.declared.Course.{Course}
 use Rattle.playing_nights.specs.declared.Course.TheVariants.{Records}
@@ -18,7 +17,7 @@ use Rattle.playing_nights.specs.declared.Played.TheVariants.{Line, Short}
 use Rattle.playing_nights.specs.declared.Next.{Next}
 use Rattle.playing_line.specs.Lines.{line_room, line_of, laid}
 use Rattle.playing_nights.specs.Fed.{fed_with, channel_of, line_for}
-use Rattle.playing_nights.specs.Call.{course_after, answered, prepared_by, set_up_on, set_up_in, Call, line, other, next_by, buffer_by, next_count, line_call, on_found, on_course, call_of}
+use Rattle.playing_nights.specs.Call.{course_after, answered, prepared_by, set_up_on, set_up_in, Call, other, next_by, buffer_by, next_count, line_call, on_found, on_course, call_of}
 use Rattle.playing_nights.proofs.Entries.{channel_of_lem}
 
 -- ---- set-ups

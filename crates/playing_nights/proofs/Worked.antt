@@ -1,5 +1,6 @@
 -- The laws of pieces on 02's example, whose log is read in two: the second record is cut by the first piece and whole in the second. And the premises of the
 -- other laws of nights and calls, met there.
+use Rattle.std.specs.Prelude.{Err}
 use mathlib.Core.Path.{◌≡◌, refl, ap}
 use mathlib.Core.Logic.{inl}
 use mathlib.Core.Option.{some}
@@ -21,13 +22,12 @@ use Rattle.rule_limits.specs.declared.PlainLimits.{PlainLimits}
 use Rattle.rule_limits.specs.Limits.{limits_fit}
 use Rattle.playing_nights.specs.declared.Replay.{Replay}
 use Rattle.playing_nights.specs.declared.Course.TheVariants.{Records}
-use Rattle.playing_nights.specs.declared.Preparing.TheVariants.{Late}
+use Rattle.playing_nights.specs.declared.Unprepared.TheVariants.{Late}
 use Rattle.playing_nights.specs.declared.Next.{Next}
-use Rattle.playing_nights.specs.declared.Prepared.{Prepared}
 use Rattle.playing_nights.specs.declared.Played.TheVariants.{Line, End, Cut, Short}
 use Rattle.playing_nights.specs.Answers.{is_line}
 use Rattle.playing_line.specs.Lines.{line_room, refused_words, line_of, AllShort}
-use Rattle.playing_nights.specs.Call.{fresh, set_up_in, line_call, call_of, next_line, buffer_after}
+use Rattle.playing_nights.specs.Call.{Prepared, fresh, set_up_in, line_call, call_of, next_line, buffer_after}
 use Rattle.playing_nights.specs.Fed.{line_for, line01}
 use Rattle.playing_nights.specs.Night.{Wanted, set_ups_from, run_of, prepared_from, night_of, prepared01, night01}
 use Rattle.playing_nights.specs.Pieces.{Piece, AllRoomy, in_pieces}
@@ -138,5 +138,5 @@ next_lies = line_lies after_one ticks 5 buffer 7 10 second_line.0
 pub then_records : (next_line after_one ticks 5 line_room).replay.course ≡ Records
 then_records = after_line after_one ticks 5 buffer 7 10 second_line.0
 
-pub too_late : (lim : PlainLimits) → (set_up_in (next_line after_one ticks 5 line_room).replay 1 4 lim).answer ≡ Late
+pub too_late : (lim : PlainLimits) → (set_up_in (next_line after_one ticks 5 line_room).replay 1 4 lim).answer ≡ Err Late
 too_late lim = ap (λ (p : Prepared). p.answer) (set_up_late after_one ticks 5 buffer 7 10 second_line.0 1 4 lim)

@@ -1,12 +1,12 @@
 -- The answers of set-ups and calls, by 01's numbers: the refusal that each stands for, and whether there is a line.
-use Rattle.std.specs.Prelude.{Bool, true, false}
+use Rattle.std.specs.Prelude.{Bool, true, false, Ok, Err}
 use Rattle.std.proofs.Math.Option.{Option, none, some}
 use Rattle.refusals.specs.declared.Refusal.{Refusal}
 use Rattle.refusals.specs.declared.Refusal.TheVariants.{ShortBuffer}
-use Rattle.playing_nights.specs.declared.Preparing.{Preparing}
-use Rattle.playing_nights.specs.declared.Preparing.TheVariants as preparing
+use Rattle.playing_nights.specs.declared.Unprepared.TheVariants as why
 use Rattle.playing_nights.specs.declared.Played.{Played}
 use Rattle.playing_nights.specs.declared.Played.TheVariants.{Line, End, Cut, Bad, SetUp, Short}
+use Rattle.playing_nights.specs.Call.{Preparing}
 
 -- a buffer that is too short gets 8
 abbrev pub refusal_in : Played → Option Refusal
@@ -27,6 +27,6 @@ is_line Short = false
 
 -- a set-up that comes late has no number: 02 gives it none
 abbrev pub refusal_at : Preparing → Option Refusal
-refusal_at preparing.Done = none
-refusal_at (preparing.Refused w) = some w
-refusal_at preparing.Late = none
+refusal_at (Ok tt) = none
+refusal_at (Err (why.Refused w)) = some w
+refusal_at (Err why.Late) = none

@@ -1,23 +1,20 @@
 -- Inner step: one set-up and one call, as the code takes them. What a whole night should come to does not speak of it (Night.antt, `nightOf`):
 -- the law `lines` turns any number of calls into the lines of the records fed singly.
-use Rattle.std.specs.Prelude.{ℕ, ◌+◌, ◌%◌, ◌^◌, ◌≤◌, cond, List, ltb, length}
+use Rattle.std.specs.Prelude.{⊤, ℕ, ◌+◌, ◌%◌, ◌^◌, ◌≤◌, cond, List, ltb, length, Result, Ok, Err}
 use Rattle.rule_limits.specs.declared.PlainLimits.{PlainLimits}
 use Rattle.log_records.specs.declared.Entry.{Entry}
 use Rattle.log_records.specs.declared.Found.{Found}
 use Rattle.log_records.specs.declared.Found.TheVariants as found
 use Rattle.log_records.specs.Reading.{rec_of, found_at}
-use Rattle.watch_rules.specs.declared.Answer.{Answer}
-use Rattle.watch_rules.specs.declared.Answer.TheVariants.{Findings}
-use Rattle.watch_rules.specs.declared.Setting.{Setting}
-use Rattle.watch_rules.specs.declared.Setting.TheVariants as setting
-use Rattle.watch_rules.specs.declared.Settled.{Settled}
+use Rattle.watch_rules.specs.Answer.{Answer}
+use Rattle.watch_rules.specs.Setting.{Setting, Settled}
 use Rattle.watch_rules.specs.Table.{empty_table, set_up_of}
 use Rattle.playing_nights.specs.declared.Course.{Course}
 use Rattle.playing_nights.specs.declared.Course.TheVariants.{SetUps, Records, Refused}
 use Rattle.playing_nights.specs.declared.Replay.{Replay}
-use Rattle.playing_nights.specs.declared.Preparing.{Preparing}
-use Rattle.playing_nights.specs.declared.Preparing.TheVariants as preparing
-use Rattle.playing_nights.specs.declared.Prepared.{Prepared}
+use Rattle.playing_nights.specs.declared.Unprepared.{Unprepared}
+use Rattle.playing_nights.specs.declared.Unprepared.TheVariants as why
+use Rattle.playing_nights.specs.declared.Replayed.{Replayed}
 use Rattle.playing_nights.specs.declared.Played.{Played}
 use Rattle.playing_nights.specs.declared.Played.TheVariants.{Line, End, Cut, Bad, SetUp, Short}
 use Rattle.playing_nights.specs.declared.Next.{Next}
@@ -32,12 +29,20 @@ fresh = record { table = empty_table; count = 0; course = SetUps }
 
 -- the course that a set-up leaves, and the answer
 abbrev pub course_after : Setting → Course
-course_after setting.Done = SetUps
-course_after (setting.Refused w) = Refused w
+course_after (Ok tt) = SetUps
+course_after (Err w) = Refused w
+
+-- what a set-up comes to: done, or why it is not taken
+abbrev pub Preparing : Type 0
+Preparing = Result ⊤ Unprepared
+
+-- and the replay after it
+abbrev pub Prepared : Type 0
+Prepared = Replayed Preparing
 
 abbrev pub answered : Setting → Preparing
-answered setting.Done = preparing.Done
-answered (setting.Refused w) = preparing.Refused w
+answered (Ok tt) = Ok tt
+answered (Err w) = Err (why.Refused w)
 
 abbrev pub prepared_by : ℕ → Settled → Prepared
 prepared_by n s = record { replay = record { table = s.table; count = n; course = course_after s.answer }; answer = answered s.answer }
@@ -45,8 +50,8 @@ prepared_by n s = record { replay = record { table = s.table; count = n; course 
 -- "Set-ups come before the first record; a refused one ends the replay"
 abbrev pub set_up_on : Course → Replay → Prepared → Prepared
 set_up_on SetUps r p = p
-set_up_on Records r p = record { replay = r; answer = preparing.Late }
-set_up_on (Refused w) r p = record { replay = r; answer = preparing.Refused w }
+set_up_on Records r p = record { replay = r; answer = Err why.Late }
+set_up_on (Refused w) r p = record { replay = r; answer = Err (why.Refused w) }
 
 unfoldable pub set_up_in : Replay → ℕ → ℕ → PlainLimits → Prepared
 set_up_in r i c lim = set_up_on r.course r (prepared_by r.count (set_up_of r.table i c lim))
@@ -60,7 +65,7 @@ pub data Call : Type 0 where
 
 abbrev pub next_by : Replay → Call → Next
 next_by r (line a text next q) = record { replay = q; answer = Line (length text) next; heard = a }
-next_by r (other p) = record { replay = r; answer = p; heard = Findings 0 }
+next_by r (other p) = record { replay = r; answer = p; heard = Ok 0 }
 
 abbrev pub buffer_by : List ℕ → Call → List ℕ
 buffer_by out (line a text next q) = laid text out

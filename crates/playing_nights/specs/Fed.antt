@@ -2,7 +2,7 @@
 use Rattle.std.specs.Prelude.{ℕ, ◌+◌, List, [], ◌∷◌}
 use Rattle.log_records.specs.Record.{Rec, tick, frame}
 use Rattle.watch_rules.specs.declared.Table.{Table}
-use Rattle.watch_rules.specs.declared.Fed.{Fed}
+use Rattle.watch_rules.specs.Answer.{Fed}
 use Rattle.watch_rules.specs.Table.{place_of, Arriving, framing, ticking, feed_of}
 use Rattle.watch_rules.specs.Steps.{Steps, holder, feed01, feed_steps}
 use Rattle.playing_line.specs.Lines.{line_of}

@@ -1,11 +1,10 @@
 -- A whole night: set-ups in their order, and call after call until one answers no line; and what that comes to.
-use Rattle.std.specs.Prelude.{ℕ, zero, suc, List, [], ◌∷◌, length, take}
+use Rattle.std.specs.Prelude.{ℕ, zero, suc, List, [], ◌∷◌, length, take, Ok, Err}
 use Rattle.refusals.specs.declared.Refusal.{Refusal}
 use Rattle.rule_limits.specs.declared.PlainLimits.{PlainLimits}
 use Rattle.log_records.specs.Reading.{Log, ends, then, clean, piece, refused, records_in}
 use Rattle.watch_rules.specs.declared.Table.{Table}
-use Rattle.watch_rules.specs.declared.Setting.{Setting}
-use Rattle.watch_rules.specs.declared.Setting.TheVariants as setting
+use Rattle.watch_rules.specs.Setting.{Setting}
 use Rattle.watch_rules.specs.Table.{set_up_of}
 use Rattle.watch_rules.specs.Steps.{Steps, set_up01, set_up_steps}
 use Rattle.playing_nights.specs.declared.Replay.{Replay}
@@ -26,8 +25,8 @@ pub data Ready (A : Type 0) : Type 0 where
   stopped : Refusal → Ready A
 
 abbrev pub on_setting : {A : Type 0} → Setting → Ready A → Ready A
-on_setting setting.Done x = x
-on_setting (setting.Refused w) x = stopped w
+on_setting (Ok tt) x = x
+on_setting (Err w) x = stopped w
 
 unfoldable pub prepared_from : Table → List Wanted → Ready Table
 prepared_from t [] = ready t

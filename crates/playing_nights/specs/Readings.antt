@@ -1,5 +1,5 @@
 -- 02, Req 05: its worked example, and each form of a line and of an ending, computed.
-use Rattle.std.specs.Prelude.{◌≡◌, refl, List, [], ◌∷◌, ◌++◌, map, ℕ, replicate}
+use Rattle.std.specs.Prelude.{◌≡◌, refl, List, [], ◌∷◌, ◌++◌, map, ℕ, replicate, Ok, Err}
 use Rattle.refusals.specs.declared.Refusal.TheVariants.{ChannelFree, Earlier, NoLabel, LogChannel, NoSuchPost, ChannelTaken}
 use Rattle.rule_limits.specs.declared.PlainLimits.{PlainLimits}
 use Rattle.rules.specs.After.{stamp_in, aged_to, silent_in, late_after, any_findings, with_counts, after_tick}
@@ -9,8 +9,7 @@ use Rattle.page_interfaces.specs.Foreign.{is_foreign, judge_for}
 use Rattle.log_records.specs.Reading.{length_part, identifier_part, channel_part, time_part, record_at}
 use Rattle.text_numbers.specs.Numbers.{glyph_of, digits_in, numeral}
 use Rattle.text_pen.specs.Pens.{text_of}
-use Rattle.watch_rules.specs.declared.Answer.{Answer}
-use Rattle.watch_rules.specs.declared.Answer.TheVariants.{Findings, Refused}
+use Rattle.watch_rules.specs.Answer.{Answer}
 use Rattle.watch_rules.specs.Table.{place_of, place_named, some_place, place_in, heard_of, feed_at, feed_of, is_other, set_up_of}
 use Rattle.rule_limits.specs.Limits.{limits_fit}
 use Rattle.playing_nights.specs.declared.Played.TheVariants.{End, Cut, Bad, SetUp, Short}
@@ -23,12 +22,12 @@ use Rattle.playing_nights.specs.Night.{Wanted, Night, set_ups_from, calls_from, 
 abbrev forms : List (ℕ × ℕ × Answer × List ℕ)
 forms =
     -- "1 0 A0", "2 - R1", "3 0 R5 48", "4 7 R2", "10 3 A1027", "11 15 R2"
-    (1, 0, Findings 0, 49 ∷ 32 ∷ 48 ∷ 32 ∷ 65 ∷ 48 ∷ 10 ∷ [])
-    ∷ (2, 16, Refused ChannelFree, 50 ∷ 32 ∷ 45 ∷ 32 ∷ 82 ∷ 49 ∷ 10 ∷ [])
-    ∷ (3, 0, Refused (NoLabel 48), 51 ∷ 32 ∷ 48 ∷ 32 ∷ 82 ∷ 53 ∷ 32 ∷ 52 ∷ 56 ∷ 10 ∷ [])
-    ∷ (4, 7, Refused Earlier, 52 ∷ 32 ∷ 55 ∷ 32 ∷ 82 ∷ 50 ∷ 10 ∷ [])
-    ∷ (10, 3, Findings 1027, 49 ∷ 48 ∷ 32 ∷ 51 ∷ 32 ∷ 65 ∷ 49 ∷ 48 ∷ 50 ∷ 55 ∷ 10 ∷ [])
-    ∷ (11, 15, Refused Earlier, 49 ∷ 49 ∷ 32 ∷ 49 ∷ 53 ∷ 32 ∷ 82 ∷ 50 ∷ 10 ∷ [])
+    (1, 0, Ok 0, 49 ∷ 32 ∷ 48 ∷ 32 ∷ 65 ∷ 48 ∷ 10 ∷ [])
+    ∷ (2, 16, Err ChannelFree, 50 ∷ 32 ∷ 45 ∷ 32 ∷ 82 ∷ 49 ∷ 10 ∷ [])
+    ∷ (3, 0, Err (NoLabel 48), 51 ∷ 32 ∷ 48 ∷ 32 ∷ 82 ∷ 53 ∷ 32 ∷ 52 ∷ 56 ∷ 10 ∷ [])
+    ∷ (4, 7, Err Earlier, 52 ∷ 32 ∷ 55 ∷ 32 ∷ 82 ∷ 50 ∷ 10 ∷ [])
+    ∷ (10, 3, Ok 1027, 49 ∷ 48 ∷ 32 ∷ 51 ∷ 32 ∷ 65 ∷ 49 ∷ 48 ∷ 50 ∷ 55 ∷ 10 ∷ [])
+    ∷ (11, 15, Err Earlier, 49 ∷ 49 ∷ 32 ∷ 49 ∷ 53 ∷ 32 ∷ 82 ∷ 50 ∷ 10 ∷ [])
     ∷ []
 
 pub line_forms : map (λ e. line_of e.0 e.1 e.2) forms ≡ map (λ e. e.3) forms

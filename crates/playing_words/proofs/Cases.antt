@@ -1,12 +1,13 @@
 -- What a call's answer tells, from its case.
 use Prim.Native.Nat.{ℕ, ◌≤◌}
-use native.Mathlib.Nat.{not-suc-le-zero}
-use mathlib.Core.Path.{◌≡◌, refl, sym, ap, ◌∙◌}
+use mathlib.Core.Path.{◌≡◌, ap, ◌∙◌}
 use mathlib.Core.List.{List, [], ◌∷◌}
-use lib.ListN.{length, drop, set}
+use native.Mathlib.Omega.{arith}
+use lib.ListN.{length, get_or, set}
 use borrow.Author.Tests.{le-ltb}
 use Rattle.playing_nights.specs.declared.Replay.{Replay}
 use Rattle.playing_nights.specs.declared.Played.{Played}
+use Rattle.playing_nights.specs.declared.Played.TheVariants.{Line, End, Cut, Bad, SetUp, Short}
 use Rattle.playing_nights.specs.declared.Next.{Next}
 use Rattle.playing_nights.specs.Call.{next_line, buffer_after}
 use Rattle.playing_words.specs.declared.PlainReplay.{PlainReplay}
@@ -16,12 +17,15 @@ use Rattle.playing_words.specs.Plain.{replay_of, told_by, next_left, line_by, li
 abbrev pub Told : PlainReplay → Replay → Played → List ℕ → LentReplay → List ℕ → Type 0
 Told r q a ns given after = (given ≡ told_by r q a) × (after ≡ next_left a ns)
 
-pub told_by_lem : (r : PlainReplay) (q : Replay) {a b : Played} (ns : List ℕ) {given : LentReplay} {after : List ℕ} → a ≡ b → Told r q b ns given after → Told r q a ns given after
-told_by_lem r q ns e t = (t.0 ∙ ap (told_by r q) (sym e), t.1 ∙ ap (λ (p : Played). next_left p ns) (sym e))
-
-pub set_first : (xs : List ℕ) (x : ℕ) → 1 ≤ length xs → set xs 0 x ≡ x ∷ drop 1 xs
-set_first [] x l = absurd (not-suc-le-zero l)
-set_first (y ∷ ys) x l = refl
+-- the first place of the slice, after the answer
+pub place_left : (a : Played) (ns : List ℕ) (x y : ℕ) → 1 ≤ length ns → x ≡ get_or ns 0 0 → y ∷ [] ≡ next_left a (x ∷ []) → set ns 0 y ≡ next_left a ns
+place_left a [] x y l e h = absurd (let z : ⊥ = omega arith in z)
+place_left (Line b n) (m ∷ ms) x y l e h = ap (λ (r : List ℕ). get_or r 0 0 ∷ ms) h
+place_left End (m ∷ ms) x y l e h = ap (λ (r : List ℕ). get_or r 0 0 ∷ ms) h ∙ ap (λ (k : ℕ). k ∷ ms) e
+place_left (Cut at) (m ∷ ms) x y l e h = ap (λ (r : List ℕ). get_or r 0 0 ∷ ms) h ∙ ap (λ (k : ℕ). k ∷ ms) e
+place_left (Bad w at) (m ∷ ms) x y l e h = ap (λ (r : List ℕ). get_or r 0 0 ∷ ms) h ∙ ap (λ (k : ℕ). k ∷ ms) e
+place_left (SetUp w) (m ∷ ms) x y l e h = ap (λ (r : List ℕ). get_or r 0 0 ∷ ms) h ∙ ap (λ (k : ℕ). k ∷ ms) e
+place_left Short (m ∷ ms) x y l e h = ap (λ (r : List ℕ). get_or r 0 0 ∷ ms) h ∙ ap (λ (k : ℕ). k ∷ ms) e
 
 -- where there is a place for the next byte: what `next_line` and `told` ensure is the call
 pub line_by_lem : (r : PlainReplay) (s : List ℕ) (at : ℕ) (out ns : List ℕ) {q : Replay} {x : Next} {given : LentReplay} {left after : List ℕ} → 1 ≤ length ns → q ≡ replay_of r

@@ -8,14 +8,11 @@ use native.Mathlib.Omega.{arith}
 use lib.Dec.{ltb, eqb}
 use lib.ListN.{length, replicate}
 use borrow.Author.Tests.{le-ltb}
-use Rattle.refusals.specs.declared.Refusal.{Refusal}
 use Rattle.refusals.specs.declared.Refusal.TheVariants.{ShortBuffer, NoSuchPost, NoSuchChannel, ChannelTaken, LimitOutside}
 use Rattle.rule_limits.specs.declared.PlainLimits.{PlainLimits}
 use Rattle.rule_limits.specs.Limits.{limits_fit}
-use Rattle.watch_rules.specs.declared.Answer.{Answer}
+use Rattle.watch_rules.specs.Answer.{Answer}
 use Rattle.watch_rules.specs.declared.Table.{Table}
-use Rattle.watch_rules.specs.declared.Setting.{Setting}
-use Rattle.watch_rules.specs.declared.Setting.TheVariants as setting
 use Rattle.watch_rules.specs.Table.{is_channel, is_post, is_other, place_of, set_up_of}
 use Rattle.log_records.specs.declared.Found.{Found}
 use Rattle.log_records.specs.declared.Found.TheVariants as found
@@ -27,7 +24,7 @@ use Rattle.playing_nights.specs.declared.Played.{Played}
 use Rattle.playing_nights.specs.declared.Played.TheVariants.{Line, End, Cut, Bad, SetUp, Short}
 use Rattle.playing_nights.specs.Answers.{is_line}
 use Rattle.playing_line.specs.Lines.{line_room}
-use Rattle.playing_nights.specs.Call.{fresh, course_after, set_up_in, line, other, Call, next_by, buffer_by, line_call, on_found, on_course, call_of, next_line, buffer_after}
+use Rattle.playing_nights.specs.Call.{fresh, course_after, set_up_in, line, other, Call, next_by, buffer_by, line_call, on_found, on_course, call_of, next_line}
 use Rattle.plain_words.specs.Words.{refusal_word}
 use Rattle.playing_words.specs.declared.PlainReplay.{PlainReplay}
 use Rattle.playing_words.specs.declared.LentReplay.{LentReplay}

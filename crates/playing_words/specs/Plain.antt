@@ -1,18 +1,15 @@
 -- A replay as plain numbers: what its set-ups and calls answer as words, and leave. Over `playing_nights`' own definitions, which 02, Req 05 is read with.
-use Rattle.std.specs.Prelude.{ℕ, ◌%◌, ◌^◌, cond, List, ◌∷◌, eqb, ltb, length, drop}
+use Rattle.std.specs.Prelude.{ℕ, ◌%◌, ◌^◌, cond, List, ◌∷◌, eqb, ltb, length, drop, Ok, Err}
 use Rattle.refusals.specs.declared.Refusal.{Refusal}
 use Rattle.refusals.specs.declared.Refusal.TheVariants.{ShortBuffer, NoSuchPost, NoSuchChannel, ChannelTaken, LimitOutside}
 use Rattle.plain_words.specs.Words.{refusal_word}
 use Rattle.playing_nights.specs.declared.Course.{Course}
 use Rattle.playing_nights.specs.declared.Course.TheVariants.{SetUps, Records, Refused}
 use Rattle.playing_nights.specs.declared.Replay.{Replay}
-use Rattle.playing_nights.specs.declared.Preparing.{Preparing}
-use Rattle.playing_nights.specs.declared.Preparing.TheVariants as preparing
-use Rattle.playing_nights.specs.declared.Prepared.{Prepared}
+use Rattle.playing_nights.specs.declared.Unprepared.TheVariants as why
 use Rattle.playing_nights.specs.declared.Played.{Played}
 use Rattle.playing_nights.specs.declared.Played.TheVariants.{Line, End, Cut, Bad, SetUp, Short}
-use Rattle.playing_nights.specs.declared.Next.{Next}
-use Rattle.playing_nights.specs.Call.{fresh, set_up_in, next_line, buffer_after}
+use Rattle.playing_nights.specs.Call.{Prepared, fresh, Preparing, set_up_in, next_line, buffer_after}
 use Rattle.playing_words.specs.declared.PlainReplay.{PlainReplay}
 use Rattle.playing_words.specs.declared.LentReplay.{LentReplay}
 
@@ -41,9 +38,9 @@ plain_of r = record { table = r.table; count = r.count; course = course_word r.c
 
 -- 1 for a set-up that comes late: 02 gives it no number
 abbrev pub prepared_word : Preparing → ℕ
-prepared_word preparing.Done = 0
-prepared_word (preparing.Refused w) = refusal_word w
-prepared_word preparing.Late = 1
+prepared_word (Ok tt) = 0
+prepared_word (Err (why.Refused w)) = refusal_word w
+prepared_word (Err why.Late) = 1
 
 abbrev pub prepared_by : Prepared → LentReplay
 prepared_by p = record { replay = plain_of p.replay; answer = prepared_word p.answer }

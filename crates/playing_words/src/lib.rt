@@ -1,10 +1,13 @@
 // A replay of a night log in plain numbers, by value and with its answers as words: `playing_setups` and `playing_calls`, for `lent_replay`, which lends it to
 // C. Every public function takes any input.
-ghost use Rattle.std.specs.Prelude.{length, ◌≡◌, ◌≤◌};
+// Kept (2): functions that are alike by their text alone: numbers of other things, and conversions there and back.
+#![tactic(auto)]
+
+ghost use Rattle.std.specs.Prelude.{◌≡◌, [], ◌∷◌};
 ghost use Rattle.playing_words.specs.Plain.{course_of, course_word, refusal_at, replay_of, plain_of, prepared_word, start_by, set_up_by, told_by, next_left, line_by, line_left, next_after};
 
 use plain_words::refusal_word;
-use playing_nights::{Course, Next, Played, Preparing, Replay};
+use playing_nights::{Course, Next, Played, Replay, Unprepared};
 use refusals::Refusal;
 use rule_limits::PlainLimits;
 use watch_rules::Table;
@@ -28,75 +31,72 @@ pub struct LentReplay {
 // ---- courses and answers as numbers
 
 // The refusals of a set-up.
+// Kept (4): the words stand in a replay that C keeps; a number that is none of the four is the last of them.
 fn refusal_at(n: u64) -> Refusal
     ensures { result ≡ refusal_at n }
 {
-    if n == 65545 {
-        return Refusal::NoSuchPost;
+    match n {
+        65545 => Refusal::NoSuchPost,
+        65546 => Refusal::NoSuchChannel,
+        65547 => Refusal::ChannelTaken,
+        _ => Refusal::LimitOutside,
     }
-    if n == 65546 {
-        return Refusal::NoSuchChannel;
-    }
-    if n == 65547 {
-        return Refusal::ChannelTaken;
-    }
-    Refusal::LimitOutside
 }
 
+// Kept (4): the replay's memory is C's, and Rattle takes no impl of `From` for another crate's type here.
 fn course_of(n: u64) -> Course
     ensures { result ≡ course_of n }
 {
-    if n == 0 {
-        return Course::SetUps;
+    match n {
+        0 => Course::SetUps,
+        1 => Course::Records,
+        _ => Course::Refused(refusal_at(n)),
     }
-    if n == 1 {
-        return Course::Records;
-    }
-    Course::Refused(refusal_at(n))
 }
 
+// Kept (4): likewise, the other way.
 fn course_word(c: Course) -> u64
     ensures { result ≡ course_word c }
 {
     match c {
         Course::SetUps => 0,
         Course::Records => 1,
-        Course::Refused(w) => refusal_word(w) as u64,
+        Course::Refused(w) => u64::from(refusal_word(w)),
     }
 }
 
-fn replay_of(r: PlainReplay) -> Replay
-    ensures { result ≡ replay_of r }
-{
-    let table = r.table;
-    let course = course_of(r.course);
-    Replay {
-        table,
-        count: r.count,
-        course,
+impl From<PlainReplay> for Replay {
+    ghost from_gives = { λ p r. r ≡ replay_of p };
+
+    fn from(r: PlainReplay) -> Replay {
+        Replay {
+            table: r.table,
+            count: r.count,
+            course: course_of(r.course),
+        }
     }
 }
 
-fn plain_of(r: Replay) -> PlainReplay
-    ensures { result ≡ plain_of r }
-{
-    let table = r.table;
-    let course = r.course;
-    let word = course_word(course);
-    PlainReplay {
-        table,
-        count: r.count,
-        course: word,
+impl From<Replay> for PlainReplay {
+    ghost from_gives = { λ r p. p ≡ plain_of r };
+
+    fn from(r: Replay) -> PlainReplay {
+        PlainReplay {
+            table: r.table,
+            count: r.count,
+            course: course_word(r.course),
+        }
     }
 }
 
-fn prepared_word(a: Preparing) -> u32
+// Kept (1, 4): C's answer is one word of 32 bits.
+fn prepared_word(a: Result<(), Unprepared>) -> u32
     ensures { result ≡ prepared_word a }
 {
     match a {
-        Preparing::Done => 0,
-        Preparing::Refused(w) => refusal_word(w),
-        Preparing::Late => 1,
+        Ok(()) => 0,
+        Err(Unprepared::Refused(w)) => refusal_word(w),
+        Err(Unprepared::Late) => 1,
     }
 }
 
@@ -105,80 +105,41 @@ fn prepared_word(a: Preparing) -> u32
 pub fn started(r: PlainReplay) -> LentReplay
     ensures { result ≡ start_by r }
 {
-    let fresh = playing_setups::start();
-    let replay = plain_of(fresh);
-    LentReplay { replay, answer: 0 }
+    LentReplay {
+        replay: PlainReplay::from(playing_setups::start()),
+        answer: 0,
+    }
 }
 
-pub fn settled(
-    r: PlainReplay,
-    post: u32,
-    channel: u32,
-    voltage: u32,
-    charge: u32,
-    discharge: u32,
-    silence: u32,
-    sensor: u32,
-    interface: u32,
-) -> LentReplay
-    ensures { result ≡ set_up_by r post channel voltage charge discharge silence sensor interface }
+pub fn settled(r: PlainReplay, post: u32, channel: u32, limits: PlainLimits) -> LentReplay
+    ensures { result ≡ set_up_by r post channel limits.voltage limits.charge limits.discharge limits.silence limits.sensor limits.interface }
 {
-    let limits = PlainLimits {
-        voltage,
-        charge,
-        discharge,
-        silence,
-        sensor,
-        interface,
-    };
-    let p = playing_setups::set_up(replay_of(r), post, channel, limits);
-    let q = p.replay;
-    let a = p.answer;
-    let replay = plain_of(q);
+    let p = playing_setups::set_up(Replay::from(r), post, channel, limits);
     LentReplay {
-        replay,
-        answer: prepared_word(a),
+        replay: PlainReplay::from(p.replay),
+        answer: prepared_word(p.answer),
     }
 }
 
 // What a call of `next_line` answered: a line leaves the replay that it made, and the byte where the next record begins; every other answer leaves all as it
 // was.
-fn told(r: PlainReplay, x: Next, next: &mut [u64]) -> LentReplay
-    requires { 1 ≤ length next.old }
-    ensures { (result ≡ told_by r x.replay x.answer) × (next.new ≡ next_left x.answer next.old) }
+fn told(r: PlainReplay, x: Next, place: &mut u64) -> LentReplay
+    ensures { (result ≡ told_by r x.replay x.answer) × (place.new ∷ [] ≡ next_left x.answer (place.old ∷ [])) }
 {
-    let q = x.replay;
-    let a = x.answer;
-    match a {
+    let answer = match x.answer {
         Played::Line { bytes, next: n } => {
-            next[0] = n as u64;
-            let replay = plain_of(q);
-            LentReplay {
-                replay,
+            *place = n as u64;
+            return LentReplay {
+                replay: PlainReplay::from(x.replay),
                 answer: (bytes % 4294967296) as u32,
-            }
+            };
         }
-        Played::End => LentReplay {
-            replay: r,
-            answer: 0,
-        },
-        Played::Cut(_) => LentReplay {
-            replay: r,
-            answer: 1,
-        },
-        Played::Bad(w, _) => LentReplay {
-            replay: r,
-            answer: refusal_word(w),
-        },
-        Played::SetUp(w) => LentReplay {
-            replay: r,
-            answer: refusal_word(w),
-        },
-        Played::Short => LentReplay {
-            replay: r,
-            answer: refusal_word(Refusal::ShortBuffer),
-        },
-    }
+        Played::End => 0,
+        Played::Cut(_) => 1,
+        Played::Bad(w, _) | Played::SetUp(w) => refusal_word(w),
+        Played::Short => refusal_word(Refusal::ShortBuffer),
+    };
+    LentReplay { replay: r, answer }
 }
 
 // 02: "a line buffer under 40 bytes gets 8 first"; and so does a call without a place for the next byte.
@@ -193,12 +154,12 @@ pub fn line_of(
         × (line.new ≡ line_left r log.now at line.old next.old)
         × (next.new ≡ next_after r log.now at line.old next.old) }
 {
-    if next.len() < 1 {
+    let Some(place) = next.first_mut() else {
         return LentReplay {
             replay: r,
             answer: refusal_word(Refusal::ShortBuffer),
         };
-    }
-    let x = playing_calls::next_line(replay_of(r), log, at, line);
-    told(r, x, next)
+    };
+    let x = playing_calls::next_line(Replay::from(r), log, at, line);
+    told(r, x, place)
 }

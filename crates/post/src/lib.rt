@@ -2,9 +2,11 @@
 // posts.
 // A step has two promises: what it is for every head, and, for whatever history with room for one event more the head stands for,
 // that its findings are 01's over that history and that the post with what it leaves stands for the longer one.
+#![tactic(auto)]
+
 ghost use Rattle.std.specs.Prelude.{◌≡◌};
 ghost use Rattle.post_times.specs.rules.specs.Right.{tick_at, frame_at, AfterRight};
-ghost use Rattle.post_times.specs.rules.specs.After.{after_tick, after_frame, new_post, free_post, fresh_post};
+ghost use Rattle.post_times.specs.rules.specs.After.{after_tick, after_frame, free_post, fresh_post};
 
 mod step; // step.rt: a head after one event more
 
@@ -12,52 +14,29 @@ mod step; // step.rt: a head after one event more
 use post_findings::rule_pages::place_by;
 pub use post_times;
 pub use post_times::rules;
-use post_times::rules::{AfterEvent, COUNTS, Head, PLACES, Post};
+use post_times::rules::{AfterEvent, Head, PLACES, Post, Slot};
 use rule_limits::PlainLimits;
-
-// A post that nothing was heard of.
-fn new_post(used: u32, channel: u32, limits: PlainLimits) -> Post
-    ensures { result ≡ new_post used channel limits }
-{
-    let none = step::no_slot();
-    let session = step::no_session();
-    let head = Head {
-        used,
-        channel,
-        limits,
-        heard: 0,
-        counts: [0; COUNTS],
-        time: 0,
-        controller: none,
-        parameters: none,
-        session,
-    };
-    Post {
-        head,
-        latest: [none; PLACES],
-    }
-}
 
 // A post that is not set up.
 pub fn free_post() -> Post
     ensures { result ≡ free_post }
 {
-    let limits = PlainLimits {
-        voltage: 0,
-        charge: 0,
-        discharge: 0,
-        silence: 0,
-        sensor: 0,
-        interface: 0,
-    };
-    new_post(0, 0, limits)
+    Post::default()
 }
 
-// A post that was just set up.
+// A post that was just set up, and that nothing was heard of.
 pub fn fresh_post(channel: u32, limits: PlainLimits) -> Post
     ensures { result ≡ fresh_post channel limits }
 {
-    new_post(1, channel, limits)
+    Post {
+        head: Head {
+            used: 1,
+            channel,
+            limits,
+            ..Head::default()
+        },
+        ..Post::default()
+    }
 }
 
 // The head goes to the event's time first, and is judged there; then the frame is put in, and the event counted. A tick is the same without a frame.
@@ -67,11 +46,9 @@ pub fn tick(h: Head, time: u32) -> AfterEvent
 {
     let g = step::aged(h, post_times::stamp(h, time));
     let findings = post_times::any_findings(g);
-    let slot = step::no_slot();
-    let counted = step::with_counts(g, findings);
     AfterEvent {
-        head: counted,
-        slot,
+        head: step::with_counts(g, findings),
+        slot: Slot::default(),
         at: PLACES,
         findings,
     }
@@ -86,9 +63,8 @@ pub fn frame(h: Head, time: u32, kind: u32, raw: u64) -> AfterEvent
     let findings = post_times::any_findings(g) + post_findings::message_findings(g, k, raw);
     let slot = step::slot_at(g.time, kind, raw);
     let f = step::with_frame(g, k, slot);
-    let counted = step::with_counts(f, findings);
     AfterEvent {
-        head: counted,
+        head: step::with_counts(f, findings),
         slot,
         at: place_by(k),
         findings,

@@ -1,4 +1,6 @@
 // A kept time as a record shows it: as it was received, and its age (02, Req 09). For the record, by value and over the C interface.
+#![tactic(auto)]
+
 ghost use Rattle.std.specs.Prelude.{◌≡◌};
 ghost use Rattle.rules.specs.Times.{received_of, age_of};
 
@@ -13,12 +15,5 @@ pub fn received(time: u64) -> u32
 pub fn age(now: u64, from: u64) -> u32
     ensures { result ≡ age_of now from }
 {
-    if now <= from {
-        return 0;
-    }
-    let ms = now - from;
-    if 4294967295 < ms {
-        return 4294967295;
-    }
-    ms as u32
+    u32::try_from(now.saturating_sub(from)).unwrap_or(u32::MAX)
 }

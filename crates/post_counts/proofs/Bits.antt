@@ -1,5 +1,5 @@
 -- The loop over the counts: what stands after k of its turns.
-use Rattle.std.proofs.Common.{◌≡◌, ℕ, zero, suc, ◌+◌, ◌*◌, ◌/◌, ◌%◌, ◌<◌, ◌≤◌, cond, eqb, List, [], ◌∷◌, length, get_or, set, sym, refl, ap, add-one, arith}
+use Rattle.std.proofs.Common.{◌≡◌, ℕ, zero, suc, ◌+◌, ◌/◌, ◌%◌, ◌<◌, ◌≤◌, cond, eqb, List, [], ◌∷◌, length, get_or, set, sym, refl, ap, add-one, arith}
 use Rattle.rules.specs.After.{with_bits, counted}
 
 -- n without its lowest bits
@@ -22,6 +22,12 @@ abbrev pub bits_up_to : ℕ → ℕ → List ℕ → List ℕ
 bits_up_to zero n l = l
 bits_up_to (suc i) n [] = []
 bits_up_to (suc i) n (x ∷ l) = one x n ∷ bits_up_to i (n / 2) l
+
+-- the next count still stands as it did
+pub bits_untouched : (i n : ℕ) (l : List ℕ) → get_or (bits_up_to i n l) i 0 ≡ get_or l i 0
+bits_untouched zero n l = refl
+bits_untouched (suc i) n [] = refl
+bits_untouched (suc i) n (x ∷ l) = bits_untouched i (n / 2) l
 
 bits_set : (i n : ℕ) (l : List ℕ) → i < length l → set (bits_up_to i n l) i (one (get_or l i 0) (halves i n)) ≡ bits_up_to (suc i) n l
 bits_set i n [] lt = absurd (let z : ⊥ = omega (arith, lt) in z)

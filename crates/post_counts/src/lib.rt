@@ -1,18 +1,15 @@
 // A post's counts with one event more (02, Req 08). For the step of a post.
+#![tactic(auto)]
+
 ghost use Rattle.std.specs.Prelude.{◌≡◌, ◌+◌, ◌%◌, if◌then◌else◌, nat_eq};
 ghost use Rattle.rules.specs.After.{counted};
 
 use rules::COUNTS;
-use std::num::wrapping_add_u32;
 
 fn with_bit(x: u32, bits: u64) -> u32
     ensures { result ≡ (if nat_eq (bits % 2) 1 then (x + 1) % 4294967296 else x) }
 {
-    if bits % 2 == 1 {
-        wrapping_add_u32(x, 1)
-    } else {
-        x
-    }
+    x.wrapping_add((bits % 2) as u32)
 }
 
 // The event counts once, and once for each of its findings: place k has finding k, which is bit k - 1 of the findings, and so bit k of twice their number.
@@ -22,15 +19,13 @@ pub fn count(counts: [u32; COUNTS], findings: u32) -> [u32; COUNTS]
 {
     let mut q = counts;
     if findings == 0 {
-        q[0] = wrapping_add_u32(counts[0], 1);
+        q[0] = counts[0].wrapping_add(1);
         return q;
     }
-    let mut bits = 1 + 2 * (findings as u64);
-    let mut k: usize = 0;
-    while k < COUNTS {
-        q[k] = with_bit(counts[k], bits);
+    let mut bits = 1 + 2 * u64::from(findings);
+    for n in &mut q {
+        *n = with_bit(*n, bits);
         bits /= 2;
-        k += 1;
     }
     q
 }

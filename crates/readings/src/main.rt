@@ -12,7 +12,7 @@ mod show; // show.rt: a frame read and a signal changed, a line each
 mod write; // write.rt: messages written, a line each
 mod writings; // writings.rt: messages written
 
-use readings_messages::show::text;
+use readings_messages::show::say;
 use readings_messages::trips;
 use readings_posts::posts;
 
@@ -23,9 +23,9 @@ fn codec(rt: HostRuntime) {
     safety::all(rt);
     older_frames::all(rt);
     rest::all(rt);
-    text(
+    say(
         rt,
-        b"read-write, write-read and one-message, run on two frames of each kind\n",
+        "read-write, write-read and one-message, run on two frames of each kind\n",
     );
     trips::all(rt);
 }

@@ -1,11 +1,11 @@
 // 02, Req 11: frames by the pages of document 001, each read and written again, and one signal changed.
 use crate::show::{change_older, read_older};
-use readings_messages::show::text;
+use readings_messages::show::say;
 
 fn power(rt: HostRuntime) {
-    text(
+    say(
         rt,
-        b"Req 11 document 001 read and written again: Power_Modules_Status, Power_Modules_Limits with its Reserved\n",
+        "Req 11 document 001 read and written again: Power_Modules_Status, Power_Modules_Limits with its Reserved\n",
     );
     read_older(
         rt,
@@ -19,9 +19,9 @@ fn power(rt: HostRuntime) {
         true,
         &[0xa0u8, 0x0f, 0x9c, 0xff, 0x01, 0, 0, 0x80],
     );
-    text(
+    say(
         rt,
-        b"Sequence_Control: each bit, and the first that no signal covers; ADM_CS_SECC_Outputs with all 60 bits of its Reserved\n",
+        "Sequence_Control: each bit, and the first that no signal covers; ADM_CS_SECC_Outputs with all 60 bits of its Reserved\n",
     );
     read_older(rt, 0x60012, true, &[0x01u8, 0x02, 0x00]);
     read_older(rt, 0x60012, true, &[0x02u8, 0x05, 0x01]);
@@ -32,9 +32,9 @@ fn power(rt: HostRuntime) {
         true,
         &[0xf5u8, 0xff, 0xff, 0xff, 0xff, 0xff, 0xff, 0xff],
     );
-    text(
+    say(
         rt,
-        b"New_Charge_Session of 8 bytes, and of the 2 that 000 has; the functions of a session\n",
+        "New_Charge_Session of 8 bytes, and of the 2 that 000 has; the functions of a session\n",
     );
     read_older(
         rt,
@@ -50,17 +50,17 @@ fn power(rt: HostRuntime) {
 }
 
 fn inputs(rt: HostRuntime) {
-    text(
+    say(
         rt,
-        b"Emergency_Stop, Charge_Session_Finished, Advantics_Controller_Status\n",
+        "Emergency_Stop, Charge_Session_Finished, Advantics_Controller_Status\n",
     );
     read_older(rt, 0x68006, true, &[3u8]);
     read_older(rt, 0x68006, true, &[2u8]);
     read_older(rt, 0x68007, true, &[1u8]);
     read_older(rt, 0x68009, true, &[13u8]);
-    text(
+    say(
         rt,
-        b"the inputs of the controllers, EV_ID_CCS_Part2_DIN, and the extra information of CCS and MCS\n",
+        "the inputs of the controllers, EV_ID_CCS_Part2_DIN, and the extra information of CCS and MCS\n",
     );
     read_older(
         rt,
@@ -94,9 +94,9 @@ fn inputs(rt: HostRuntime) {
 
 // "The frames of the safety controller" belong to either interface; a reader without a post gives 3 for the other pages' identifiers.
 fn others(rt: HostRuntime) {
-    text(
+    say(
         rt,
-        b"ChargeControl1; Power_Modules_Status of document 000; a standard 60010\n",
+        "ChargeControl1; Power_Modules_Status of document 000; a standard 60010\n",
     );
     read_older(rt, 6, false, &[0x82u8, 0x15, 0, 0, 0, 0, 0, 0]);
     read_older(
@@ -114,9 +114,9 @@ fn others(rt: HostRuntime) {
 }
 
 fn changes(rt: HostRuntime) {
-    text(
+    say(
         rt,
-        b"the current to -1; no signal starts at 17; System_Enable 2; the Reserved of 60 bits to 0 and one bit too wide\n",
+        "the current to -1; no signal starts at 17; System_Enable 2; the Reserved of 60 bits to 0 and one bit too wide\n",
     );
     let mut status = [0xa0u8, 0x0f, 0x83, 0xff, 0x41, 0x00, 0x01, 0x64];
     change_older(rt, 0x60010, true, &mut status, 16, -1);

@@ -1,20 +1,20 @@
 // 02, Req 14: the messages of document 000 that 01 leaves out.
 use crate::show::{change, read};
-use readings_messages::show::text;
+use readings_messages::show::say;
 
 fn switched(rt: HostRuntime) {
-    text(
+    say(
         rt,
-        b"Req 14 Sequence_Control: allowed; every button; a bit that no signal covers; 2 bytes; the identifier of 001\n",
+        "Req 14 Sequence_Control: allowed; every button; a bit that no signal covers; 2 bytes; the identifier of 001\n",
     );
     read(rt, 0x63002, true, &[0x01u8, 0x07, 0x00]);
     read(rt, 0x63002, true, &[0x03u8, 0x00, 0x01]);
     read(rt, 0x63002, true, &[0x05u8, 0x07, 0x00]);
     read(rt, 0x63002, true, &[0x01u8, 0x07]);
     read(rt, 0x60012, true, &[0x01u8, 0x07, 0x00]);
-    text(
+    say(
         rt,
-        b"ADM_CS_SECC_Outputs: the 60 bits that are reserved; all ones\n",
+        "ADM_CS_SECC_Outputs: the 60 bits that are reserved; all ones\n",
     );
     read(
         rt,
@@ -31,9 +31,9 @@ fn switched(rt: HostRuntime) {
 }
 
 fn vehicle(rt: HostRuntime) {
-    text(
+    say(
         rt,
-        b"EV_Information_Battery: 101 kWh; Voltages, Charge_Limits and Discharge_Limits\n",
+        "EV_Information_Battery: 101 kWh; Voltages, Charge_Limits and Discharge_Limits\n",
     );
     read(rt, 0x6b100, true, &[0x65u8, 0x00, 0x25, 0x0a, 0x50, 0x5f]);
     read(rt, 0x6b101, true, &[0xb8u8, 0x0b, 0x88, 0x13, 0xa0, 0x0f]);
@@ -49,9 +49,9 @@ fn vehicle(rt: HostRuntime) {
         true,
         &[0x00u8, 0x00, 0x00, 0x00, 0xff, 0xff, 0xff, 0xff],
     );
-    text(
+    say(
         rt,
-        b"EV_Information_Energy: -10, -2 and 5 kWh; one byte more\n",
+        "EV_Information_Energy: -10, -2 and 5 kWh; one byte more\n",
     );
     read(rt, 0x6b104, true, &[0xf6u8, 0xff, 0xfe, 0xff, 0x05, 0x00]);
     read(
@@ -63,9 +63,9 @@ fn vehicle(rt: HostRuntime) {
 }
 
 fn inputs(rt: HostRuntime) {
-    text(
+    say(
         rt,
-        b"ADM_CO_CUI1_Inputs, ADM_CS_SECC_Inputs and ADM_CS_SPCC_Inputs; bit 40 of the last, which is no signal's\n",
+        "ADM_CO_CUI1_Inputs, ADM_CS_SECC_Inputs and ADM_CS_SPCC_Inputs; bit 40 of the last, which is no signal's\n",
     );
     read(
         rt,
@@ -94,9 +94,9 @@ fn inputs(rt: HostRuntime) {
 }
 
 fn states(rt: HostRuntime) {
-    text(
+    say(
         rt,
-        b"CCS_Extra_Information: state A at 100.0 %; CP_State 1; MCS_Extra_Information: state E; ID_State 4\n",
+        "CCS_Extra_Information: state A at 100.0 %; CP_State 1; MCS_Extra_Information: state E; ID_State 4\n",
     );
     read(
         rt,
@@ -122,16 +122,16 @@ fn states(rt: HostRuntime) {
         true,
         &[0x09u8, 0x04, 0x01, 0x02, 0x03, 0x04, 0x05, 0x06],
     );
-    text(rt, b"OCPP_Control: -12.5 A, -3276.8 A; standard\n");
+    say(rt, "OCPP_Control: -12.5 A, -3276.8 A; standard\n");
     read(rt, 0x6b300, true, &[0x83u8, 0xff]);
     read(rt, 0x6b300, true, &[0x00u8, 0x80]);
     read(rt, 0x6b300, false, &[0x83u8, 0xff]);
 }
 
 fn changed(rt: HostRuntime) {
-    text(
+    say(
         rt,
-        b"the target to -32,768 and one less; the Reserved of 60 bits to 0 and one bit too wide; CP_State to 1\n",
+        "the target to -32,768 and one less; the Reserved of 60 bits to 0 and one bit too wide; CP_State to 1\n",
     );
     let mut target = [0x83u8, 0xff];
     change(rt, 0x6b300, true, &mut target, 0, -32768);

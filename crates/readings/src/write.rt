@@ -3,35 +3,31 @@ use message_types::{
     ChargeControl1, Message, NewChargeSession, Plug, PowerModulesStatus, Protocol, Pt1000State,
     SystemEnable,
 };
-use page_write::Written;
-use readings_messages::show::{bytes, hex, natural, refusal, short, text};
+use readings_messages::show::{Answer, Hex, say};
+use std::fmt;
 
-// `ID, N bytes`, or the refusal
-pub fn written(rt: HostRuntime, w: Written) {
-    match w {
-        Written::Wrote(id, len) => {
-            hex(rt, id as u64, 1);
-            text(rt, b", ");
-            natural(rt, len as u64);
-            text(rt, b" bytes");
-        }
-        Written::Refused(r) => refusal(rt, r),
+// The identifier of what was written, and how many bytes it takes.
+#[derive(Clone, Copy)]
+pub struct Written(pub (u32, usize));
+
+impl fmt::Display for Written {
+    fn fmt<W: fmt::Write>(&self, f: &mut fmt::Formatter<W>) -> fmt::Result {
+        let (id, len) = self.0;
+        write!(f, "{id:x}, {len} bytes")
     }
 }
 
-fn write(rt: HostRuntime, m: Message, buf: &mut [u8]) {
-    let w = messages::write(m, buf);
-    text(rt, b" -> ");
-    bytes(rt, buf);
-    text(rt, b" ");
-    written(rt, w);
-    text(rt, b"\n");
+// The message written, and the buffer shown whole.
+fn write<D: fmt::Display + Drop>(rt: HostRuntime, shown: D, m: Message, buf: &mut [u8]) {
+    let answer = Answer(messages::write(m, buf).map(Written));
+    say(
+        rt,
+        format_args!("  write {shown} -> {} {answer}\n", Hex(buf)),
+    );
 }
 
 // E1's message with another temperature of the modules and another insulation.
-pub fn write_status(rt: HostRuntime, shown: &[u8], modules: i16, insulation: u16, buf: &mut [u8]) {
-    text(rt, b"  write ");
-    text(rt, shown);
+pub fn write_status(rt: HostRuntime, shown: &str, modules: i16, insulation: u16, buf: &mut [u8]) {
     let m = Message::Status(PowerModulesStatus {
         voltage: 4000,
         current: -125,
@@ -40,35 +36,28 @@ pub fn write_status(rt: HostRuntime, shown: &[u8], modules: i16, insulation: u16
         enable: SystemEnable::Allowed,
         insulation,
     });
-    write(rt, m, buf);
+    write(rt, shown, m, buf);
 }
 
 pub fn write_session(rt: HostRuntime, protocol: Protocol, plug: Plug, buf: &mut [u8]) {
-    text(rt, b"  write a New_Charge_Session");
-    write(
-        rt,
-        Message::Session(NewChargeSession { protocol, plug }),
-        buf,
-    );
+    let m = Message::Session(NewChargeSession { protocol, plug });
+    write(rt, "a New_Charge_Session", m, buf);
 }
 
 // A ChargeControl1 with PWM active and both contactors open.
 pub fn write_duty(rt: HostRuntime, duty: u16, buf: &mut [u8]) {
-    text(rt, b"  write duty ");
-    natural(rt, duty as u64);
     let m = Message::SafetyControl(ChargeControl1 {
         duty,
         pwm: true,
         contactor1: false,
         contactor2: false,
     });
-    write(rt, m, buf);
+    write(rt, format_args!("duty {duty}"), m, buf);
 }
 
 // A PT1000State with 0.0 C in the other three probes.
+// Kept (4): the pages give no message a default, so each field is named.
 pub fn write_probe(rt: HostRuntime, temperature1: i16, buf: &mut [u8]) {
-    text(rt, b"  write probe ");
-    short(rt, temperature1);
     let m = Message::Probes(Pt1000State {
         temperature1,
         stopped1: false,
@@ -83,5 +72,5 @@ pub fn write_probe(rt: HostRuntime, temperature1: i16, buf: &mut [u8]) {
         stopped4: false,
         failed4: false,
     });
-    write(rt, m, buf);
+    write(rt, format_args!("probe {temperature1}"), m, buf);
 }

@@ -1,226 +1,214 @@
 // The pages' names of labels and of kinds: 000's, and of the safety controller 004's.
-use crate::show::text;
+use message_types::labels::Label;
 use message_types::{
-    Button, CeState, ChargeStatus, ControllerState, CpState, LowerOutput, Mating, OutputContactors,
-    Permission, PilotState, Plug, PowerFunction, PpState, Protocol, SessionEnd, SetpointsMode,
-    Step, StopOrigin, SystemEnable, Validity,
+    Button, CeState, ChargeStatus, ControllerState, CpState, LowerOutput, Mating, Message,
+    OutputContactors, Permission, PilotState, Plug, PowerFunction, PpState, Protocol, SessionEnd,
+    SetpointsMode, Step, StopOrigin, SystemEnable, Validity,
 };
+use std::fmt;
 
-pub fn enable(rt: HostRuntime, l: SystemEnable) {
-    match l {
-        SystemEnable::NotAllowed => text(rt, b"Not_Allowed"),
-        SystemEnable::Allowed => text(rt, b"Allowed"),
+// A type of labels whose names the pages give, each beside the label's number.
+pub trait Named: Label {
+    const NAMES: &'static [(u8, &'static str)];
+}
+
+// A label by its name.
+#[derive(Clone, Copy)]
+pub struct Name<L>(pub L);
+
+impl<L: Named> fmt::Display for Name<L> {
+    fn fmt<W: fmt::Write>(&self, f: &mut fmt::Formatter<W>) -> fmt::Result {
+        let label = self.0.number();
+        L::NAMES
+            .iter()
+            .find(|row| row.0 == label)
+            .map_or(Ok(()), |row| f.write_str(row.1))
     }
 }
 
-pub fn state(rt: HostRuntime, l: ControllerState) {
-    match l {
-        ControllerState::Initialising => text(rt, b"Initialising"),
-        ControllerState::WaitingForPev => text(rt, b"Waiting_For_PEV"),
-        ControllerState::NegotiatingConnection => text(rt, b"Negotiating_Connection"),
-        ControllerState::ConnectedWithFullInfo => text(rt, b"Connected_With_Full_Info"),
-        ControllerState::InsulationTest => text(rt, b"Insulation_Test"),
-        ControllerState::Precharge => text(rt, b"Precharge"),
-        ControllerState::WaitingForCharge => text(rt, b"Waiting_For_Charge"),
-        ControllerState::Charging => text(rt, b"Charging"),
-        ControllerState::EndingCharge => text(rt, b"Ending_Charge"),
-        ControllerState::WeldingDetection => text(rt, b"Welding_Detection"),
-        ControllerState::ClosingCommunication => text(rt, b"Closing_Communication"),
-        ControllerState::CcsAuthorisationProcess => text(rt, b"CCS_Authorisation_Process"),
-        ControllerState::NotAvailable => text(rt, b"Not_Available"),
-        ControllerState::ChargePause => text(rt, b"Charge_Pause"),
-    }
+impl Named for SystemEnable {
+    const NAMES: &'static [(u8, &'static str)] = &[(0, "Not_Allowed"), (1, "Allowed")];
 }
 
-pub fn protocol(rt: HostRuntime, l: Protocol) {
-    match l {
-        Protocol::CcsDin70121v2012 => text(rt, b"CCS_DIN_70121_2012_v2"),
-        Protocol::CcsIso15118v2010 => text(rt, b"CCS_ISO_15118_2010_v1"),
-        Protocol::CcsIso15118v2013 => text(rt, b"CCS_ISO_15118_2013_v2"),
-        Protocol::Chademo09 => text(rt, b"CHAdeMO_v0.9"),
-        Protocol::Chademo10 => text(rt, b"CHAdeMO_v1.0-v1.1-v1.2"),
-        Protocol::Chademo20 => text(rt, b"CHAdeMO_v2.0"),
-        Protocol::CcsPwm => text(rt, b"CCS_PWM"),
-        Protocol::CcsIso15118v2022 => text(rt, b"CCS_ISO_15118_2022"),
-    }
+impl Named for ControllerState {
+    const NAMES: &'static [(u8, &'static str)] = &[
+        (0, "Initialising"),
+        (1, "Waiting_For_PEV"),
+        (2, "Negotiating_Connection"),
+        (3, "Connected_With_Full_Info"),
+        (4, "Insulation_Test"),
+        (5, "Precharge"),
+        (6, "Waiting_For_Charge"),
+        (7, "Charging"),
+        (8, "Ending_Charge"),
+        (9, "Welding_Detection"),
+        (10, "Closing_Communication"),
+        (11, "CCS_Authorisation_Process"),
+        (12, "Not_Available"),
+        (13, "Charge_Pause"),
+    ];
 }
 
-pub fn plug(rt: HostRuntime, l: Plug) {
-    match l {
-        Plug::CcsDcCore => text(rt, b"CCS_DC_Core"),
-        Plug::CcsDcExtended => text(rt, b"CCS_DC_Extended"),
-        Plug::Chademo => text(rt, b"CHAdeMO"),
-        Plug::CcsAc => text(rt, b"CCS_AC"),
-        Plug::Mcs => text(rt, b"MCS"),
-    }
+impl Named for Protocol {
+    const NAMES: &'static [(u8, &'static str)] = &[
+        (0, "CCS_DIN_70121_2012_v2"),
+        (1, "CCS_ISO_15118_2010_v1"),
+        (2, "CCS_ISO_15118_2013_v2"),
+        (3, "CHAdeMO_v0.9"),
+        (4, "CHAdeMO_v1.0-v1.1-v1.2"),
+        (5, "CHAdeMO_v2.0"),
+        (6, "CCS_PWM"),
+        (7, "CCS_ISO_15118_2022"),
+    ];
 }
 
-pub fn charge(rt: HostRuntime, l: ChargeStatus) {
-    match l {
-        ChargeStatus::ChargeStopped => text(rt, b"Charge_Stopped"),
-        ChargeStatus::ChargeStarted => text(rt, b"Charge_Started"),
-    }
+impl Named for Plug {
+    const NAMES: &'static [(u8, &'static str)] = &[
+        (0, "CCS_DC_Core"),
+        (1, "CCS_DC_Extended"),
+        (2, "CHAdeMO"),
+        (3, "CCS_AC"),
+        (4, "MCS"),
+    ];
 }
 
-pub fn function(rt: HostRuntime, l: PowerFunction) {
-    match l {
-        PowerFunction::Off => text(rt, b"Off"),
-        PowerFunction::Standby => text(rt, b"Standby"),
-        PowerFunction::InsulationTest => text(rt, b"Insulation_Test"),
-        PowerFunction::Precharge => text(rt, b"Precharge"),
-        PowerFunction::PowerTransfer => text(rt, b"Power_Transfer"),
-    }
+impl Named for ChargeStatus {
+    const NAMES: &'static [(u8, &'static str)] = &[(0, "Charge_Stopped"), (1, "Charge_Started")];
 }
 
-pub fn mode(rt: HostRuntime, l: SetpointsMode) {
-    match l {
-        SetpointsMode::TargetMode => text(rt, b"Target_Mode"),
-        SetpointsMode::RangeMode => text(rt, b"Range_Mode"),
-    }
+impl Named for PowerFunction {
+    const NAMES: &'static [(u8, &'static str)] = &[
+        (0, "Off"),
+        (1, "Standby"),
+        (2, "Insulation_Test"),
+        (4, "Precharge"),
+        (8, "Power_Transfer"),
+    ];
 }
 
-pub fn contactors(rt: HostRuntime, l: OutputContactors) {
-    match l {
-        OutputContactors::Open => text(rt, b"Open"),
-        OutputContactors::Close => text(rt, b"Close"),
-    }
+impl Named for SetpointsMode {
+    const NAMES: &'static [(u8, &'static str)] = &[(0, "Target_Mode"), (1, "Range_Mode")];
 }
 
-pub fn lowering(rt: HostRuntime, l: LowerOutput) {
-    match l {
-        LowerOutput::NoLowering => text(rt, b"No_Lowering"),
-        LowerOutput::Lowering => text(rt, b"Lowering"),
-    }
+impl Named for OutputContactors {
+    const NAMES: &'static [(u8, &'static str)] = &[(0, "Open"), (1, "Close")];
 }
 
-pub fn end(rt: HostRuntime, l: SessionEnd) {
-    match l {
-        SessionEnd::CleanStop => text(rt, b"Clean_Stop"),
-        SessionEnd::RushedStop => text(rt, b"Rushed_Stop"),
-    }
+impl Named for LowerOutput {
+    const NAMES: &'static [(u8, &'static str)] = &[(0, "No_Lowering"), (1, "Lowering")];
 }
 
-pub fn origin(rt: HostRuntime, l: StopOrigin) {
-    match l {
-        StopOrigin::Evse => text(rt, b"EVSE"),
-        StopOrigin::Pev => text(rt, b"PEV"),
-    }
+impl Named for SessionEnd {
+    const NAMES: &'static [(u8, &'static str)] = &[(0, "Clean_Stop"), (1, "Rushed_Stop")];
 }
 
-pub fn cp(rt: HostRuntime, l: CpState) {
-    match l {
-        CpState::Unknown => text(rt, b"Unknown"),
-        CpState::A => text(rt, b"A"),
-        CpState::B => text(rt, b"B"),
-        CpState::C => text(rt, b"C"),
-        CpState::D => text(rt, b"D"),
-        CpState::E => text(rt, b"E"),
-        CpState::F => text(rt, b"F"),
-        CpState::Invalid => text(rt, b"Invalid"),
-    }
+impl Named for StopOrigin {
+    const NAMES: &'static [(u8, &'static str)] = &[(1, "EVSE"), (3, "PEV")];
 }
 
-pub fn pp(rt: HostRuntime, l: PpState) {
-    match l {
-        PpState::NoCable => text(rt, b"NoCableDetected"),
-        PpState::Amps13 => text(rt, b"13A"),
-        PpState::Amps20 => text(rt, b"20A"),
-        PpState::Amps32 => text(rt, b"32A"),
-        PpState::Amps63 => text(rt, b"63/70A"),
-        PpState::Type1 => text(rt, b"Type1_Connected"),
-        PpState::Type1Pressed => text(rt, b"Type1_ConnectedButtonPressed"),
-        PpState::Error => text(rt, b"Error"),
-    }
+impl Named for CpState {
+    const NAMES: &'static [(u8, &'static str)] = &[
+        (0, "Unknown"),
+        (1, "A"),
+        (2, "B"),
+        (3, "C"),
+        (4, "D"),
+        (5, "E"),
+        (6, "F"),
+        (7, "Invalid"),
+    ];
 }
 
-pub fn permission(rt: HostRuntime, l: Permission) {
-    match l {
-        Permission::NotAllowed => text(rt, b"Not_Allowed"),
-        Permission::Allowed => text(rt, b"Allowed"),
-    }
+impl Named for PpState {
+    const NAMES: &'static [(u8, &'static str)] = &[
+        (0, "NoCableDetected"),
+        (1, "13A"),
+        (2, "20A"),
+        (3, "32A"),
+        (4, "63/70A"),
+        (5, "Type1_Connected"),
+        (6, "Type1_ConnectedButtonPressed"),
+        (7, "Error"),
+    ];
 }
 
-pub fn button(rt: HostRuntime, l: Button) {
-    match l {
-        Button::NotPressed => text(rt, b"Not_Pressed"),
-        Button::Pressed => text(rt, b"Pressed"),
-    }
+impl Named for Permission {
+    const NAMES: &'static [(u8, &'static str)] = &[(0, "Not_Allowed"), (1, "Allowed")];
 }
 
-pub fn step(rt: HostRuntime, l: Step) {
-    match l {
-        Step::NotDone => text(rt, b"Not_Done"),
-        Step::Done => text(rt, b"Done"),
-    }
+impl Named for Button {
+    const NAMES: &'static [(u8, &'static str)] = &[(0, "Not_Pressed"), (1, "Pressed")];
 }
 
-pub fn validity(rt: HostRuntime, l: Validity) {
-    match l {
-        Validity::Invalid => text(rt, b"Invalid"),
-        Validity::Valid => text(rt, b"Valid"),
-    }
+impl Named for Step {
+    const NAMES: &'static [(u8, &'static str)] = &[(0, "Not_Done"), (1, "Done")];
 }
 
-pub fn pilot(rt: HostRuntime, l: PilotState) {
-    match l {
-        PilotState::EOrF => text(rt, b"E_or_F"),
-        PilotState::D => text(rt, b"D"),
-        PilotState::C => text(rt, b"C"),
-        PilotState::B => text(rt, b"B"),
-        PilotState::A => text(rt, b"A"),
-    }
+impl Named for Validity {
+    const NAMES: &'static [(u8, &'static str)] = &[(0, "Invalid"), (1, "Valid")];
 }
 
-pub fn ce(rt: HostRuntime, l: CeState) {
-    match l {
-        CeState::Undefined => text(rt, b"Undefined"),
-        CeState::A => text(rt, b"A"),
-        CeState::B0 => text(rt, b"B0"),
-        CeState::B0Aux => text(rt, b"B0_Aux"),
-        CeState::B => text(rt, b"B"),
-        CeState::BAux => text(rt, b"B_Aux"),
-        CeState::C => text(rt, b"C"),
-        CeState::CAux => text(rt, b"C_Aux"),
-        CeState::Ec => text(rt, b"EC"),
-        CeState::E => text(rt, b"E"),
-    }
+impl Named for PilotState {
+    const NAMES: &'static [(u8, &'static str)] = &[
+        (0, "E_or_F"),
+        (3, "D"),
+        (6, "C"),
+        (9, "B"),
+        (12, "A"),
+    ];
 }
 
-pub fn mating(rt: HostRuntime, l: Mating) {
-    match l {
-        Mating::Unmated => text(rt, b"Unmated"),
-        Mating::Mated => text(rt, b"Mated"),
-        Mating::MatedEvAux => text(rt, b"Mated_EVAux"),
-        Mating::MatedEvseAux => text(rt, b"Mated_EVSEAux"),
-    }
+impl Named for CeState {
+    const NAMES: &'static [(u8, &'static str)] = &[
+        (0, "Undefined"),
+        (1, "A"),
+        (2, "B0"),
+        (3, "B0_Aux"),
+        (4, "B"),
+        (5, "B_Aux"),
+        (6, "C"),
+        (7, "C_Aux"),
+        (8, "EC"),
+        (9, "E"),
+    ];
 }
 
-pub fn kind(rt: HostRuntime, k: usize) {
-    match k {
-        0 => text(rt, b"Power_Modules_Status"),
-        1 => text(rt, b"DC_Power_Parameters"),
-        2 => text(rt, b"Advantics_Controller_Status"),
-        3 => text(rt, b"New_Charge_Session"),
-        4 => text(rt, b"Charge_Status_Change"),
-        5 => text(rt, b"DC_Power_Control"),
-        6 => text(rt, b"Charge_Session_Finished"),
-        7 => text(rt, b"Emergency_Stop"),
-        8 => text(rt, b"EV_ID_CCS_Part2_DIN"),
-        9 => text(rt, b"ChargeControl1"),
-        10 => text(rt, b"ChargeState1"),
-        11 => text(rt, b"PT1000State"),
-        30 => text(rt, b"Sequence_Control"),
-        31 => text(rt, b"ADM_CS_SECC_Outputs"),
-        32 => text(rt, b"EV_Information_Battery"),
-        33 => text(rt, b"EV_Information_Voltages"),
-        34 => text(rt, b"EV_Information_Charge_Limits"),
-        35 => text(rt, b"EV_Information_Discharge_Limits"),
-        36 => text(rt, b"EV_Information_Energy"),
-        37 => text(rt, b"ADM_CO_CUI1_Inputs"),
-        38 => text(rt, b"ADM_CS_SECC_Inputs"),
-        39 => text(rt, b"ADM_CS_SPCC_Inputs"),
-        40 => text(rt, b"CCS_Extra_Information"),
-        41 => text(rt, b"MCS_Extra_Information"),
-        _ => text(rt, b"OCPP_Control"),
+impl Named for Mating {
+    const NAMES: &'static [(u8, &'static str)] = &[
+        (0, "Unmated"),
+        (1, "Mated"),
+        (2, "Mated_EVAux"),
+        (3, "Mated_EVSEAux"),
+    ];
+}
+
+// The name of a message's kind.
+pub fn kind(m: Message) -> &'static str {
+    match m {
+        Message::Status(_) => "Power_Modules_Status",
+        Message::Parameters(_) => "DC_Power_Parameters",
+        Message::Controller(_) => "Advantics_Controller_Status",
+        Message::Session(_) => "New_Charge_Session",
+        Message::Change(_) => "Charge_Status_Change",
+        Message::Control(_) => "DC_Power_Control",
+        Message::Finished(_) => "Charge_Session_Finished",
+        Message::Stop(_) => "Emergency_Stop",
+        Message::Id(_) => "EV_ID_CCS_Part2_DIN",
+        Message::SafetyControl(_) => "ChargeControl1",
+        Message::SafetyState(_) => "ChargeState1",
+        Message::Probes(_) => "PT1000State",
+        Message::Sequence(_) => "Sequence_Control",
+        Message::Outputs(_) => "ADM_CS_SECC_Outputs",
+        Message::Battery(_) => "EV_Information_Battery",
+        Message::Voltages(_) => "EV_Information_Voltages",
+        Message::ChargeLimits(_) => "EV_Information_Charge_Limits",
+        Message::DischargeLimits(_) => "EV_Information_Discharge_Limits",
+        Message::Energy(_) => "EV_Information_Energy",
+        Message::Cui(_) => "ADM_CO_CUI1_Inputs",
+        Message::Secc(_) => "ADM_CS_SECC_Inputs",
+        Message::Spcc(_) => "ADM_CS_SPCC_Inputs",
+        Message::Ccs(_) => "CCS_Extra_Information",
+        Message::Mcs(_) => "MCS_Extra_Information",
+        Message::Ocpp(_) => "OCPP_Control",
     }
 }

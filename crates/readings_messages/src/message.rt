@@ -1,222 +1,154 @@
 // A message's fields in words, in the order of the pages: tenths with their point, labels by name, flags as 0 and 1.
-use crate::show::{natural, refusal, short, text};
-use crate::tenths::{flag, short_tenths, word_tenths};
-use crate::{inputs, labels, vehicle};
+use crate::labels::{Name, kind};
+use crate::tenths::{Flags, Tenths};
+use crate::{inputs, vehicle};
 use message_types::{
     ChargeControl1, ChargeState1, DcPowerControl, DcPowerParameters, EvId, Message,
-    NewChargeSession, PowerModulesStatus, Pt1000State, kind_of,
+    NewChargeSession, PowerModulesStatus, Pt1000State,
 };
-use messages::Reading;
+use std::fmt;
 
-fn volts(rt: HostRuntime, v: u16) {
-    word_tenths(rt, v);
-    text(rt, b" V, ");
+fn status<W: fmt::Write>(f: &mut fmt::Formatter<W>, s: PowerModulesStatus) -> fmt::Result {
+    write!(
+        f,
+        "{} V, {} A, {} °C, {} °C, {}, {} kOhm",
+        Tenths::of(s.voltage),
+        Tenths::of(s.current),
+        s.modules,
+        s.enclosure,
+        Name(s.enable),
+        s.insulation
+    )
 }
 
-fn amperes(rt: HostRuntime, a: i16) {
-    short_tenths(rt, a);
-    text(rt, b" A, ");
+fn parameters<W: fmt::Write>(f: &mut fmt::Formatter<W>, p: DcPowerParameters) -> fmt::Result {
+    write!(
+        f,
+        "{} V, {} A, {} A, {} A",
+        Tenths::of(p.voltage),
+        Tenths::of(p.charge),
+        Tenths::of(p.discharge),
+        Tenths::of(p.target)
+    )
 }
 
-fn most_amperes(rt: HostRuntime, a: u16) {
-    word_tenths(rt, a);
-    text(rt, b" A, ");
+fn session<W: fmt::Write>(f: &mut fmt::Formatter<W>, s: NewChargeSession) -> fmt::Result {
+    write!(f, "{}, {}", Name(s.protocol), Name(s.plug))
 }
 
-// The degree sign in UTF-8.
-fn degrees(rt: HostRuntime, c: i16) {
-    short(rt, c);
-    text(rt, b" \xc2\xb0C, ");
+fn control<W: fmt::Write>(f: &mut fmt::Formatter<W>, d: DcPowerControl) -> fmt::Result {
+    write!(
+        f,
+        "{} V, {} A, {} A, {}, reserved{}, {}, {}, {}",
+        Tenths::of(d.target),
+        Tenths::of(d.max),
+        Tenths::of(d.min),
+        Name(d.function),
+        Flags(&[d.reserved]),
+        Name(d.mode),
+        Name(d.contactors),
+        Name(d.lowering)
+    )
 }
 
-fn status(rt: HostRuntime, s: PowerModulesStatus) {
-    volts(rt, s.voltage);
-    amperes(rt, s.current);
-    degrees(rt, s.modules);
-    degrees(rt, s.enclosure);
-    let l = s.enable;
-    labels::enable(rt, l);
-    text(rt, b", ");
-    natural(rt, s.insulation as u64);
-    text(rt, b" kOhm");
+fn id<W: fmt::Write>(f: &mut fmt::Formatter<W>, m: EvId) -> fmt::Result {
+    write!(
+        f,
+        "bytes {} {} {} {} {} {}",
+        m.byte0, m.byte1, m.byte2, m.byte3, m.byte4, m.byte5
+    )
 }
 
-fn parameters(rt: HostRuntime, p: DcPowerParameters) {
-    volts(rt, p.voltage);
-    most_amperes(rt, p.charge);
-    most_amperes(rt, p.discharge);
-    short_tenths(rt, p.target);
-    text(rt, b" A");
+fn safety_control<W: fmt::Write>(f: &mut fmt::Formatter<W>, m: ChargeControl1) -> fmt::Result {
+    write!(
+        f,
+        "{} %, PWM{}, contactors{}",
+        Tenths::of(m.duty),
+        Flags(&[m.pwm]),
+        Flags(&[m.contactor1, m.contactor2])
+    )
 }
 
-fn session(rt: HostRuntime, s: NewChargeSession) {
-    let p = s.protocol;
-    labels::protocol(rt, p);
-    text(rt, b", ");
-    let q = s.plug;
-    labels::plug(rt, q);
+fn safety_state<W: fmt::Write>(f: &mut fmt::Formatter<W>, m: ChargeState1) -> fmt::Result {
+    write!(
+        f,
+        "{} %, PWM{}, CP {}, short{}, diode{}, PP {}, contactors{}, errors{}, stops{}, IMD{}",
+        Tenths::of(m.duty),
+        Flags(&[m.pwm]),
+        Name(m.cp),
+        Flags(&[m.short]),
+        Flags(&[m.diode]),
+        Name(m.pp),
+        Flags(&[m.contactor1, m.contactor2]),
+        Flags(&[m.error1, m.error2]),
+        Flags(&[m.estop1, m.estop2, m.estop3]),
+        Flags(&[m.imdabort, m.imdfailure])
+    )
 }
 
-fn setpoints(rt: HostRuntime, d: DcPowerControl) {
-    volts(rt, d.target);
-    amperes(rt, d.max);
-    amperes(rt, d.min);
-}
+// Of a probe: 004's TempSensorNotUsed, or the degrees; then whether charging was stopped and the self-test failed.
+#[derive(Clone, Copy)]
+struct Probe(i16, bool, bool);
 
-fn control(rt: HostRuntime, d: DcPowerControl) {
-    setpoints(rt, d);
-    let f = d.function;
-    labels::function(rt, f);
-    text(rt, b", reserved");
-    flag(rt, d.reserved);
-    text(rt, b", ");
-    let m = d.mode;
-    labels::mode(rt, m);
-    text(rt, b", ");
-    let c = d.contactors;
-    labels::contactors(rt, c);
-    text(rt, b", ");
-    let l = d.lowering;
-    labels::lowering(rt, l);
-}
-
-fn spaced(rt: HostRuntime, b: u8) {
-    text(rt, b" ");
-    natural(rt, b as u64);
-}
-
-fn id(rt: HostRuntime, m: EvId) {
-    text(rt, b"bytes");
-    spaced(rt, m.byte0);
-    spaced(rt, m.byte1);
-    spaced(rt, m.byte2);
-    spaced(rt, m.byte3);
-    spaced(rt, m.byte4);
-    spaced(rt, m.byte5);
-}
-
-fn duty(rt: HostRuntime, d: u16, pwm: bool) {
-    word_tenths(rt, d);
-    text(rt, b" %, PWM");
-    flag(rt, pwm);
-}
-
-fn contactors(rt: HostRuntime, first: bool, second: bool) {
-    text(rt, b", contactors");
-    flag(rt, first);
-    flag(rt, second);
-}
-
-fn safety_control(rt: HostRuntime, m: ChargeControl1) {
-    duty(rt, m.duty, m.pwm);
-    contactors(rt, m.contactor1, m.contactor2);
-}
-
-fn pilots(rt: HostRuntime, m: ChargeState1) {
-    text(rt, b", CP ");
-    let c = m.cp;
-    labels::cp(rt, c);
-    text(rt, b", short");
-    flag(rt, m.short);
-    text(rt, b", diode");
-    flag(rt, m.diode);
-    text(rt, b", PP ");
-    let p = m.pp;
-    labels::pp(rt, p);
-}
-
-fn aborts(rt: HostRuntime, m: ChargeState1) {
-    text(rt, b", errors");
-    flag(rt, m.error1);
-    flag(rt, m.error2);
-    text(rt, b", stops");
-    flag(rt, m.estop1);
-    flag(rt, m.estop2);
-    flag(rt, m.estop3);
-    text(rt, b", IMD");
-    flag(rt, m.imdabort);
-    flag(rt, m.imdfailure);
-}
-
-fn safety_state(rt: HostRuntime, m: ChargeState1) {
-    duty(rt, m.duty, m.pwm);
-    pilots(rt, m);
-    contactors(rt, m.contactor1, m.contactor2);
-    aborts(rt, m);
-}
-
-// 004's TempSensorNotUsed, or the degrees; then whether charging was stopped and the self-test failed.
-fn probe(rt: HostRuntime, raw: i16, stopped: bool, failed: bool) {
-    if raw == 0x1fff {
-        text(rt, b"not used");
-    } else {
-        short_tenths(rt, raw);
-        text(rt, b" \xc2\xb0C");
+impl fmt::Display for Probe {
+    fn fmt<W: fmt::Write>(&self, f: &mut fmt::Formatter<W>) -> fmt::Result {
+        match service::probe_of(self.0) {
+            service::Probe::NotUsed => f.write_str("not used")?,
+            service::Probe::Degrees(_) => write!(f, "{} °C", Tenths::of(self.0))?,
+        }
+        write!(f, "{}", Flags(&[self.1, self.2]))
     }
-    flag(rt, stopped);
-    flag(rt, failed);
 }
 
-fn probes(rt: HostRuntime, m: Pt1000State) {
-    probe(rt, m.temperature1, m.stopped1, m.failed1);
-    text(rt, b", ");
-    probe(rt, m.temperature2, m.stopped2, m.failed2);
-    text(rt, b", ");
-    probe(rt, m.temperature3, m.stopped3, m.failed3);
-    text(rt, b", ");
-    probe(rt, m.temperature4, m.stopped4, m.failed4);
+fn probes<W: fmt::Write>(f: &mut fmt::Formatter<W>, m: Pt1000State) -> fmt::Result {
+    write!(
+        f,
+        "{}, {}, {}, {}",
+        Probe(m.temperature1, m.stopped1, m.failed1),
+        Probe(m.temperature2, m.stopped2, m.failed2),
+        Probe(m.temperature3, m.stopped3, m.failed3),
+        Probe(m.temperature4, m.stopped4, m.failed4)
+    )
 }
 
-fn fields(rt: HostRuntime, m: Message) {
+// Kept (7): the match chooses by a message's case, which is what an enum is for.
+fn fields<W: fmt::Write>(f: &mut fmt::Formatter<W>, m: Message) -> fmt::Result {
     match m {
-        Message::Status(s) => status(rt, s),
-        Message::Parameters(p) => parameters(rt, p),
-        Message::Controller(c) => {
-            let l = c.state;
-            labels::state(rt, l);
-        }
-        Message::Session(s) => session(rt, s),
-        Message::Change(c) => {
-            let l = c.status;
-            labels::charge(rt, l);
-        }
-        Message::Control(d) => control(rt, d),
-        Message::Finished(f) => {
-            let l = f.state;
-            labels::end(rt, l);
-        }
-        Message::Stop(s) => {
-            let l = s.origin;
-            labels::origin(rt, l);
-        }
-        Message::Id(b) => id(rt, b),
-        Message::SafetyControl(c) => safety_control(rt, c),
-        Message::SafetyState(s) => safety_state(rt, s),
-        Message::Probes(p) => probes(rt, p),
-        Message::Sequence(m) => inputs::sequence(rt, m),
-        Message::Outputs(m) => inputs::outputs(rt, m),
-        Message::Battery(m) => vehicle::battery(rt, m),
-        Message::Voltages(m) => vehicle::voltages(rt, m),
-        Message::ChargeLimits(m) => vehicle::limits(rt, m),
-        Message::DischargeLimits(m) => vehicle::limits(rt, m),
-        Message::Energy(m) => vehicle::energy(rt, m),
-        Message::Cui(m) => inputs::cui(rt, m),
-        Message::Secc(m) => inputs::secc(rt, m),
-        Message::Spcc(m) => inputs::spcc(rt, m),
-        Message::Ccs(m) => inputs::ccs(rt, m),
-        Message::Mcs(m) => inputs::mcs(rt, m),
-        Message::Ocpp(m) => vehicle::ocpp(rt, m),
+        Message::Status(s) => status(f, s),
+        Message::Parameters(p) => parameters(f, p),
+        Message::Controller(c) => write!(f, "{}", Name(c.state)),
+        Message::Session(s) => session(f, s),
+        Message::Change(c) => write!(f, "{}", Name(c.status)),
+        Message::Control(d) => control(f, d),
+        Message::Finished(s) => write!(f, "{}", Name(s.state)),
+        Message::Stop(s) => write!(f, "{}", Name(s.origin)),
+        Message::Id(b) => id(f, b),
+        Message::SafetyControl(c) => safety_control(f, c),
+        Message::SafetyState(s) => safety_state(f, s),
+        Message::Probes(p) => probes(f, p),
+        Message::Sequence(m) => inputs::sequence(f, m),
+        Message::Outputs(m) => inputs::outputs(f, m),
+        Message::Battery(m) => vehicle::battery(f, m),
+        Message::Voltages(m) => vehicle::voltages(f, m),
+        Message::ChargeLimits(m) => vehicle::limits(f, m),
+        Message::DischargeLimits(m) => vehicle::limits(f, m),
+        Message::Energy(m) => vehicle::energy(f, m),
+        Message::Cui(m) => inputs::cui(f, m),
+        Message::Secc(m) => inputs::secc(f, m),
+        Message::Spcc(m) => inputs::spcc(f, m),
+        Message::Ccs(m) => inputs::ccs(f, m),
+        Message::Mcs(m) => inputs::mcs(f, m),
+        Message::Ocpp(m) => vehicle::ocpp(f, m),
     }
 }
 
-// What a frame is read to: its message, or the refusal.
-pub fn reading(rt: HostRuntime, r: Reading) {
-    match r {
-        Reading::Accepted(m) => {
-            labels::kind(rt, kind_of(m));
-            text(rt, b": ");
-            fields(rt, m);
-        }
-        Reading::Refused(w) => refusal(rt, w),
+// A message with its kind's name.
+#[derive(Clone, Copy)]
+pub struct InWords(pub Message);
+
+impl fmt::Display for InWords {
+    fn fmt<W: fmt::Write>(&self, f: &mut fmt::Formatter<W>) -> fmt::Result {
+        write!(f, "{}: ", kind(self.0))?;
+        fields(f, self.0)
     }
 }

@@ -1,46 +1,49 @@
-// Numbers, bytes and refusals as text on standard output.
+// What the lines of the readings are made of, and how they are printed.
 use refusals::Refusal;
+use std::fmt;
+use std::io::Print;
 
-pub fn text(rt: HostRuntime, s: &[u8]) {
-    let _ = console::write(rt, s);
+// Where standard output cannot be written nobody is told: what is missing of it differs from the file stdout.
+pub fn say<D: fmt::Display + Drop>(rt: HostRuntime, what: D) {
+    let _ = rt.print(what);
 }
 
-pub fn natural(rt: HostRuntime, n: u64) {
-    let _ = print!(rt; "{n}");
-}
+// Bytes in hexadecimal, two digits each.
+#[derive(Clone, Copy)]
+pub struct Hex<'a>(pub &'a [u8]);
 
-pub fn hex(rt: HostRuntime, n: u64, width: usize) {
-    let _ = print!(rt; "{n:0width$x}");
-}
-
-pub fn number(rt: HostRuntime, z: i64) {
-    let bits = signal::bits(z, true, 64);
-    if z < 0 {
-        text(rt, b"-");
-        natural(rt, std::num::wrapping_sub_u64(0, bits));
-    } else {
-        natural(rt, bits);
+impl fmt::Display for Hex<'_> {
+    fn fmt<W: fmt::Write>(&self, f: &mut fmt::Formatter<W>) -> fmt::Result {
+        for b in self.0 {
+            write!(f, "{b:02x}")?;
+        }
+        Ok(())
     }
 }
 
-pub fn short(rt: HostRuntime, z: i16) {
-    number(rt, z as i64);
-}
+// `R` and the refusal's number, and behind 5 the start of the signal that offends.
+#[derive(Clone, Copy)]
+pub struct Refused(pub Refusal);
 
-pub fn bytes(rt: HostRuntime, s: &[u8]) {
-    let mut i = 0;
-    while i < s.len() {
-        hex(rt, s[i] as u64, 2);
-        i += 1;
+impl fmt::Display for Refused {
+    fn fmt<W: fmt::Write>(&self, f: &mut fmt::Formatter<W>) -> fmt::Result {
+        write!(f, "R{}", refusals::refusal_number(self.0))?;
+        if let Refusal::NoLabel(start) = self.0 {
+            write!(f, ":{start}")?;
+        }
+        Ok(())
     }
 }
 
-pub fn refusal(rt: HostRuntime, w: Refusal) {
-    let n = refusals::refusal_number(w);
-    text(rt, b"R");
-    natural(rt, n as u64);
-    if n == 5 {
-        text(rt, b":");
-        natural(rt, refusals::refusal_start(w) as u64);
+// What was answered, or the refusal.
+#[derive(Drop)]
+pub struct Answer<T>(pub Result<T, Refusal>);
+
+impl<T: fmt::Display + Drop> fmt::Display for Answer<T> {
+    fn fmt<W: fmt::Write>(&self, f: &mut fmt::Formatter<W>) -> fmt::Result {
+        match &self.0 {
+            Ok(x) => write!(f, "{x}"),
+            Err(w) => write!(f, "{}", Refused(*w)),
+        }
     }
 }

@@ -1,35 +1,33 @@
 // Whole numbers of tenths with their point, and flags.
-use crate::show::{natural, text};
-
-fn tenths_of(rt: HostRuntime, n: u64) {
-    natural(rt, n / 10);
-    text(rt, b".");
-    natural(rt, n % 10);
-}
+use std::fmt;
 
 // A whole number of tenths, with its point.
-fn tenths(rt: HostRuntime, z: i64) {
-    let bits = signal::bits(z, true, 64);
-    if z < 0 {
-        text(rt, b"-");
-        tenths_of(rt, std::num::wrapping_sub_u64(0, bits));
-    } else {
-        tenths_of(rt, bits);
+#[derive(Clone, Copy)]
+pub struct Tenths(i64);
+
+impl Tenths {
+    pub fn of<N: Into<i64>>(n: N) -> Tenths {
+        Tenths(n.into())
     }
 }
 
-pub fn short_tenths(rt: HostRuntime, z: i16) {
-    tenths(rt, z as i64);
+impl fmt::Display for Tenths {
+    fn fmt<W: fmt::Write>(&self, f: &mut fmt::Formatter<W>) -> fmt::Result {
+        let sign = if self.0 < 0 { "-" } else { "" };
+        let n = self.0.unsigned_abs();
+        write!(f, "{sign}{}.{}", n / 10, n % 10)
+    }
 }
 
-pub fn word_tenths(rt: HostRuntime, n: u16) {
-    tenths_of(rt, n as u64);
-}
+// Flags as 0 and 1, each behind a space.
+#[derive(Clone, Copy)]
+pub struct Flags<'a>(pub &'a [bool]);
 
-pub fn flag(rt: HostRuntime, b: bool) {
-    if b {
-        text(rt, b" 1");
-    } else {
-        text(rt, b" 0");
+impl fmt::Display for Flags<'_> {
+    fn fmt<W: fmt::Write>(&self, f: &mut fmt::Formatter<W>) -> fmt::Result {
+        for &b in self.0 {
+            write!(f, " {}", u8::from(b))?;
+        }
+        Ok(())
     }
 }

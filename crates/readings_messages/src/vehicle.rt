@@ -1,56 +1,44 @@
 // The fields of the messages about the vehicle, in words.
-use crate::show::{natural, short, text};
-use crate::tenths::{short_tenths, word_tenths};
+use crate::tenths::Tenths;
 use message_types::{
     EvInformationBattery, EvInformationEnergy, EvInformationLimits, EvInformationVoltages,
     OcppControl,
 };
+use std::fmt;
 
-fn percent(rt: HostRuntime, n: u8) {
-    text(rt, b", ");
-    natural(rt, n as u64);
-    text(rt, b" %");
+pub fn battery<W: fmt::Write>(f: &mut fmt::Formatter<W>, m: EvInformationBattery) -> fmt::Result {
+    write!(
+        f,
+        "{} kWh, {} %, {} %, {} %, {} %",
+        m.capacity, m.present, m.minimum, m.target, m.maximum
+    )
 }
 
-pub fn battery(rt: HostRuntime, m: EvInformationBattery) {
-    natural(rt, m.capacity as u64);
-    text(rt, b" kWh");
-    percent(rt, m.present);
-    percent(rt, m.minimum);
-    percent(rt, m.target);
-    percent(rt, m.maximum);
+pub fn voltages<W: fmt::Write>(f: &mut fmt::Formatter<W>, m: EvInformationVoltages) -> fmt::Result {
+    write!(
+        f,
+        "{} V, {} V, {} V",
+        Tenths::of(m.minimum),
+        Tenths::of(m.maximum),
+        Tenths::of(m.present)
+    )
 }
 
-pub fn voltages(rt: HostRuntime, m: EvInformationVoltages) {
-    word_tenths(rt, m.minimum);
-    text(rt, b" V, ");
-    word_tenths(rt, m.maximum);
-    text(rt, b" V, ");
-    word_tenths(rt, m.present);
-    text(rt, b" V");
+pub fn limits<W: fmt::Write>(f: &mut fmt::Formatter<W>, m: EvInformationLimits) -> fmt::Result {
+    write!(
+        f,
+        "{} A, {} A, {} kW, {} kW",
+        Tenths::of(m.mincurrent),
+        Tenths::of(m.maxcurrent),
+        m.minpower,
+        m.maxpower
+    )
 }
 
-pub fn limits(rt: HostRuntime, m: EvInformationLimits) {
-    word_tenths(rt, m.mincurrent);
-    text(rt, b" A, ");
-    word_tenths(rt, m.maxcurrent);
-    text(rt, b" A, ");
-    natural(rt, m.minpower as u64);
-    text(rt, b" kW, ");
-    natural(rt, m.maxpower as u64);
-    text(rt, b" kW");
+pub fn energy<W: fmt::Write>(f: &mut fmt::Formatter<W>, m: EvInformationEnergy) -> fmt::Result {
+    write!(f, "{} kWh, {} kWh, {} kWh", m.minimum, m.target, m.maximum)
 }
 
-pub fn energy(rt: HostRuntime, m: EvInformationEnergy) {
-    short(rt, m.minimum);
-    text(rt, b" kWh, ");
-    short(rt, m.target);
-    text(rt, b" kWh, ");
-    short(rt, m.maximum);
-    text(rt, b" kWh");
-}
-
-pub fn ocpp(rt: HostRuntime, m: OcppControl) {
-    short_tenths(rt, m.target);
-    text(rt, b" A");
+pub fn ocpp<W: fmt::Write>(f: &mut fmt::Formatter<W>, m: OcppControl) -> fmt::Result {
+    write!(f, "{} A", Tenths::of(m.target))
 }

@@ -1,244 +1,173 @@
 // Steps on a table by value, each printed with its answer.
+// Kept (5): each step names its channel and its time one by one, as the papers' readings do and as the watch takes them.
 use message_types::kind_of;
-use readings_messages::show::{bytes, hex, natural, refusal, text};
-use refusals::Refusal;
+use readings_messages::show::{Answer, Hex, Refused, say};
 use rule_limits::{Interface, Limits, Sensor};
-use rules::{
-    CONTROL_PLACE, Dated, KEPT, LastTime, Latest, PLACES, STATUS_PLACE, STOP_PLACE, SessionPart,
-};
-use watch_rules::{Answer, Setting, Table};
-
-fn refused(rt: HostRuntime, w: Refusal) {
-    text(rt, b" -> ");
-    refusal(rt, w);
-    text(rt, b"\n");
-}
-
-fn setting(rt: HostRuntime, a: Setting) {
-    match a {
-        Setting::Done => text(rt, b" -> A\n"),
-        Setting::Refused(w) => refused(rt, w),
-    }
-}
-
-fn answer(rt: HostRuntime, a: Answer) {
-    match a {
-        Answer::Findings(n) => {
-            text(rt, b" -> A");
-            natural(rt, n as u64);
-            text(rt, b"\n");
-        }
-        Answer::Refused(w) => refused(rt, w),
-    }
-}
-
-fn at(rt: HostRuntime, channel: u32, time: u32) {
-    natural(rt, channel as u64);
-    text(rt, b" at ");
-    natural(rt, time as u64);
-}
+use rules::{CONTROL_PLACE, Dated, Record, STATUS_PLACE, STOP_PLACE};
+use std::fmt;
+use watch_rules::Table;
 
 // Default voltage 500.0 V, charge 100.0 A, discharge 50.0 A, W 500 ms.
-fn limits_for(sensor: Sensor, interface: Interface) -> Limits {
+pub fn limits() -> Limits {
     Limits {
         voltage: 5000,
         charge: 1000,
         discharge: 500,
         silence: 500,
-        sensor,
-        interface,
+        sensor: Sensor::Measuring,
+        interface: Interface::Newer,
     }
 }
 
 pub fn limits_with(sensor: Sensor) -> Limits {
-    limits_for(sensor, Interface::Newer)
-}
-
-pub fn limits() -> Limits {
-    limits_for(Sensor::Measuring, Interface::Newer)
+    Limits { sensor, ..limits() }
 }
 
 pub fn older_limits() -> Limits {
-    limits_for(Sensor::Measuring, Interface::Older)
+    Limits {
+        interface: Interface::Older,
+        ..limits()
+    }
 }
 
-pub fn set_up(rt: HostRuntime, t: Table, post: u32, channel: u32, limits: Limits) -> Table {
-    text(rt, b"  set up post ");
-    natural(rt, post as u64);
-    text(rt, b" on ");
-    natural(rt, channel as u64);
-    let r = watch::set_up(t, post, channel, limits);
-    let a = r.answer;
-    setting(rt, a);
-    r.table
+// `A` and the findings that a frame or a tick raised.
+#[derive(Clone, Copy)]
+struct Accepted(u32);
+
+impl fmt::Display for Accepted {
+    fn fmt<W: fmt::Write>(&self, f: &mut fmt::Formatter<W>) -> fmt::Result {
+        write!(f, "A{}", self.0)
+    }
 }
 
-pub fn release(rt: HostRuntime, t: Table, post: u32) -> Table {
-    text(rt, b"  release post ");
-    natural(rt, post as u64);
-    let r = watch::release(t, post);
-    let a = r.answer;
-    setting(rt, a);
-    r.table
+// A message with its time and its age, in a line.
+#[derive(Clone, Copy)]
+struct Line(Option<Dated>);
+
+impl fmt::Display for Line {
+    fn fmt<W: fmt::Write>(&self, f: &mut fmt::Formatter<W>) -> fmt::Result {
+        let (kind, time, age) = match self.0 {
+            None => return f.write_str("nothing\n"),
+            Some(Dated::At { time, age, message }) => (kind_of(message), time, age),
+            Some(Dated::OlderAt { time, age, message }) => (
+                older_types::kind_of(message),
+                time,
+                age,
+            ),
+        };
+        write!(f, "kind {kind} at {time}, {age} ms ago\n")
+    }
 }
 
-fn framed(
+// A post's record in words: its channel and limits, when it was heard last, and its session with what that keeps.
+#[derive(Clone, Copy)]
+struct Shown(Record);
+
+impl fmt::Display for Shown {
+    fn fmt<W: fmt::Write>(&self, f: &mut fmt::Formatter<W>) -> fmt::Result {
+        let r = self.0;
+        let sensor = match r.limits.sensor {
+            Sensor::Measuring => "measuring",
+            Sensor::YesNo => "yes/no",
+        };
+        let interface = match r.limits.interface {
+            Interface::Newer => "newer",
+            Interface::Older => "older",
+        };
+        write!(f, "channel {}, {sensor}, {interface}, ", r.channel)?;
+        match r.last {
+            None => f.write_str("nothing heard, ")?,
+            Some(time) => write!(f, "last heard at {time}, ")?,
+        }
+        let Some(open) = r.session else {
+            return f.write_str("no session\n");
+        };
+        write!(f, "session since {}, {} ms ago\n", open.since, open.age)?;
+        write!(f, "    status: {}", Line(r.kept[STATUS_PLACE]))?;
+        write!(f, "    control: {}", Line(r.kept[CONTROL_PLACE]))?;
+        write!(f, "    stop: {}", Line(r.kept[STOP_PLACE]))
+    }
+}
+
+// A table, and where its steps are told.
+#[derive(Drop)]
+pub struct Scene {
     rt: HostRuntime,
-    t: Table,
-    channel: u32,
-    time: u32,
-    id: u32,
-    extended: bool,
-    payload: &[u8],
-) -> Table {
-    at(rt, channel, time);
-    text(rt, b" ");
-    hex(rt, id as u64, 1);
-    text(rt, b" ");
-    bytes(rt, payload);
-    let r = watch::frame(t, channel, time, id, extended, payload);
-    let a = r.answer;
-    answer(rt, a);
-    r.table
+    table: Table,
 }
 
-pub fn frame(rt: HostRuntime, t: Table, channel: u32, time: u32, id: u32, payload: &[u8]) -> Table {
-    text(rt, b"  frame on ");
-    framed(rt, t, channel, time, id, true, payload)
-}
-
-pub fn standard(
-    rt: HostRuntime,
-    t: Table,
-    channel: u32,
-    time: u32,
-    id: u32,
-    payload: &[u8],
-) -> Table {
-    text(rt, b"  standard frame on ");
-    framed(rt, t, channel, time, id, false, payload)
-}
-
-pub fn tick(rt: HostRuntime, t: Table, channel: u32, time: u32) -> Table {
-    text(rt, b"  tick on ");
-    at(rt, channel, time);
-    let r = watch::tick(t, channel, time);
-    let a = r.answer;
-    answer(rt, a);
-    r.table
-}
-
-fn last_time(rt: HostRuntime, l: LastTime) {
-    match l {
-        LastTime::Never => text(rt, b"nothing heard, "),
-        LastTime::At(t) => {
-            text(rt, b"last heard at ");
-            natural(rt, t as u64);
-            text(rt, b", ");
+impl Scene {
+    pub fn new(rt: HostRuntime) -> Scene {
+        Scene {
+            rt,
+            table: watch::empty(),
         }
     }
-}
 
-fn sensor(rt: HostRuntime, x: Sensor) {
-    match x {
-        Sensor::Measuring => text(rt, b"measuring, "),
-        Sensor::YesNo => text(rt, b"yes/no, "),
+    pub fn set_up(&mut self, post: u32, channel: u32, limits: Limits) {
+        let r = watch::set_up(self.table, post, channel, limits);
+        self.table = r.table;
+        let answer = Answer(r.answer.map(|()| "A"));
+        say(
+            self.rt,
+            format_args!("  set up post {post} on {channel} -> {answer}\n"),
+        );
     }
-}
 
-fn interface(rt: HostRuntime, x: Interface) {
-    match x {
-        Interface::Newer => text(rt, b"newer, "),
-        Interface::Older => text(rt, b"older, "),
+    pub fn release(&mut self, post: u32) {
+        let r = watch::release(self.table, post);
+        self.table = r.table;
+        let answer = Answer(r.answer.map(|()| "A"));
+        say(self.rt, format_args!("  release post {post} -> {answer}\n"));
     }
-}
 
-fn session(rt: HostRuntime, s: SessionPart, k: [Latest; KEPT]) {
-    match s {
-        SessionPart::Closed => text(rt, b"no session\n"),
-        SessionPart::Opened(o) => {
-            text(rt, b"session since ");
-            natural(rt, o.since as u64);
-            text(rt, b", ");
-            natural(rt, o.age as u64);
-            text(rt, b" ms ago\n");
-            kept(rt, k);
+    fn hear(&mut self, channel: u32, time: u32, id: u32, extended: bool, payload: &[u8]) {
+        let r = watch::frame(self.table, channel, time, id, extended, payload);
+        self.table = r.table;
+        let what = if extended { "frame" } else { "standard frame" };
+        let answer = Answer(r.answer.map(Accepted));
+        say(
+            self.rt,
+            format_args!(
+                "  {what} on {channel} at {time} {id:x} {} -> {answer}\n",
+                Hex(payload)
+            ),
+        );
+    }
+
+    pub fn frame(&mut self, channel: u32, time: u32, id: u32, payload: &[u8]) {
+        self.hear(channel, time, id, true, payload);
+    }
+
+    pub fn standard(&mut self, channel: u32, time: u32, id: u32, payload: &[u8]) {
+        self.hear(channel, time, id, false, payload);
+    }
+
+    pub fn tick(&mut self, channel: u32, time: u32) {
+        let r = watch::tick(self.table, channel, time);
+        self.table = r.table;
+        let answer = Answer(r.answer.map(Accepted));
+        say(
+            self.rt,
+            format_args!("  tick on {channel} at {time} -> {answer}\n"),
+        );
+    }
+
+    pub fn record(&self, post: u32) {
+        say(self.rt, format_args!("  record of post {post} -> "));
+        let r = watch::look_up(self.table, post);
+        match r.answer {
+            Ok(()) => say(self.rt, Shown(r.shown)),
+            Err(w) => say(self.rt, format_args!("{}\n", Refused(w))),
         }
     }
-}
 
-// What the session keeps.
-fn kept(rt: HostRuntime, k: [Latest; KEPT]) {
-    let st = k[STATUS_PLACE];
-    let ct = k[CONTROL_PLACE];
-    let em = k[STOP_PLACE];
-    let status = st.message;
-    let control = ct.message;
-    let stop = em.message;
-    text(rt, b"    status: ");
-    dated(rt, status);
-    text(rt, b"    control: ");
-    dated(rt, control);
-    text(rt, b"    stop: ");
-    dated(rt, stop);
-}
-
-pub fn record(rt: HostRuntime, t: Table, post: u32) {
-    text(rt, b"  record of post ");
-    natural(rt, post as u64);
-    let r = watch::look_up(t, post);
-    let a = r.answer;
-    match a {
-        Setting::Refused(w) => refused(rt, w),
-        Setting::Done => {
-            let shown = r.shown;
-            text(rt, b" -> channel ");
-            natural(rt, shown.channel as u64);
-            text(rt, b", ");
-            let limits = shown.limits;
-            let x = limits.sensor;
-            sensor(rt, x);
-            let i = limits.interface;
-            interface(rt, i);
-            let l = shown.last;
-            last_time(rt, l);
-            let s = shown.session;
-            let k = shown.kept;
-            session(rt, s, k);
+    // What stands at the kind's place.
+    pub fn latest(&self, post: u32, kind: usize) {
+        let r = watch::look_up(self.table, post);
+        if let Some(&d) = r.shown.latest.get(rule_pages::place_by(kind)) {
+            let line = Line(d);
+            say(self.rt, format_args!("  latest of kind {kind} -> {line}"));
         }
     }
-}
-
-fn kind_at(rt: HostRuntime, kind: usize, time: u32, age: u32) {
-    text(rt, b"kind ");
-    natural(rt, kind as u64);
-    text(rt, b" at ");
-    natural(rt, time as u64);
-    text(rt, b", ");
-    natural(rt, age as u64);
-    text(rt, b" ms ago\n");
-}
-
-fn dated(rt: HostRuntime, d: Dated) {
-    match d {
-        Dated::Nothing => text(rt, b"nothing\n"),
-        Dated::At(time, age, m) => kind_at(rt, kind_of(m), time, age),
-        Dated::OlderAt(time, age, m) => kind_at(rt, older_types::kind_of(m), time, age),
-    }
-}
-
-// What stands at the kind's place.
-pub fn latest(rt: HostRuntime, t: Table, post: u32, kind: usize) {
-    let place = rule_pages::place_by(kind);
-    if PLACES <= place {
-        return;
-    }
-    text(rt, b"  latest of kind ");
-    natural(rt, kind as u64);
-    text(rt, b" -> ");
-    let r = watch::look_up(t, post);
-    let shown = r.shown;
-    let l = shown.latest[place];
-    let d = l.message;
-    dated(rt, d);
 }

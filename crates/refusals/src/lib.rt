@@ -1,5 +1,7 @@
 // What is refused, and its number: the one list of refusals of every crate above. Whoever refuses names a case of it, and whoever gives numbers
 // back asks here.
+#![tactic(auto)]
+
 ghost use Rattle.std.specs.Prelude.{◌≡◌};
 ghost use Rattle.refusals.specs.Refusals.{number_of, start_of};
 
@@ -39,6 +41,7 @@ pub enum Refusal {
     OtherInterface,
 }
 
+// Kept (1, 4): docs/LIBRARY.md names it, and 5 carries its start, so that no `as` gives the number.
 pub fn refusal_number(w: Refusal) -> u32
     ensures { result ≡ number_of w }
 {
@@ -76,11 +79,12 @@ pub fn refusal_number(w: Refusal) -> u32
 }
 
 // 02: "It is to carry the start bit of the first offending signal"; 0 of every refusal but 5.
+// Kept (1): docs/LIBRARY.md names it, and its clause `start_of` has 0 where there is no start, which the C interface hands on.
 pub fn refusal_start(w: Refusal) -> u32
     ensures { result ≡ start_of w }
 {
     match w {
-        Refusal::NoLabel(s) => s as u32,
+        Refusal::NoLabel(s) => u32::from(s),
         _ => 0,
     }
 }

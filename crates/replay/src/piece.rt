@@ -1,166 +1,114 @@
 // A piece of the log, batch by batch: log_walk says where its records end, and the replay, the lines and the counts go along.
-use crate::{paper, tally};
-use log_walk::Walk;
-use playing_batches::{Batched, Written};
+use crate::say;
+use crate::tally::Tally;
+use log_walk::{Step, Walk};
 use playing_nights::Replay;
-use std::num::wrapping_sub_u64;
-use text_pen::Pen;
+use program_parts::log::Listener;
+use program_parts::paper::Paper;
+use program_parts::voice::Said;
+use text_pen::Sheet;
 
-// A walk over the log, and where its lines wait; failed where something could not be read or written, which was said.
-#[derive(Clone, Copy)]
-pub struct Course {
-    pub pen: Pen,
-    pub walk: Walk,
-    pub failed: bool,
-}
+// A batch has 4,096 bytes, and a record four at least.
+const BATCH: usize = 4096;
 
-// The replay stands apart from the course, which most functions hand on alone: with its table it is large.
-#[derive(Clone, Copy)]
-pub struct Read {
+const RECORDS: usize = 1024;
+
+// A replay; the walk over its log; how often each refusal was given; where the lines wait; how many pieces were heard; and what a terminal is told by how far
+// the replay is, where one is told.
+#[derive(Drop)]
+pub struct Play<'a> {
     pub replay: Replay,
-    pub course: Course,
-}
-
-pub fn begun(size: u64) -> Course {
-    let walk = log_walk::start(size);
-    Course {
-        pen: Pen { at: 0, full: false },
-        walk,
-        failed: false,
-    }
-}
-
-pub fn failed(c: Course) -> Course {
-    let mut d = c;
-    d.failed = true;
-    d
+    pub walk: Walk,
+    pub refusals: Tally,
+    pub paper: Paper<'a>,
+    pieces: u64,
+    watched: Option<HostRuntime>,
 }
 
 // The bytes of the log between two places of a walk.
-fn between(first: Walk, last: Walk) -> u64 {
-    wrapping_sub_u64(last.at, first.at)
+fn between(first: Walk, last: Walk) -> usize {
+    last.at.wrapping_sub(first.at) as usize
 }
 
 // The walk behind as many whole records of its piece as a batch takes.
-fn run_end(start: Walk, piece: &[u8]) -> Walk {
+fn batch_end(start: Walk, piece: &[u8]) -> Walk {
     let mut w = start;
-    let mut turns = u64::MAX;
-    while turns > 0 {
-        let s = log_walk::stepped(w, piece);
-        let next = s.walk;
-        if !log_walk::is_within(next) {
+    for _ in 0..u64::MAX {
+        let Step { walk: next, .. } = w.stepped(piece);
+        if !next.is_within() {
             return next;
         }
-        if between(start, next) > 4096 {
+        if between(start, next) > BATCH {
             return w;
         }
         w = next;
-        turns -= 1;
     }
     w
 }
 
-// So many bytes of the piece from a place on.
-fn slice(piece: &[u8], at: usize, length: u64) -> &[u8] {
-    if at > piece.len() {
-        return &piece[0..0];
+// So many bytes were written behind the lines that wait.
+fn advance(sheet: &mut Sheet, bytes: usize) {
+    match sheet.pen.at.checked_add(bytes) {
+        Some(at) if at <= sheet.out.len() => sheet.pen.at = at,
+        _ => sheet.pen.full = true,
     }
-    if length > (piece.len() - at) as u64 {
-        return &piece[0..0];
-    }
-    let end = at + length as usize;
-    &piece[at..end]
 }
 
-// What a batch answered: its records are counted, and its lines wait. Every slice holds whole records, and there is room for them.
-fn told(c: Course, end: Walk, b: Written, words: &[u32], counts: &mut [u64], out: &[u8]) -> Course {
-    let p = c.pen;
-    match b {
-        Written::Lines { records, bytes } => {
-            tally::add_words(counts, words, records as usize);
-            let pen = paper::moved(out, p, bytes);
-            Course {
-                pen,
-                walk: end,
-                failed: pen.full,
+impl<'a> Play<'a> {
+    pub fn new(replay: Replay, size: u64, paper: Paper<'a>, watched: Option<HostRuntime>) -> Self {
+        Play {
+            replay,
+            walk: Walk::start(size),
+            refusals: Tally::default(),
+            paper,
+            pieces: 0,
+            watched,
+        }
+    }
+
+    // One batch further: its records are counted, and its lines wait. Every batch holds whole records, and there is room for them.
+    fn step(&mut self, piece: &[u8], words: &mut [u32]) -> Result<(), Said> {
+        self.paper.make_room();
+        self.paper.open()?;
+        let end = batch_end(self.walk, piece);
+        let bytes = log_read::payload(piece, self.walk.place(), between(self.walk, end));
+        let sheet = &mut self.paper.sheet;
+        let at = sheet.pen.at.min(sheet.out.len());
+        let b = playing_batches::write_batch(self.replay, bytes, words, &mut sheet.out[at..]);
+        self.replay = b.replay;
+        let lines = b.answer.map_err(|_| Said)?;
+        self.refusals
+            .add_words(words.get(..lines.records as usize).unwrap_or(&[]));
+        advance(&mut self.paper.sheet, lines.bytes);
+        self.walk = end;
+        self.paper.open()
+    }
+
+    // Kept (6): fixed memory: the answers of a batch have a buffer of a fixed length.
+    fn feed(&mut self, piece: &[u8]) -> Result<(), Said> {
+        let mut words = [0u32; RECORDS];
+        for _ in 0..u64::MAX {
+            self.step(piece, &mut words)?;
+            if !self.walk.is_within() {
+                return Ok(());
             }
         }
-        Written::SetUp(_) => failed(c),
-        Written::Refused(_) => failed(c),
+        Ok(())
     }
 }
 
-fn fed(n: Read, bytes: &[u8], words: &mut [u32], out: &mut [u8]) -> Batched {
-    let p = n.course.pen;
-    playing_batches::write_batch(n.replay, bytes, words, paper::rest(out, p))
-}
-
-fn with_room(rt: HostRuntime, c: Course, out: &[u8]) -> Course {
-    let p = c.pen;
-    let walk = c.walk;
-    let pen = paper::with_room(rt, out, p);
-    Course {
-        pen,
-        walk,
-        failed: pen.full,
-    }
-}
-
-// One batch further.
-fn stepped(
-    rt: HostRuntime,
-    n: Read,
-    piece: &[u8],
-    words: &mut [u32],
-    counts: &mut [u64],
-    out: &mut [u8],
-) -> Read {
-    let c = with_room(rt, n.course, out);
-    let replay = n.replay;
-    let m = Read { replay, course: c };
-    if c.failed {
-        return m;
-    }
-    let w = c.walk;
-    let end = run_end(w, piece);
-    let b = fed(
-        m,
-        slice(piece, log_walk::place(w), between(w, end)),
-        words,
-        out,
-    );
-    let after = b.replay;
-    let answer = b.answer;
-    let course = told(c, end, answer, words, counts, out);
-    Read {
-        replay: after,
-        course,
-    }
-}
-
-fn is_within(c: Course) -> bool {
-    if c.failed {
-        return false;
-    }
-    log_walk::is_within(c.walk)
-}
-
-pub fn played(
-    rt: HostRuntime,
-    start: Read,
-    piece: &[u8],
-    words: &mut [u32],
-    counts: &mut [u64],
-    out: &mut [u8],
-) -> Read {
-    let mut n = start;
-    let mut turns = u64::MAX;
-    while turns > 0 {
-        n = stepped(rt, n, piece, words, counts, out);
-        if !is_within(n.course) {
-            return n;
+impl<'a> Listener for Play<'a> {
+    // A piece has 65,536 bytes, so each 16th is about a MiB.
+    fn hear(&mut self, walk: Walk, piece: &[u8]) -> Result<Walk, Said> {
+        self.walk = walk;
+        self.feed(piece)?;
+        self.pieces = self.pieces.wrapping_add(1);
+        if let Some(rt) = self.watched
+            && self.pieces % 16 == 0
+            && self.walk.is_at_seam()
+        {
+            say::progress(rt, self.replay.count, self.walk.at);
         }
-        turns -= 1;
+        Ok(self.walk)
     }
-    n
 }

@@ -1,169 +1,64 @@
 // The set-ups of a file: the desk's `setup` lines, blank lines and comments.
-use crate::say;
 use console::files;
 use notation_read::script;
 use notation_setup::setup;
-use notation_setup::setup::Asked;
-use playing_nights::{Preparing, Replay};
-use refusals::Refusal;
-use rule_limits::PlainLimits;
-use std::fs::File;
+use notation_setup::setup::Setup;
+use playing_nights::{Replay, Unprepared};
 use std::io;
-use std::num::wrapping_add_u64;
 
-// A replay with its set-ups; not ready where the file holds something else, or a set-up was refused, and that was said.
+// How a set-up's line begins.
+const SETUP: &[u8] = b"setup ";
+
+// Why a file's posts are not set up: what the system could not do; a file over its length; or a line, by its number, that is no set-up, or whose set-up is
+// not taken. No set-up here is late: the records come after the file.
 #[derive(Clone, Copy)]
-pub struct Posts {
-    pub replay: Replay,
-    pub line: u64,
-    pub ready: bool,
+pub enum PostsError {
+    Opening(io::Error),
+    Reading(io::Error),
+    TooLong,
+    NoSetup(u64),
+    SetUp(u64, Unprepared),
 }
 
-fn fresh() -> Posts {
-    Posts {
-        replay: playing_setups::start(),
-        line: 0,
-        ready: true,
+// What a line asks for, if it is a set-up.
+fn asked_in(s: &[u8]) -> Option<Setup> {
+    if s.starts_with(SETUP) {
+        setup::setup_line(s, SETUP.len())
+    } else {
+        None
     }
 }
 
-fn stopped(p: Posts) -> Posts {
-    let mut q = p;
-    q.ready = false;
-    q
-}
-
-fn asked_in(s: &[u8]) -> Asked {
-    let e = text_lines::word_end(s, 0);
-    if e >= s.len() {
-        return Asked::Bad;
-    }
-    if check::same(&s[0..e], b"setup") {
-        return setup::setup_line(s, e + 1);
-    }
-    Asked::Bad
-}
-
-fn no_setup(rt: HostRuntime, p: Posts, name: &[u8]) -> Posts {
-    say::no_setup(rt, name, p.line);
-    stopped(p)
-}
-
-fn refused(rt: HostRuntime, p: Posts, name: &[u8], why: Refusal) -> Posts {
-    say::refused(rt, name, p.line, why);
-    stopped(p)
-}
-
-// No set-up here is late: the records come after the file.
-fn prepared(
-    rt: HostRuntime,
-    p: Posts,
-    name: &[u8],
-    post: u32,
-    channel: u32,
-    limits: PlainLimits,
-) -> Posts {
-    let line = p.line;
-    let r = playing_setups::set_up(p.replay, post, channel, limits);
-    let replay = r.replay;
-    let answer = r.answer;
-    let q = Posts {
-        replay,
-        line,
-        ready: true,
-    };
-    match answer {
-        Preparing::Done => q,
-        Preparing::Refused(why) => refused(rt, q, name, why),
-        Preparing::Late => stopped(q),
-    }
-}
-
-fn asked(rt: HostRuntime, p: Posts, name: &[u8], a: Asked) -> Posts {
-    match a {
-        Asked::Bad => no_setup(rt, p, name),
-        Asked::Setup {
-            post,
-            channel,
-            voltage,
-            charge,
-            discharge,
-            silence,
-            sensor,
-            interface,
-        } => {
-            let limits = PlainLimits {
-                voltage,
-                charge,
-                discharge,
-                silence,
-                sensor,
-                interface,
-            };
-            prepared(rt, p, name, post, channel, limits)
-        }
-    }
-}
-
-fn taken(rt: HostRuntime, p: Posts, name: &[u8], s: &[u8]) -> Posts {
-    let mut q = p;
-    q.line = wrapping_add_u64(q.line, 1);
+// The replay after a line.
+fn set_up(replay: Replay, line: u64, s: &[u8]) -> Result<Replay, PostsError> {
     if script::is_skipped(s) {
-        return q;
+        return Ok(replay);
     }
-    asked(rt, q, name, asked_in(s))
+    let asked = asked_in(s).ok_or(PostsError::NoSetup(line))?;
+    let r = playing_setups::set_up(replay, asked.post, asked.channel, asked.limits);
+    r.answer.map_err(|why| PostsError::SetUp(line, why))?;
+    Ok(r.replay)
 }
 
 // The lines of a file, up to the first that stops the replay. The last may lack its line feed.
-fn lines_in(rt: HostRuntime, name: &[u8], file: &[u8]) -> Posts {
-    let mut p = fresh();
-    let mut at = 0;
-    while at < file.len() {
-        let e = text_lines::part_end(file, at, b'\n');
-        p = taken(rt, p, name, &file[at..e]);
-        if !p.ready {
-            return p;
-        }
-        at = e + 1;
+fn lines_in(file: &[u8]) -> Result<Replay, PostsError> {
+    let mut replay = playing_setups::start();
+    for (number, line) in (1..u64::MAX).zip(file.split(|&b| b == b'\n')) {
+        replay = set_up(replay, number, line)?;
     }
-    p
-}
-
-fn unread(rt: HostRuntime, name: &[u8], doing: &[u8], why: io::Error) -> Posts {
-    say::fail(rt, name, doing, why);
-    stopped(fresh())
-}
-
-fn too_long(rt: HostRuntime, name: &[u8]) -> Posts {
-    say::too_long(rt, name);
-    stopped(fresh())
+    Ok(replay)
 }
 
 // A read behind the last byte tells whether it was the last, and why the reading ended where it was not.
-fn file_in(rt: HostRuntime, file: &File, name: &[u8]) -> Posts {
+// Kept (6): fixed memory: the file has a buffer of a fixed length.
+pub fn read(rt: HostRuntime, name: &[u8]) -> Result<Replay, PostsError> {
+    let file = files::open_read(rt, name).map_err(PostsError::Opening)?;
     let mut buf = console::large_buffer();
-    let n = files::read_full(file, &mut buf);
+    let n = files::read_full(&file, &mut buf);
     let mut more = console::buffer();
-    match files::read(file, &mut more) {
-        Ok(got) => whole(rt, name, &buf[..n], got),
-        Err(why) => unread(rt, name, b": reading", why),
+    let behind = files::read(&file, &mut more).map_err(PostsError::Reading)?;
+    if behind > 0 || n > 65535 {
+        return Err(PostsError::TooLong);
     }
-}
-
-// What was read, and how many more bytes there are.
-fn whole(rt: HostRuntime, name: &[u8], file: &[u8], more: usize) -> Posts {
-    if more > 0 {
-        return too_long(rt, name);
-    }
-    if file.len() > 65535 {
-        return too_long(rt, name);
-    }
-    lines_in(rt, name, file)
-}
-
-pub fn read(rt: HostRuntime, name: &[u8]) -> Posts {
-    match files::open_read(rt, name) {
-        Ok(file) => file_in(rt, &file, name),
-        Err(why) => unread(rt, name, b"", why),
-    }
+    lines_in(&buf[..n])
 }

@@ -1,86 +1,59 @@
 // What is said on standard error. A message is made in a buffer of its own, since lines may wait in the output's, and written at once.
-use refusals::Refusal;
-use std::io;
-use text_pen::Pen;
+// Kept (6): fixed memory: a message has a buffer of a fixed length.
+use crate::posts::PostsError;
+use notation_endings::ending;
+use playing_nights::Unprepared;
+use program_parts::put_two;
+use program_parts::voice::Voice;
+use text_pen::Sheet;
+use text_written::put_decimal;
 
-// `replay: FILE`
-fn named(name: &[u8], out: &mut [u8]) -> Pen {
-    let p = text_pen::put(out, Pen { at: 0, full: false }, b"replay: ");
-    text_pen::put(out, p, name)
-}
+// The name that messages begin with.
+pub const PROGRAM: &[u8] = b"replay";
 
 // `replay: FILE: line N: `
-fn at_line(name: &[u8], line: u64, out: &mut [u8]) -> Pen {
-    let p = named(name, out);
-    let q = text_pen::put(out, p, b": line ");
-    let r = text_written::put_decimal(out, q, line);
-    text_pen::put(out, r, b": ")
+fn about_line(voice: &mut Voice, line: u64) {
+    voice.about(b": line ");
+    put_decimal(&mut voice.sheet, line);
+    voice.sheet.put(b": ");
 }
 
-// What the pen wrote.
-pub fn written(rt: HostRuntime, at: usize, out: &[u8]) {
-    if at <= out.len() {
-        console::say(rt, &out[0..at]);
+// Why the posts of a file are not set up. Of a set-up that is refused also the ending, in desk.md's words: `SETUP R<n>`.
+pub fn unprepared(rt: HostRuntime, name: &[u8], why: PostsError) {
+    let mut room = console::large_buffer();
+    let mut voice = Voice::new(rt, PROGRAM, name, &mut room);
+    match why {
+        PostsError::Opening(why) => {
+            voice.fail(b"", why);
+        }
+        PostsError::Reading(why) => {
+            voice.fail(b": reading", why);
+        }
+        PostsError::TooLong => {
+            voice.about(b"");
+            voice.end(b": longer than 65,535 bytes");
+        }
+        PostsError::NoSetup(line) => {
+            about_line(&mut voice, line);
+            voice.end(b"no setup POST CHANNEL VOLT CHG DIS W [SENSOR [IFACE]]");
+        }
+        PostsError::SetUp(line, Unprepared::Refused(why)) => {
+            about_line(&mut voice, line);
+            voice.sheet.put(b"the set-up is refused\n");
+            ending::set_up(&mut voice.sheet, why);
+            voice.end(b"");
+        }
+        PostsError::SetUp(_, Unprepared::Late) => {}
     }
-}
-
-fn failed(rt: HostRuntime, at: usize, why: io::Error, out: &[u8]) {
-    if at <= out.len() {
-        console::fail(rt, &out[0..at], why);
-    }
-}
-
-// A call on a file failed: what was being done, and the system's reason.
-pub fn fail(rt: HostRuntime, name: &[u8], doing: &[u8], why: io::Error) {
-    let mut out = console::large_buffer();
-    let p = named(name, &mut out);
-    let q = text_pen::put(&mut out, p, doing);
-    failed(rt, q.at, why, &out);
-}
-
-pub fn changed(rt: HostRuntime, name: &[u8]) {
-    let mut out = console::large_buffer();
-    let p = named(name, &mut out);
-    let q = text_pen::put(&mut out, p, b": the file changed while it was read\n");
-    written(rt, q.at, &out);
-}
-
-pub fn too_long(rt: HostRuntime, name: &[u8]) {
-    let mut out = console::large_buffer();
-    let p = named(name, &mut out);
-    let q = text_pen::put(&mut out, p, b": longer than 65,535 bytes\n");
-    written(rt, q.at, &out);
-}
-
-pub fn no_setup(rt: HostRuntime, name: &[u8], line: u64) {
-    let mut out = console::large_buffer();
-    let p = at_line(name, line, &mut out);
-    let q = text_pen::put(
-        &mut out,
-        p,
-        b"no setup POST CHANNEL VOLT CHG DIS W [SENSOR [IFACE]]\n",
-    );
-    written(rt, q.at, &out);
-}
-
-// The line, and the ending in desk.md's words: `SETUP R<n>`.
-pub fn refused(rt: HostRuntime, name: &[u8], line: u64, why: Refusal) {
-    let mut out = console::large_buffer();
-    let p = at_line(name, line, &mut out);
-    let q = text_pen::put(&mut out, p, b"the set-up is refused\n");
-    let r = notation_endings::ending::set_up(&mut out, q, why);
-    let t = notation_answers::answer::line_end(&mut out, r);
-    written(rt, t.at, &out);
 }
 
 // How far a long log is, on a line that the next one goes over.
 pub fn progress(rt: HostRuntime, records: u64, at: u64) {
-    let mut out = console::buffer();
-    let p = text_pen::put(&mut out, Pen { at: 0, full: false }, b"\rreplay: ");
-    let q = text_written::put_decimal(&mut out, p, records);
-    let r = text_pen::put(&mut out, q, b" records, byte ");
-    let t = text_written::put_decimal(&mut out, r, at);
-    written(rt, t.at, &out);
+    let mut room = console::buffer();
+    let mut said = Sheet::new(&mut room);
+    said.put(b"\rreplay: ");
+    put_two(&mut said, records, b" records, byte ", at);
+    console::say(rt, program_parts::text(&said));
 }
 
 pub fn wipe(rt: HostRuntime) {

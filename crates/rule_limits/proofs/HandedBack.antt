@@ -2,10 +2,11 @@
 use mathlib.Core.Path.{◌≡◌, refl}
 use Rattle.page_table.specs.declared.Interface.{Interface}
 use Rattle.page_table.specs.declared.Interface.TheVariants.{Newer, Older}
+use Rattle.page_table.specs.Interfaces.{interface_number, interface_of}
 use Rattle.rule_limits.specs.declared.Sensor.{Sensor}
 use Rattle.rule_limits.specs.declared.Sensor.TheVariants.{Measuring, YesNo}
 use Rattle.rule_limits.specs.declared.Limits.{Limits}
-use Rattle.rule_limits.specs.Sensor.{sensor_number, sensor_of, interface_number, interface_of, plain_of, limits_of}
+use Rattle.rule_limits.specs.Sensor.{sensor_number, sensor_of, plain_of, limits_of}
 
 sensor_back : (x : Sensor) → sensor_of (sensor_number x) ≡ x
 sensor_back Measuring = refl

@@ -1,73 +1,59 @@
 // Limits as they are handed in and out, and as a post keeps them.
+// Kept (2): the sensor kind here and the interface in page_table are two types with two cases each, and each has its own number for them: a function over both
+// would need both tables all the same.
 ghost use Rattle.std.specs.Prelude.{◌≡◌};
-ghost use Rattle.rule_limits.specs.Sensor.{sensor_number, sensor_of, interface_number, interface_of, plain_of, limits_of};
+ghost use Rattle.rule_limits.specs.Sensor.{sensor_number, sensor_of, plain_of, limits_of};
 
 use crate::{Interface, Limits, PlainLimits, Sensor};
 
-pub fn sensor_number(x: Sensor) -> u32
-    ensures { result ≡ sensor_number x }
-{
-    match x {
-        Sensor::Measuring => 0,
-        Sensor::YesNo => 1,
+impl From<Sensor> for u32 {
+    ghost from_gives = { λ x n. n ≡ sensor_number x };
+
+    fn from(x: Sensor) -> u32 {
+        x as u32
     }
 }
 
-pub fn sensor_of(n: u32) -> Sensor
-    ensures { result ≡ sensor_of n }
-{
-    if n == 1 {
-        Sensor::YesNo
-    } else {
-        Sensor::Measuring
+// Set-up lets no number but 0 and 1 in.
+impl From<u32> for Sensor {
+    ghost from_gives = { λ n x. x ≡ sensor_of n };
+
+    // Kept (4): the conversion itself, by `From`; every other number is the first kind (`sensor_of`), so that it is no `TryFrom`.
+    fn from(n: u32) -> Sensor {
+        if n == 1 {
+            Sensor::YesNo
+        } else {
+            Sensor::Measuring
+        }
     }
 }
 
-pub fn interface_number(x: Interface) -> u32
-    ensures { result ≡ interface_number x }
-{
-    match x {
-        Interface::Newer => 0,
-        Interface::Older => 1,
+impl From<Limits> for PlainLimits {
+    ghost from_gives = { λ l p. p ≡ plain_of l };
+
+    fn from(l: Limits) -> PlainLimits {
+        PlainLimits {
+            voltage: l.voltage,
+            charge: l.charge,
+            discharge: l.discharge,
+            silence: l.silence,
+            sensor: u32::from(l.sensor),
+            interface: u32::from(l.interface),
+        }
     }
 }
 
-pub fn interface_of(n: u32) -> Interface
-    ensures { result ≡ interface_of n }
-{
-    if n == 1 {
-        Interface::Older
-    } else {
-        Interface::Newer
-    }
-}
+impl From<PlainLimits> for Limits {
+    ghost from_gives = { λ p l. l ≡ limits_of p };
 
-pub fn plain(l: Limits) -> PlainLimits
-    ensures { result ≡ plain_of l }
-{
-    let x = l.sensor;
-    let i = l.interface;
-    PlainLimits {
-        voltage: l.voltage,
-        charge: l.charge,
-        discharge: l.discharge,
-        silence: l.silence,
-        sensor: sensor_number(x),
-        interface: interface_number(i),
-    }
-}
-
-pub fn limits_in(l: PlainLimits) -> Limits
-    ensures { result ≡ limits_of l }
-{
-    let sensor = sensor_of(l.sensor);
-    let interface = interface_of(l.interface);
-    Limits {
-        voltage: l.voltage,
-        charge: l.charge,
-        discharge: l.discharge,
-        silence: l.silence,
-        sensor,
-        interface,
+    fn from(p: PlainLimits) -> Limits {
+        Limits {
+            voltage: p.voltage,
+            charge: p.charge,
+            discharge: p.discharge,
+            silence: p.silence,
+            sensor: Sensor::from(p.sensor),
+            interface: Interface::from(p.interface),
+        }
     }
 }

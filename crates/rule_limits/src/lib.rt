@@ -1,5 +1,7 @@
 // A post's limits: how they are handed in and out and how a post keeps them, the ranges that set-up takes, and what a received number makes of a default.
 // For the rules and for every crate that hands limits on.
+#![tactic(auto)]
+
 ghost use Rattle.std.specs.Prelude.{◌≡◌};
 ghost use Rattle.rule_limits.specs.Limits.{limits_fit, capped};
 
@@ -10,8 +12,8 @@ pub mod kept; // kept.rt: limits as they are handed in and out, and as they are 
 // 02, Req 03: an insulation sensor that measures, or one that only knows yes and no.
 #[derive(Clone, Copy)]
 pub enum Sensor {
-    Measuring,
-    YesNo,
+    Measuring = 0,
+    YesNo = 1,
 }
 
 // Default voltage in tenths of a volt, default charge and discharge current in tenths of an ampere, power module silence W in ms, the sensor kind, and the
@@ -28,7 +30,7 @@ pub struct Limits {
 
 // The same as a post keeps them: the sensor kind and the interface by their numbers.
 #[repr(C)]
-#[derive(Clone, Copy)]
+#[derive(Clone, Copy, Default)]
 pub struct PlainLimits {
     pub voltage: u32,
     pub charge: u32,
@@ -39,34 +41,16 @@ pub struct PlainLimits {
 }
 
 // Set-up's 12 is given where they do not fit.
+#[tactic(auto, unfolding(crate::specs::Limits::limits_fit))]
 pub fn limits_fit(lim: PlainLimits) -> bool
     ensures { result ≡ limits_fit lim }
 {
-    if lim.voltage < 1 {
-        return false;
-    }
-    if 65535 < lim.voltage {
-        return false;
-    }
-    if lim.charge < 1 {
-        return false;
-    }
-    if 32767 < lim.charge {
-        return false;
-    }
-    if 32767 < lim.discharge {
-        return false;
-    }
-    if lim.silence < 100 {
-        return false;
-    }
-    if 60000 < lim.silence {
-        return false;
-    }
-    if 1 < lim.sensor {
-        return false;
-    }
-    lim.interface <= 1
+    (1..=65535).contains(&lim.voltage)
+        && (1..=32767).contains(&lim.charge)
+        && lim.discharge <= 32767
+        && (100..=60000).contains(&lim.silence)
+        && lim.sensor <= 1
+        && lim.interface <= 1
 }
 
 // The default and the number that was received.
@@ -74,8 +58,8 @@ pub fn cap(most: u32, got: u16) -> u32
     ensures { result ≡ capped most got }
 {
     if got == 0 {
-        return most;
+        most
+    } else {
+        most.min(u32::from(got))
     }
-    let g = got as u32;
-    if g < most { g } else { most }
 }

@@ -3,9 +3,10 @@ use Prim.Native.Nat.{ℕ}
 use mathlib.Core.Path.{◌≡◌, refl}
 use mathlib.Core.Bool.{Bool, true, false, cond}
 use lib.Dec.{eqb}
-use Rattle.page_table.specs.Table.{rows, rows_of, of_kind}
+use Rattle.page_table.specs.Table.{rows, of_kind}
 use Rattle.page_write.specs.Raws.{wholes_of, pad, raws_of}
 use Rattle.message_fields.specs.Fields.{at}
+use Rattle.message_parts.specs.Watched.{status_of}
 use Rattle.message_parts.specs.Parts.{status_in, session_in}
 use Rattle.older_types.specs.KindNumbers as older
 use Rattle.older_power.specs.Build as page
@@ -15,7 +16,7 @@ pub status_alike : (k n : ℕ) → status_by k n ≡ status_in n
 unfolding status_by status_in raws_of rows of_kind wholes_of pad
 status_alike k n = go (eqb k older.status_kind)
   where
-    go : (b : Bool) → cond b (same_status (page.status_of (at (raws_of older.status_kind n)))) (status_in n) ≡ status_in n
+    go : (b : Bool) → cond b (same_status (status_of (at (raws_of older.status_kind n)))) (status_in n) ≡ status_in n
     go true = refl
     go false = refl
 

@@ -1,5 +1,4 @@
 -- 02, Req 11 and 14 on both sides of each point: what a frame of 001, and an Emergency_Stop of either, says to the rules, closed by computing.
-use Prim.Native.Nat.{ℕ}
 use mathlib.Core.Path.{◌≡◌, refl}
 use Rattle.signal.specs.Signal.{get_bits}
 use Rattle.signal.specs.Twos.{to_signed}

@@ -11,8 +11,8 @@ use Rattle.older_types.specs.message_types.specs.declared.PowerFunction.TheVaria
 use Rattle.older_types.specs.message_types.specs.declared.SetpointsMode.TheVariants.{TargetMode}
 use Rattle.older_types.specs.message_types.specs.declared.OutputContactors.TheVariants.{Open}
 use Rattle.older_types.specs.message_types.specs.declared.LowerOutput.TheVariants.{NoLowering}
+use Rattle.message_parts.specs.Watched.{status_of}
 use Rattle.message_parts.specs.Parts.{status_in, parameters_in, session_in, control_in}
-use Rattle.older_types.specs.declared.PowerModulesStatus as older_status
 use Rattle.older_types.specs.declared.NewChargeSession as older_session
 use Rattle.older_types.specs.declared.PowerModulesLimits.{PowerModulesLimits}
 use Rattle.older_types.specs.KindNumbers as older
@@ -20,7 +20,7 @@ use Rattle.older_power.specs.Build as page
 
 -- ---- Power_Modules_Status, field by field
 
-abbrev pub same_status : older_status.PowerModulesStatus → PowerModulesStatus
+abbrev pub same_status : PowerModulesStatus → PowerModulesStatus
 same_status s =
     record {
       voltage = s.voltage;
@@ -32,7 +32,7 @@ same_status s =
     }
 
 unfoldable pub status_by : ℕ → ℕ → PowerModulesStatus
-status_by k n = cond (eqb k older.status_kind) (same_status (page.status_of (at (raws_of older.status_kind n)))) (status_in n)
+status_by k n = cond (eqb k older.status_kind) (same_status (status_of (at (raws_of older.status_kind n)))) (status_in n)
 
 -- ---- New_Charge_Session: "F10 compares protocol and plug only"
 

@@ -1,16 +1,18 @@
 // What a frame is to 01's rules, whichever interface's pages it is read by (02, Req 11): which of their questions it answers, what it then says in the words of
 // 000, and where a post keeps the latest of its kind. So that each rule is one text for posts of either interface. For the rules and the post's step.
+#![tactic(auto)]
+
 ghost use Rattle.std.specs.Prelude.{◌≡◌};
 ghost use Rattle.message_fields.specs.Fields.{word_of};
 ghost use Rattle.rule_pages.specs.Roles.{role_of};
 ghost use Rattle.rule_pages.specs.Said.{status_by, opening_by, told_by, limits_in, limits_by, acting, command_by};
 ghost use Rattle.rule_pages.specs.Places.{place_by};
 
-use message_fields::{short_raw, word};
+use message_fields::word;
 use older_types::message_types::{
     CONTROL, CONTROLLER, DcPowerControl, DcPowerParameters, FINISHED, LowerOutput,
     NewChargeSession, OutputContactors, PARAMETERS, PowerFunction, PowerModulesStatus, SESSION,
-    STATUS, STOP, SetpointsMode,
+    STATUS, STOP, SetpointsMode, padded,
 };
 use older_types::{PowerModulesLimits, message_types};
 
@@ -19,6 +21,7 @@ pub const PLACES: usize = 25;
 
 // ---- what a frame is asked for
 
+// `Other` is a role as the rest are: as an `Option<Role>` no plainer, since every match on what a frame is would name a case within a case.
 #[derive(Clone, Copy)]
 pub enum Role {
     Other,
@@ -31,31 +34,30 @@ pub enum Role {
     Stop,
 }
 
-pub fn role_of(kind: usize) -> Role
-    ensures { result ≡ role_of kind }
-{
-    match kind {
-        STATUS => Role::Status,
-        PARAMETERS => Role::Limits,
-        CONTROLLER => Role::Controller,
-        SESSION => Role::Opening,
-        CONTROL => Role::Command,
-        FINISHED => Role::Finished,
-        STOP => Role::Stop,
-        older_types::STATUS => Role::Status,
-        older_types::LIMITS => Role::Limits,
-        older_types::CONTROLLER => Role::Controller,
-        older_types::SESSION => Role::Opening,
-        older_types::INSULATION => Role::Command,
-        older_types::PRECHARGE => Role::Command,
-        older_types::CHARGING => Role::Command,
-        older_types::FINISHED => Role::Finished,
-        older_types::STOP => Role::Stop,
-        _ => Role::Other,
+// The role of a kind.
+impl From<usize> for Role {
+    ghost from_gives = { λ kind r. r ≡ role_of kind };
+
+    // Kept (4): the conversion itself, by `From`.
+    #[tactic(auto, unfolding(crate::specs::Roles::role_of))]
+    fn from(kind: usize) -> Role {
+        match kind {
+            STATUS | older_types::STATUS => Role::Status,
+            PARAMETERS | older_types::LIMITS => Role::Limits,
+            CONTROLLER | older_types::CONTROLLER => Role::Controller,
+            SESSION | older_types::SESSION => Role::Opening,
+            CONTROL | older_types::INSULATION | older_types::PRECHARGE | older_types::CHARGING => {
+                Role::Command
+            }
+            FINISHED | older_types::FINISHED => Role::Finished,
+            STOP | older_types::STOP => Role::Stop,
+            _ => Role::Other,
+        }
     }
 }
 
 // ---- what it says
+// Kept (5): kind and number go apart: docs/PROMISES.md names the four functions of what a frame says, and theirs are the two that an event and a slot have.
 
 // Both documents lay Power_Modules_Status out alike, and protocol and plug of New_Charge_Session: one reading serves both (proofs/Alike.antt).
 pub fn status_by(kind: usize, number: u64) -> PowerModulesStatus
@@ -74,7 +76,7 @@ pub fn opening_by(kind: usize, number: u64) -> NewChargeSession
 fn positive(z: i16) -> u16
     ensures { result ≡ word_of z }
 {
-    word(short_raw(z))
+    word(i64::from(z))
 }
 
 fn told(m: PowerModulesLimits) -> DcPowerParameters
@@ -88,38 +90,31 @@ fn told(m: PowerModulesLimits) -> DcPowerParameters
     }
 }
 
+// Kept (4): a payload number says no kind, so that no `From` of it could know whose message it is.
+// Kept (3): each place is written out, so that it is a constant, as in `message_parts`.
+#[tactic(auto, unfolding(crate::specs::Said::limits_in, page_write::specs::Raws::pad))]
 fn limits_in(number: u64) -> PowerModulesLimits
     ensures { result ≡ limits_in number }
 {
-    older_power::build::limits([
+    older_power::build::limits(padded([
         page_write::raw_of(older_types::LIMITS, 0, number),
         page_write::raw_of(older_types::LIMITS, 1, number),
         page_write::raw_of(older_types::LIMITS, 2, number),
-        0,
-        0,
-        0,
-        0,
-        0,
-        0,
-        0,
-        0,
-        0,
-        0,
-        0,
-        0,
-        0,
-    ])
+    ]))
 }
 
+#[tactic(auto, unfolding(crate::specs::Said::limits_by))]
 pub fn limits_by(kind: usize, number: u64) -> DcPowerParameters
     ensures { result ≡ limits_by kind number }
 {
     if kind == older_types::LIMITS {
-        return told(limits_in(number));
+        told(limits_in(number))
+    } else {
+        message_parts::parameters_in(number)
     }
-    message_parts::parameters_in(number)
 }
 
+// Every field is named, as no label of the papers is one by default.
 fn acting_as(f: PowerFunction) -> DcPowerControl
     ensures { result ≡ acting f }
 {
@@ -135,35 +130,34 @@ fn acting_as(f: PowerFunction) -> DcPowerControl
     }
 }
 
+#[tactic(auto, unfolding(crate::specs::Said::command_by))]
 pub fn command_by(kind: usize, number: u64) -> DcPowerControl
     ensures { result ≡ command_by kind number }
 {
-    if kind == older_types::INSULATION {
-        return acting_as(PowerFunction::InsulationTest);
+    match kind {
+        older_types::INSULATION => acting_as(PowerFunction::InsulationTest),
+        older_types::PRECHARGE => acting_as(PowerFunction::Precharge),
+        older_types::CHARGING => acting_as(PowerFunction::PowerTransfer),
+        _ => message_parts::control_in(number),
     }
-    if kind == older_types::PRECHARGE {
-        return acting_as(PowerFunction::Precharge);
-    }
-    if kind == older_types::CHARGING {
-        return acting_as(PowerFunction::PowerTransfer);
-    }
-    message_parts::control_in(number)
 }
 
 // ---- where the latest frame of its kind is kept
 
 // A number that is no kind has no place: PLACES or more.
+// Kept (1): a number and no `Option`: docs/PROMISES.md names it with its clause, `stored` of the specs and the theorems on each place (`latest_shown_lem`)
+// have it so, and who stores a frame tests the number alone.
+#[tactic(auto, unfolding(crate::specs::Places::place_by))]
 pub fn place_by(kind: usize) -> usize
     ensures { result ≡ place_by kind }
 {
     if kind < older_types::STATUS {
-        return kind;
+        kind
+    } else if kind < older_types::STOP {
+        kind - older_types::STATUS
+    } else if kind < message_types::SEQUENCE {
+        kind - message_types::SAFETY_CONTROL
+    } else {
+        older_types::STATUS + (kind - message_types::SEQUENCE)
     }
-    if kind < older_types::STOP {
-        return kind - older_types::STATUS;
-    }
-    if kind < message_types::SEQUENCE {
-        return kind - message_types::SAFETY_CONTROL;
-    }
-    older_types::STATUS + (kind - message_types::SEQUENCE)
 }

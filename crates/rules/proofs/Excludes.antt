@@ -1,5 +1,4 @@
 -- Which findings exclude each other: with no session open the rules that ask for one find nothing, and with one open the rules that ask for none.
-use Prim.Native.Nat.{ℕ}
 use mathlib.Core.Path.{◌≡◌, refl}
 use mathlib.Core.Bool.{Bool, true, false, ◌&&◌}
 use mathlib.Core.Option.{Option, none, some}

@@ -8,7 +8,6 @@ use mathlib.Core.Option.{Option, none, some}
 use lib.Dec.{ltb}
 use Rattle.older_types.specs.message_types.specs.declared.DcPowerParameters.{DcPowerParameters}
 use Rattle.older_types.specs.message_types.specs.declared.NewChargeSession.{NewChargeSession}
-use Rattle.message_build.specs.message_parts.specs.Parts.{session_in}
 use Rattle.rule_limits.specs.declared.PlainLimits.{PlainLimits}
 use Rattle.rule_pages.specs.declared.Role.{Role}
 use Rattle.rule_pages.specs.declared.Role.TheVariants.{Other, Status, Limits, Controller, Opening, Command, Finished, Stop}

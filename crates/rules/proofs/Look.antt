@@ -1,8 +1,9 @@
 -- The inner step is looking back over one event more: a head that stands for a history goes to the one that stands for the longer history,
 -- and its findings and its post's record are 01's.
-use Prim.Native.Nat.{ℕ, ◌+◌, ◌%◌, ◌<◌}
+use Rattle.std.specs.Prelude as std
+use Prim.Native.Nat.{ℕ, ◌<◌}
 use native.Mathlib.Omega.{arith}
-use mathlib.Core.Path.{◌≡◌, refl, sym, ◌∙◌}
+use mathlib.Core.Path.{◌≡◌, refl, sym}
 use mathlib.Core.List.{List, [], ◌∷◌, map}
 use mathlib.Core.Bool.{Bool, true, false, cond}
 use mathlib.Core.Option.{Option, none, some}
@@ -15,13 +16,13 @@ use Rattle.rule_pages.specs.Roles.{role_of}
 use Rattle.rule_pages.specs.Places.{place_by}
 use Rattle.rule_pages.proofs.Alike.{opening_alike}
 use Rattle.rule_limits.specs.declared.PlainLimits.{PlainLimits}
-use Rattle.rules.specs.declared.Latest.{Latest}
+use Rattle.rules.specs.declared.Dated.{Dated}
 use Rattle.rules.specs.History.{frame, tick, History, Said, role_number, asked, newest, since_finished, opening, in_session, count_from}
 use Rattle.rules.specs.Times.{earlier_in, stamp_of, latest_time, Unrolled}
 use Rattle.rules.specs.Rules.{session_status, session_control, session_stop, findings01}
-use Rattle.rules.specs.Counts.{times_found, tallies_of, counts_of, is_full}
-use Rattle.rules.specs.Record.{place_count, dated_of, at_place, last_of, part_of, latest_of, kept_shown, record_as_of, record_of, unknown, slot_at, slot_of, kept_of, session_of, session01, head_at, head_of, latests, post_of}
-use Rattle.rules.specs.After.{stamp_in, put_for, aged_to, with_frame, is_early, counted, is_full_in, tally_in, finding_count, with_counts, after_tick, after_frame, keep_in, stored, fresh_post, latest_in, dated_in, shown_in, part_in, kept_latest, last_in, post_record}
+use Rattle.rules.specs.Counts.{tallies_of, counts_of, is_full}
+use Rattle.rules.specs.Record.{place_count, dated_of, at_place, last_of, part_of, kept_shown, record_as_of, record_of, unknown, slot_at, slot_of, kept_of, session_of, session01, head_at, head_of, latests, post_of}
+use Rattle.rules.specs.After.{stamp_in, put_for, aged_to, with_frame, is_early, counted, is_full_in, with_counts, after_tick, after_frame, keep_in, stored, fresh_post, latest_in, dated_in, part_in, kept_latest, last_in, post_record}
 use Rattle.rules.proofs.Counted.{count_at, count_same, count_set}
 use Rattle.rules.proofs.SessionLook.{session_stays, session_frame}
 use Rattle.rules.proofs.FindingsLook.{findings_tick, findings_frame}
@@ -115,11 +116,11 @@ module _ (c : ℕ) (lim : PlainLimits) where
   unfolding latests
   latest-look h k lt = count_at (λ i. slot_of (newest (at_place i) h)) unknown k 0 place_count k (omega arith) lt
 
-  abbrev at_place_lem : ℕ → History → ℕ → Latest
-  at_place_lem now h k = shown_in now (latest_in (post_of c lim h) k)
+  abbrev at_place_lem : ℕ → History → ℕ → std.Option Dated
+  at_place_lem now h k = dated_in now (latest_in (post_of c lim h) k)
 
-  abbrev of_place : ℕ → History → ℕ → Latest
-  of_place now h k = latest_of now (newest (at_place k) h)
+  abbrev of_place : ℕ → History → ℕ → std.Option Dated
+  of_place now h k = dated_of now (newest (at_place k) h)
 
   messages-look : (now : ℕ) (h : History) → map (at_place_lem now h) (count_from 0 place_count) ≡ map (of_place now h) (count_from 0 place_count)
   messages-look now h =

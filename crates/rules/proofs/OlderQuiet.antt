@@ -11,7 +11,7 @@ use Rattle.older_types.specs.KindNumbers as older
 use Rattle.rule_limits.specs.declared.PlainLimits.{PlainLimits}
 use Rattle.rule_asks.specs.Judgements.{lowers_badly}
 use Rattle.rule_pages.specs.declared.Role.{Role}
-use Rattle.rule_pages.specs.declared.Role.TheVariants.{Other, Status, Limits, Controller, Opening, Command, Finished, Stop}
+use Rattle.rule_pages.specs.declared.Role.TheVariants.{Other, Status, Limits, Controller, Opening, Finished, Stop}
 use Rattle.rule_pages.specs.Roles.{role_of}
 use Rattle.rule_pages.specs.Said.{command_by}
 use Rattle.rules.specs.History.{frame, History, role_number, command_of}

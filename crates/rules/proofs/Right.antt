@@ -1,7 +1,6 @@
 -- A post's step and its record, each with its second promise: it follows from the first by looking back.
 use Prim.Native.Nat.{ℕ}
 use mathlib.Core.Path.{◌≡◌, refl, ap, sym, subst, ◌∙◌}
-use mathlib.Core.List.{◌∷◌}
 use mathlib.Core.Bool.{false}
 use Rattle.rule_limits.specs.declared.PlainLimits.{PlainLimits}
 use Rattle.rules.specs.declared.Head.{Head}

@@ -2,8 +2,8 @@
 -- and from the session's end on none has it until the next stop.
 use Prim.Native.Nat.{ℕ}
 use mathlib.Core.Path.{◌≡◌, refl, sym}
-use mathlib.Core.List.{List, [], ◌∷◌, ◌++◌}
-use mathlib.Core.Bool.{Bool, true, false, ◌&&◌, true≢false}
+use mathlib.Core.List.{[], ◌∷◌, ◌++◌}
+use mathlib.Core.Bool.{true, false, true≢false}
 use mathlib.Core.Option.{Option, none, some}
 use Rattle.message_build.specs.message_parts.specs.Parts.{session_kind, control_kind, finished_kind, control_in}
 use Rattle.older_types.specs.message_types.specs.KindNumbers.{stop_kind}
@@ -17,7 +17,7 @@ use Rattle.rule_pages.specs.declared.Role.TheVariants.{Finished, Stop}
 use Rattle.rule_pages.specs.Roles.{role_of}
 use Rattle.rule_pages.specs.Said.{command_by}
 use Rattle.rules.specs.History.{Event, frame, tick, History, Said, said_at, first, newest, oldest, unless, only_if, since_newest, after_oldest, command_of, opening_of, finished_of, stop_of, since_finished, opening, in_session}
-use Rattle.rules.specs.Rules.{ask, is_open, session_stop, is_stopped, f12}
+use Rattle.rules.specs.Rules.{is_open, session_stop, is_stopped, f12}
 use Rattle.rules.proofs.Excludes.{and_false, ask_false}
 
 -- ---- one event more

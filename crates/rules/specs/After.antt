@@ -1,7 +1,7 @@
 -- Inner step: a post's head after one event more, and the event's findings, as the code takes them.
 -- The first promise of an operation, by_record, is in these words; the second, by_history, is in those of looking back:
 -- `frame-look` and `tick-look` make the two one.
-use Rattle.std.specs.Prelude.{ℕ, suc, ◌+◌, ◌*◌, ◌/◌, ◌%◌, max, List, [], ◌∷◌, map, Bool, true, cond, not, ◌&&◌, ltb, leb, eqb, get_or, set, replicate}
+use Rattle.std.specs.Prelude.{Option, Some, None, ℕ, suc, ◌+◌, ◌*◌, ◌/◌, ◌%◌, max, List, [], ◌∷◌, map, Bool, true, cond, not, ◌&&◌, ltb, leb, eqb, get_or, set, replicate}
 use Rattle.older_types.specs.message_types.specs.declared.DcPowerParameters.{DcPowerParameters}
 use Rattle.older_types.specs.message_types.specs.declared.DcPowerControl.{DcPowerControl}
 use Rattle.older_types.specs.message_types.specs.declared.PowerModulesStatus.{PowerModulesStatus}
@@ -21,13 +21,9 @@ use Rattle.rules.specs.declared.Session.{Session}
 use Rattle.rules.specs.declared.Head.{Head}
 use Rattle.rules.specs.declared.Post.{Post}
 use Rattle.rules.specs.declared.AfterEvent.{AfterEvent}
-use Rattle.rules.specs.declared.LastTime.{LastTime}
-use Rattle.rules.specs.declared.LastTime.TheVariants as last
+use Rattle.rules.specs.LastTime.{LastTime}
 use Rattle.rules.specs.declared.Dated.{Dated}
-use Rattle.rules.specs.declared.Dated.TheVariants as dated
-use Rattle.rules.specs.declared.Latest.{Latest}
-use Rattle.rules.specs.declared.SessionPart.{SessionPart}
-use Rattle.rules.specs.declared.SessionPart.TheVariants as part
+use Rattle.rules.specs.SessionPart.{SessionPart}
 use Rattle.rules.specs.declared.Record.{Record}
 use Rattle.rules.specs.History.{role_number, count_from}
 use Rattle.rules.specs.Times.{received_of, wrapped, earlier, elapsed, age_of}
@@ -284,33 +280,30 @@ fresh_post c lim = new_post 1 c lim
 abbrev pub latest_in : Post → ℕ → Slot
 latest_in p j = get_or p.latest j unknown
 
-abbrev pub dated_in : ℕ → Slot → Dated
-dated_in now l = cond (is_set l.known) (dated_at (received_of l.time) (age_of now l.time) l.kind l.raw) dated.Nothing
-
-abbrev pub shown_in : ℕ → Slot → Latest
-shown_in now l = record { message = dated_in now l }
+abbrev pub dated_in : ℕ → Slot → Option Dated
+dated_in now l = cond (is_set l.known) (Some (dated_at (received_of l.time) (age_of now l.time) l.kind l.raw)) None
 
 abbrev pub part_in : ℕ → Session → SessionPart
 part_in now s =
     cond (is_set s.opened)
-    (part.Opened
+    (Some
     (record {
       since = received_of s.since;
       age = age_of now s.since;
       protocol = (session_in s.first).protocol;
       plug = (session_in s.first).plug;
     }))
-    part.Closed
+    None
 
 -- 01: "With no session open all of the session's part is none."
 abbrev pub open_kept : Session → ℕ → Slot
 open_kept s j = cond (is_set s.opened) (kept_in s j) unknown
 
-abbrev pub kept_latest : ℕ → Session → List Latest
-kept_latest now s = map (λ j. shown_in now (open_kept s j)) (count_from 0 kept_count)
+abbrev pub kept_latest : ℕ → Session → List (Option Dated)
+kept_latest now s = map (λ j. dated_in now (open_kept s j)) (count_from 0 kept_count)
 
 abbrev pub last_in : Head → LastTime
-last_in p = cond (is_set p.heard) (last.At (received_of p.time)) last.Never
+last_in p = cond (is_set p.heard) (Some (received_of p.time)) None
 
 unfoldable pub post_record : Post → Record
 post_record p =
@@ -318,7 +311,7 @@ post_record p =
       channel = p.head.channel;
       limits = limits_of p.head.limits;
       last = last_in p.head;
-      latest = map (λ j. shown_in p.head.time (latest_in p j)) (count_from 0 place_count);
+      latest = map (λ j. dated_in p.head.time (latest_in p j)) (count_from 0 place_count);
       session = part_in p.head.time p.head.session;
       kept = kept_latest p.head.time p.head.session;
       accepted = accepted_by p.head;

@@ -5,7 +5,8 @@
 -- With no session open all of the session's part is none." 02, Req 08: and the counts of what was accepted and found; Req 14: "the record's session part
 -- keeps the stop".
 -- 02, Req 09: "the record keeps times as received and ages beside them".
-use Rattle.std.specs.Prelude.{ℕ, List, [], ◌∷◌, map, Bool, true, false, cond, eqb, length}
+use Rattle.std.specs.Prelude as std
+use Rattle.std.specs.Prelude.{ℕ, List, [], ◌∷◌, map, Bool, true, false, cond, eqb, length, Some, None}
 use Rattle.std.proofs.Math.Option.{Option, none, some}
 use Rattle.page_table.specs.declared.Interface.TheVariants.{Newer}
 use Rattle.page_table.specs.Interfaces.{is_on}
@@ -22,13 +23,10 @@ use Rattle.rules.specs.declared.Slot.{Slot}
 use Rattle.rules.specs.declared.Session.{Session}
 use Rattle.rules.specs.declared.Head.{Head}
 use Rattle.rules.specs.declared.Post.{Post}
-use Rattle.rules.specs.declared.LastTime.{LastTime}
-use Rattle.rules.specs.declared.LastTime.TheVariants as last
+use Rattle.rules.specs.LastTime.{LastTime}
 use Rattle.rules.specs.declared.Dated.{Dated}
 use Rattle.rules.specs.declared.Dated.TheVariants as dated
-use Rattle.rules.specs.declared.Latest.{Latest}
-use Rattle.rules.specs.declared.SessionPart.{SessionPart}
-use Rattle.rules.specs.declared.SessionPart.TheVariants as part
+use Rattle.rules.specs.SessionPart.{SessionPart}
 use Rattle.rules.specs.declared.Record.{Record}
 use Rattle.rules.specs.History.{Event, frame, tick, History, Said, said_at, time_of, newest, status_of, command_of, limits_told, controller_of, stop_of, opening, in_session, count_from}
 use Rattle.rules.specs.Times.{received_of, latest_time, age_of}
@@ -41,9 +39,9 @@ use Rattle.rules.specs.Counts.{tallies_of, counts_of}
 unfoldable pub dated_at : ℕ → ℕ → ℕ → ℕ → Dated
 dated_at time age k raw = cond (is_on Newer k) (dated.At time age (message_of k raw)) (dated.OlderAt time age (older.message_of k raw))
 
-abbrev pub dated_of : ℕ → Option Said → Dated
-dated_of now none = dated.Nothing
-dated_of now (some m) = dated_at (received_of m.time) (age_of now m.time) m.kind m.raw
+abbrev pub dated_of : ℕ → Option Said → std.Option Dated
+dated_of now none = std.None
+dated_of now (some m) = std.Some (dated_at (received_of m.time) (age_of now m.time) m.kind m.raw)
 
 -- a frame of a kind that has the place j: on a post, whose frames are of one interface, the kind itself (`own-latest`, watch_rules)
 abbrev pub at_place : ℕ → Event → Option Said
@@ -51,14 +49,14 @@ at_place j (frame t k raw) = cond (eqb (place_by k) j) (some (said_at t k raw)) 
 at_place j (tick t) = none
 
 abbrev pub last_of : History → LastTime
-last_of [] = last.Never
-last_of (e ∷ h) = last.At (received_of (time_of e))
+last_of [] = None
+last_of (e ∷ h) = Some (received_of (time_of e))
 
 -- the session that is open, by what opened it
 abbrev pub part_of : ℕ → Option Said → SessionPart
-part_of now none = part.Closed
+part_of now none = None
 part_of now (some o) =
-    part.Opened
+    Some
     (record {
       since = received_of o.time;
       age = age_of now o.time;
@@ -67,12 +65,9 @@ part_of now (some o) =
     })
 
 -- the latest status, control and stop accepted in it, and none of them with no session open
-abbrev pub latest_of : ℕ → Option Said → Latest
-latest_of now o = record { message = dated_of now o }
-
-abbrev pub kept_shown : ℕ → Option Said → List (Option Said) → List Latest
-kept_shown now none ks = map (λ (o : Option Said). latest_of now none) ks
-kept_shown now (some o) ks = map (latest_of now) ks
+abbrev pub kept_shown : ℕ → Option Said → List (Option Said) → List (std.Option Dated)
+kept_shown now none ks = map (λ (o : Option Said). dated_of now none) ks
+kept_shown now (some o) ks = map (dated_of now) ks
 
 unfoldable pub record_as_of : ℕ → PlainLimits → ℕ → History → Record
 record_as_of c lim now h =
@@ -80,7 +75,7 @@ record_as_of c lim now h =
       channel = c;
       limits = limits_of lim;
       last = last_of h;
-      latest = map (λ j. latest_of now (newest (at_place j) h)) (count_from 0 place_count);
+      latest = map (λ j. dated_of now (newest (at_place j) h)) (count_from 0 place_count);
       session = part_of now (opening h);
       kept = kept_shown now (opening h) (session_status h ∷ session_control h ∷ session_stop h ∷ []);
       accepted = length h;

@@ -1,6 +1,6 @@
 -- 02, Req 09: "The clock comes round." Times are received in 32 bits and start over after 49.7 days; "Demand 3's history uses the unrolled times",
 -- which do not. Only `wrapped`, and with it "earlier" and the time of the next event, knows of it.
-use Rattle.std.specs.Prelude.{ℕ, ◌+◌, ◌-◌, ◌%◌, min, ◌≡◌, List, [], ◌∷◌, map, Bool, false, leb}
+use Rattle.std.specs.Prelude.{ℕ, ◌+◌, ◌-◌, ◌%◌, min, ◌≡◌, [], ◌∷◌, Bool, false, leb}
 use Rattle.rules.specs.History.{History, time_of}
 
 -- a time of the history as it was received, in 32 bits

@@ -5,4 +5,5 @@ pub mod Grid
 pub mod Apart
 pub mod Rounded
 pub mod Patterns
+pub mod NotNumbers
 pub mod Worked

@@ -1,18 +1,19 @@
 -- Bytes of pairs of digits, pair by pair, and whether they are taken. Assumes nothing.
-use mathlib.Core.Path.{◌≡◌, refl, sym, ap, ap₂, ◌∙◌}
-use mathlib.Core.Bool.{true, false, ◌||◌}
+use mathlib.Core.Path.{◌≡◌, refl, sym, ap, ◌∙◌}
+use mathlib.Core.Bool.{true, false, ◌||◌, ◌&&◌}
 use mathlib.Core.List.{List, [], ◌∷◌, ◌++◌, append-nil}
 use Prim.Native.Nat.{ℕ, suc, ◌+◌, ◌*◌, ◌/◌, ◌%◌, ◌≤◌, ◌<◌}
 use native.Mathlib.Numerals.{add-one}
 use native.Mathlib.Omega.{arith}
-use lib.Dec.{leb, eqb}
-use lib.ListN.{length, get_or, take, drop, set, drop_of_length-le, take-append-drop}
-use lib.Seq.{drop-cons, drop-drop, take-suc-set, drop-set-lt, append_snoc}
-use borrow.Author.Tests.{lt-leb, le-leb, eq-eqb, ne_eqb}
+use lib.Dec.{leb, ltb, eqb}
+use lib.ListN.{length, get_or, take, drop, set, drop_of_length-le}
+use lib.Seq.{drop-cons, take_all, take-suc-set, append_snoc}
+use borrow.Author.Tests.{lt-leb, le-leb, eq-eqb, eqb-true}
 use Rattle.text_numbers.specs.Numbers.{digit_of, are_digits}
 use Rattle.text_bytes.specs.Hex.{is_dash, is_hex, bytes_of, have_room, bytes_in, stored_in}
-use Rattle.text_bytes.specs.declared.Bytes.TheVariants.{Bad, Is}
-use Rattle.text_numbers.proofs.Cases.{and_false}
+use Rattle.std.specs.Prelude.{Some, None}
+use Rattle.std.specs.List.{list_all}
+use Rattle.text_numbers.proofs.Cases.{and_false, both}
 
 pub length_bytes : (s : List ℕ) → length (bytes_of s) ≡ length s / 2
 unfolding bytes_of
@@ -40,27 +41,20 @@ stored_more s out i h k =
     rw (next_pair s i k, add-one i, take-suc-set out i (pair_at s i) h)
     (sym (append_snoc (take i out) (pair_at s i) (bytes_of (drop (suc i * 2) s))))
 
--- what lies behind is as it was
-pub behind : (out out₀ : List ℕ) (i v : ℕ) → drop i out ≡ drop i out₀ → drop (i + 1) (set out i v) ≡ drop (i + 1) out₀
-behind out out₀ i v e =
-    drop-set-lt (i + 1) out i v (omega arith) ∙ sym (drop-drop 1 i out) ∙ ap (drop 1) e ∙ drop-drop 1 i out₀
-
-pub stored_all : (s out out₀ : List ℕ) (i n : ℕ) → i ≡ n → length s ≤ n * 2 → bytes_of s ≡ take i out ++ bytes_of (drop (i * 2) s) → drop i out ≡ drop i out₀
-    → out ≡ bytes_of s ++ drop n out₀
+pub stored_all : (s out : List ℕ) (i : ℕ) → length out ≤ i → length s ≤ i * 2 → bytes_of s ≡ take i out ++ bytes_of (drop (i * 2) s) → out ≡ bytes_of s
 unfolding bytes_of
-stored_all s out out₀ i n e h p q =
-    let z : drop (i * 2) s ≡ [] = drop_of_length-le s {i = i * 2} (omega arith) in
-    let f : bytes_of s ≡ take i out = p ∙ ap (λ (l : List ℕ). take i out ++ bytes_of l) z ∙ append-nil (take i out) in
-    sym (take-append-drop i out) ∙ ap₂ (λ (l r : List ℕ). l ++ r) (sym f) (q ∙ ap (λ (k : ℕ). drop k out₀) e)
+stored_all s out i l h p =
+    let z : drop (i * 2) s ≡ [] = drop_of_length-le s {i = i * 2} h in
+    sym (p ∙ ap (λ (l : List ℕ). take i out ++ bytes_of l) z ∙ append-nil (take i out) ∙ take_all i out l)
 
 -- ---- whether they are taken
 
 module _ (s out : List ℕ) where
-  pub refused : have_room s (length out) ≡ false → (Bad ≡ bytes_in s (length out)) × (out ≡ stored_in s out)
+  pub refused : have_room s (length out) ≡ false → (None ≡ bytes_in s (length out)) × (out ≡ stored_in s out)
   unfolding bytes_in stored_in
   refused e = (rw e, rw e)
 
-  pub taken : have_room s (length out) ≡ true → (Is (length (bytes_of s)) ≡ bytes_in s (length out)) × (bytes_of s ++ drop (length (bytes_of s)) out ≡ stored_in s out)
+  pub taken : have_room s (length out) ≡ true → (Some (length (bytes_of s)) ≡ bytes_in s (length out)) × (bytes_of s ++ drop (length (bytes_of s)) out ≡ stored_in s out)
   unfolding bytes_in stored_in
   taken e = (rw e, rw e)
 
@@ -88,18 +82,17 @@ unfolding have_room
 has_dash s room e = rw (e, a_dash s e, le-leb 0 room (omega arith))
 
 module _ (s : List ℕ) where
-  pub hex_none : length s ≡ 0 → is_hex s ≡ false
+  pub hex_told : is_hex s ≡ true → (length s % 2 ≡ 0) × (are_digits 16 s ≡ true)
   unfolding is_hex
-  hex_none e = rw (lt-leb 1 (length s) (omega arith))
-
-  pub hex_odd : (length s % 2 ≡ 0 → ⊥) → is_hex s ≡ false
-  unfolding is_hex
-  hex_odd n = rw (ne_eqb (length s % 2) 0 n, and_false (leb 1 (length s)))
-
-  pub hex_not : are_digits 16 s ≡ false → is_hex s ≡ false
-  unfolding is_hex
-  hex_not e = rw (e, and_false (eqb (length s % 2) 0), and_false (leb 1 (length s)))
+  hex_told e =
+      let b = both (eqb (length s % 2) 0) (are_digits 16 s) (both (leb 1 (length s)) _ e).1 in
+      (eqb-true _ _ b.0, b.1)
 
   pub hex_is : 1 ≤ length s → length s % 2 ≡ 0 → are_digits 16 s ≡ true → is_hex s ≡ true
   unfolding is_hex
   hex_is o e d = rw (le-leb 1 (length s) o, eq-eqb (length s % 2) 0 e, d)
+
+pub digits_each : (s : List ℕ) → are_digits 16 s ≡ list_all (λ c. ltb (digit_of c) 16) s
+unfolding are_digits
+digits_each [] = refl
+digits_each (c ∷ cs) = ap (λ b. ltb (digit_of c) 16 && b) (digits_each cs)

@@ -1,9 +1,7 @@
 -- Bytes as text. desk.md: "bytes as two lower-case hexadecimal digits each; `-` when empty".
-use Rattle.std.specs.Prelude.{ℕ, ◌+◌, ◌*◌, ◌%◌, Bool, false, cond, ◌&&◌, ◌||◌, List, [], ◌∷◌, ◌++◌, leb, eqb, length, drop}
+use Rattle.std.specs.Prelude.{ℕ, ◌+◌, ◌*◌, ◌%◌, Bool, false, cond, ◌&&◌, ◌||◌, List, [], ◌∷◌, ◌++◌, leb, eqb, length, drop, Option, Some, None}
 use Rattle.text_numbers.specs.Ascii.{dash}
 use Rattle.text_numbers.specs.Numbers.{digit_of, are_digits}
-use Rattle.text_bytes.specs.declared.Bytes.{Bytes}
-use Rattle.text_bytes.specs.declared.Bytes.TheVariants.{Bad, Is}
 
 unfoldable pub is_dash : List ℕ → Bool
 is_dash [] = false
@@ -24,8 +22,8 @@ bytes_of (hi ∷ lo ∷ cs) = (digit_of hi * 16 + digit_of lo) ∷ bytes_of cs
 unfoldable pub have_room : List ℕ → ℕ → Bool
 have_room s room = (is_dash s || is_hex s) && leb (length (bytes_of s)) room
 
-unfoldable pub bytes_in : List ℕ → ℕ → Bytes
-bytes_in s room = cond (have_room s room) (Is (length (bytes_of s))) Bad
+unfoldable pub bytes_in : List ℕ → ℕ → Option ℕ
+bytes_in s room = cond (have_room s room) (Some (length (bytes_of s))) None
 
 -- the buffer with the bytes in front, and else as it was
 unfoldable pub stored_in : List ℕ → List ℕ → List ℕ

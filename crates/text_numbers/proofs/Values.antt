@@ -1,18 +1,17 @@
 -- A number read digit by digit: what stands read, with the rest of the digits after it. Assumes nothing.
-use mathlib.Core.Path.{◌≡◌, refl, sym, ap, ◌∙◌}
-use mathlib.Core.Bool.{Bool, true, false, cond, ◌&&◌}
+use mathlib.Core.Path.{◌≡◌, sym, ap, ◌∙◌}
+use mathlib.Core.Bool.{true, false, cond, ◌&&◌}
 use mathlib.Core.List.{List, [], ◌∷◌}
-use Prim.Native.Nat.{ℕ, zero, suc, ◌+◌, ◌*◌, ◌/◌, ◌^◌, ◌≤◌, ◌<◌}
-use native.Mathlib.Nat.{pow-succ', pow-zero, mul_assoc, add-mul, one-le-pow, le-mul_of_pos_right, mul-one, le-div_iff_mul-le, div-lt_iff_lt-mul}
+use Prim.Native.Nat.{ℕ, zero, suc, ◌+◌, ◌*◌, ◌^◌, ◌≤◌, ◌<◌}
+use native.Mathlib.Nat.{pow-succ', pow-zero, mul_assoc, add-mul, one-le-pow, le-mul_of_pos_right, mul-one}
 use native.Mathlib.Numerals.{add-one}
 use native.Mathlib.Omega.{arith}
 use lib.Dec.{ltb, leb}
 use lib.ListN.{length, get_or, drop, drop_of_length-le}
 use lib.Seq.{drop-cons, drop-length}
-use borrow.Author.Tests.{ltb-true, lt-ltb, le-ltb, leb-true, le-leb, lt-leb}
-use Rattle.text_numbers.specs.Numbers.{digit_of, are_digits, value_of, is_shortest, number_of, Within}
-use Rattle.text_numbers.specs.declared.Number.{Number}
-use Rattle.text_numbers.specs.declared.Number.TheVariants.{Bad, Is}
+use borrow.Author.Tests.{ltb-true, lt-ltb, le-ltb, le-leb, lt-leb}
+use Rattle.text_numbers.specs.Numbers.{digit_of, are_digits, value_of, is_shortest, number_of}
+use Rattle.std.specs.Prelude.{Option, Some, None}
 use Rattle.text_numbers.proofs.Cases.{and_false, both}
 
 -- ---- whether characters are digits, place by place
@@ -43,8 +42,8 @@ abbrev pub worth : ℕ → ℕ → List ℕ → ℕ
 worth b v cs = v * b ^ length cs + value_of b cs
 
 -- the answer, when v was read and cs is left
-unfoldable pub after : ℕ → ℕ → ℕ → List ℕ → Number
-after b most v cs = cond (are_digits b cs && leb (worth b v cs) most) (Is (worth b v cs)) Bad
+unfoldable pub after : ℕ → ℕ → ℕ → List ℕ → Option ℕ
+after b most v cs = cond (are_digits b cs && leb (worth b v cs) most) (Some (worth b v cs)) None
 
 pub worth_step : (b v c : ℕ) (cs : List ℕ) → worth b v (c ∷ cs) ≡ worth b (v * b + digit_of c) cs
 unfolding value_of
@@ -69,7 +68,7 @@ module _ (b most : ℕ) where
   unfolding number_of after
   at_first s e = rw (e, worth_all b s)
 
-  pub not_shortest : (s : List ℕ) → is_shortest s ≡ false → number_of b most s ≡ Bad
+  pub not_shortest : (s : List ℕ) → is_shortest s ≡ false → number_of b most s ≡ None
   unfolding number_of
   not_shortest s e = rw e
 
@@ -78,36 +77,16 @@ module _ (b most : ℕ) where
     unfolding after are_digits
     next l = rw (add-one, drop-cons s i 0 h, worth_step b v (get_or s i 0) (drop (suc i) s), ← e, lt-ltb d b l)
 
-    pub no_digit : b ≤ d → after b most v (drop i s) ≡ Bad
+    pub no_digit : b ≤ d → after b most v (drop i s) ≡ None
     unfolding after are_digits
     no_digit l = rw (drop-cons s i 0 h, ← e, le-ltb d b l)
 
-  pub too_large : (v : ℕ) (cs : List ℕ) → 0 < b → most < v → after b most v cs ≡ Bad
+  pub too_large : (v : ℕ) (cs : List ℕ) → 0 < b → most < v → after b most v cs ≡ None
   unfolding after
   too_large v cs h l =
       let m : most < worth b v cs = omega (arith, worth_least b v cs h) in
       rw (lt-leb (worth b v cs) most m, and_false (are_digits b cs))
 
-  pub at_last : (s : List ℕ) (v i : ℕ) → i ≡ length s → v ≤ most → after b most v (drop i s) ≡ Is v
+  pub at_last : (s : List ℕ) (v i : ℕ) → i ≡ length s → v ≤ most → after b most v (drop i s) ≡ Some v
   unfolding after are_digits
   at_last s v i e l = rw (e, drop-length s, worth_none b v, le-leb v most l)
-
--- ---- the tests that keep v * b + d within most
-
-module _ (b most v : ℕ) (h : 0 < b) where
-  pub under : v ≤ most / b → v * b ≤ most
-  under l = (le-div_iff_mul-le {k = b} {x = v} {y = most} h).0 l
-
-  pub over : most / b < v → most < v * b
-  over l = (div-lt_iff_lt-mul {k = b} {x = most} {y = v} h).0 l
-
--- ---- what was read is no larger than it may be
-pub number_within : (b most : ℕ) (s : List ℕ) → Within most (number_of b most s)
-unfolding number_of
-number_within b most s = go (is_shortest s) (are_digits b s) (leb (value_of b s) most) refl
-  where
-    go : (x y t : Bool) → leb (value_of b s) most ≡ t → Within most (cond (x && (y && t)) (Is (value_of b s)) Bad)
-    go true true true e = leb-true (value_of b s) most e
-    go true true false e = tt
-    go true false t e = tt
-    go false y t e = tt

@@ -1,10 +1,6 @@
 -- Numbers as text. desk.md: "decimal whole number, `-` sign if negative, no leading zeros", "lower-case hexadecimal without prefix and without leading zeros".
-use Rattle.std.specs.Prelude.{ℕ, zero, suc, ◌+◌, ◌-◌, ◌*◌, ◌/◌, ◌%◌, ◌^◌, ◌≤◌, Bool, true, false, cond, not, ◌&&◌, List, [], ◌∷◌, ◌++◌, ltb, leb, eqb, length, pos, negsuc}
+use Rattle.std.specs.Prelude.{ℕ, zero, suc, ◌+◌, ◌-◌, ◌*◌, ◌/◌, ◌%◌, ◌^◌, Bool, true, false, cond, not, ◌&&◌, List, [], ◌∷◌, ◌++◌, ltb, leb, eqb, length, ℤ, pos, negsuc, Option, Some, None}
 use Rattle.text_numbers.specs.Ascii.{dash, zero_sign, nine_sign, letter_a, letter_f}
-use Rattle.text_numbers.specs.declared.Number.{Number}
-use Rattle.text_numbers.specs.declared.Number.TheVariants.{Bad, Is}
-use Rattle.text_numbers.specs.declared.sign.Signed.{Signed}
-use Rattle.text_numbers.specs.declared.sign.Signed.TheVariants.{Bad as NotSigned, Is as IsSigned}
 
 -- what a character counts as a digit, `0` to `9`, then `a` to `f`; any other counts 16, which no base here has
 unfoldable pub digit_of : ℕ → ℕ
@@ -31,23 +27,23 @@ is_shortest (c ∷ []) = true
 is_shortest (c ∷ d ∷ cs) = not (eqb c zero_sign)
 
 -- the number no larger than most that s spells in base b
-unfoldable pub number_of : ℕ → ℕ → List ℕ → Number
-number_of b most s = cond (is_shortest s && (are_digits b s && leb (value_of b s) most)) (Is (value_of b s)) Bad
+unfoldable pub number_of : ℕ → ℕ → List ℕ → Option ℕ
+number_of b most s = cond (is_shortest s && (are_digits b s && leb (value_of b s) most)) (Some (value_of b s)) None
 
 -- ---- with a sign, in 64 bits
 
 -- `-0` is none
-abbrev pub negated : Number → Signed
-negated Bad = NotSigned
-negated (Is zero) = NotSigned
-negated (Is (suc n)) = IsSigned (negsuc n)
+abbrev pub negated : Option ℕ → Option ℤ
+negated None = None
+negated (Some zero) = None
+negated (Some (suc n)) = Some (negsuc n)
 
-abbrev pub unsigned : Number → Signed
-unsigned Bad = NotSigned
-unsigned (Is n) = IsSigned (pos n)
+abbrev pub unsigned : Option ℕ → Option ℤ
+unsigned None = None
+unsigned (Some n) = Some (pos n)
 
-unfoldable pub signed_of : List ℕ → Signed
-signed_of [] = NotSigned
+unfoldable pub signed_of : List ℕ → Option ℤ
+signed_of [] = None
 signed_of (c ∷ cs) = cond (eqb c dash) (negated (number_of 10 (2 ^ 63) cs)) (unsigned (number_of 10 (2 ^ 63 - 1) (c ∷ cs)))
 
 -- ---- the text of a number
@@ -60,8 +56,3 @@ digits_in b (suc turns) n = cond (ltb n b) (glyph_of n ∷ []) (digits_in b turn
 -- the fewest digits that spell n: one below b, and else those of n / b with that of n % b after them (the laws `one-digit` and `more-digits`)
 unfoldable pub numeral : ℕ → ℕ → List ℕ
 numeral b n = digits_in b n n
-
--- what was read is no larger than most
-abbrev pub Within : ℕ → Number → Type 0
-Within most Bad = Unit {0}
-Within most (Is n) = n ≤ most

@@ -1,17 +1,17 @@
 // Whole numbers as text: at least one digit, and no leading zero but of 0 itself.
-ghost use Rattle.std.specs.Prelude.{◌≡◌, ◌-◌, ◌≤◌, negsuc};
-ghost use Rattle.text_numbers.specs.Numbers.{digit_of, is_shortest, number_of, signed_of, negated, unsigned, Within};
-
-use crate::Number;
-use crate::sign::Signed;
+ghost use Rattle.std.specs.Prelude.{◌≡◌, ◌-◌, ◌≤◌, negsuc, Some, IfSome};
+ghost use Rattle.text_numbers.specs.Numbers.{digit_of, is_shortest, number_of, signed_of, negated};
 
 // What a character counts as a digit; 16 is none.
+// Kept (1): a number, as `digit_of` has it, under `number_of` (docs/PROMISES.md): who has looked at every digit reads them again by it (`text_bytes`), where an
+// `Option` would want a number for none all the same.
+#[tactic(auto, using(crate::proofs::Digits::decimal_digit, crate::proofs::Digits::letter_digit, crate::proofs::Digits::below_digits, crate::proofs::Digits::between_digits, crate::proofs::Digits::above_digits))]
 pub fn digit(c: u8) -> u64
     ensures { result ≡ digit_of c }
 {
     match c {
-        b'0'..=b'9' => (c - b'0') as u64,
-        b'a'..=b'f' => (c - b'a') as u64 + 10,
+        b'0'..=b'9' => u64::from(c - b'0'),
+        b'a'..=b'f' => u64::from(c - b'a') + 10,
         _ => 16,
     }
 }
@@ -19,89 +19,55 @@ pub fn digit(c: u8) -> u64
 fn is_shortest(s: &[u8]) -> bool
     ensures { result ≡ is_shortest s.now }
 {
-    if s.len() == 0 {
-        return false;
+    match s {
+        [] => false,
+        [_] => true,
+        [first, ..] => *first != b'0',
     }
-    if s.len() == 1 {
-        return true;
-    }
-    s[0] != b'0'
 }
 
 // The number no larger than `most` that s spells in base.
-pub fn whole(s: &[u8], base: u64, most: u64) -> Number
-    ensures { result ≡ number_of base most s.now }
+// Kept (4): `u64::from_str_radix` takes a `+`, leading zeros and capitals too, none of which `number_of` has.
+pub fn whole(s: &[u8], base: u64, most: u64) -> Option<u64>
+    ensures value { result ≡ number_of base most s.now }
+    ensures within { IfSome result (λ n. n ≤ most) }
 {
     if !is_shortest(s) {
-        return Number::Bad;
+        return None;
     }
     let mut v: u64 = 0;
-    let mut i = 0;
-    while i < s.len() {
-        let d = digit(s[i]);
+    for &c in s {
+        let d = digit(c);
         if d >= base {
-            return Number::Bad;
+            return None;
         }
-        if v > most / base {
-            return Number::Bad;
+        v = v.checked_mul(base)?.checked_add(d)?;
+        if v > most {
+            return None;
         }
-        if d > most - v * base {
-            return Number::Bad;
-        }
-        v = v * base + d;
-        i += 1;
     }
-    Number::Is(v)
-}
-
-fn decimal(s: &[u8], most: u64) -> Number
-    ensures { result ≡ number_of 10 most s.now }
-{
-    whole(s, 10, most)
+    Some(v)
 }
 
 // The number below 0 of a magnitude.
-fn below_zero(m: u64) -> i64
-    requires { (1 ≤ m) × (m ≤ 0x8000000000000000) }
-    ensures { result ≡ negsuc (m - 1) }
+fn negate(m: u64) -> Option<i64>
+    requires { m ≤ 0x8000000000000000 }
+    ensures { result ≡ negated (Some m) }
 {
-    !((m - 1) as i64)
-}
-
-fn negate(n: Number) -> Signed
-    requires { Within 0x8000000000000000 n }
-    ensures { result ≡ negated n }
-{
-    match n {
-        Number::Is(m) => {
-            if m == 0 {
-                return Signed::Bad;
-            }
-            Signed::Is(below_zero(m))
-        }
-        Number::Bad => Signed::Bad,
+    if m == 0 {
+        return None;
     }
-}
-
-fn plain(n: Number) -> Signed
-    requires { Within 0x7fffffffffffffff n }
-    ensures { result ≡ unsigned n }
-{
-    match n {
-        Number::Is(m) => Signed::Is(m as i64),
-        Number::Bad => Signed::Bad,
-    }
+    0i64.checked_sub_unsigned(m)
 }
 
 // `-` and a number from 1 to 2^63, or a number from 0 to 2^63 - 1.
-pub fn signed(s: &[u8]) -> Signed
+// Kept (1): tried as a match on the slice; at four exits the proof stood open.
+pub fn signed(s: &[u8]) -> Option<i64>
     ensures { result ≡ signed_of s.now }
 {
-    if s.len() == 0 {
-        return Signed::Bad;
+    let (&first, rest) = s.split_first()?;
+    if first == b'-' {
+        return negate(whole(rest, 10, 0x8000000000000000)?);
     }
-    if s[0] == b'-' {
-        return negate(decimal(&s[1..], 0x8000000000000000));
-    }
-    plain(decimal(s, 0x7fffffffffffffff))
+    Some(whole(s, 10, 0x7fffffffffffffff)? as i64)
 }

@@ -1,3 +1,4 @@
 pub mod Inks
+pub mod Turns
 pub mod Written
 pub mod Laws

@@ -1,6 +1,11 @@
--- A pen over a lent buffer: its place, and whether something did not fit.
-use Rattle.std.specs.Prelude.{ℕ, ◌+◌, Bool, true, false, cond, not, ◌&&◌, List, [], ◌∷◌, ◌++◌, leb, length, take, drop}
+-- A pen over a lent buffer: its place, and whether something did not fit. The two of them are a sheet.
+use Rattle.std.specs.Prelude.{◌≡◌, ℕ, ◌+◌, Bool, true, false, cond, not, ◌&&◌, List, [], ◌∷◌, ◌++◌, leb, length, take, drop}
 use Rattle.text_pen.specs.declared.Pen.{Pen}
+use Rattle.text_pen.specs.declared.Sheet.{Sheet}
+
+-- the pen at the buffer's front
+abbrev pub new_pen : Pen
+new_pen = record { at = 0; full = false }
 
 -- n bytes more fit a buffer of room bytes
 unfoldable pub has_room : ℕ → Pen → ℕ → Bool
@@ -28,3 +33,15 @@ inked_by out p (w ∷ ws) = inked_by (inked out p w) (moved (length out) p (leng
 unfoldable pub text_of : List (List ℕ) → List ℕ
 text_of [] = []
 text_of (w ∷ ws) = w ++ text_of ws
+
+-- the sheet s with the words ws put on it
+unfoldable pub with_words : Sheet → List (List ℕ) → Sheet
+with_words s ws =
+    record {
+      out = record { ref_ptr = s.out.ref_ptr; ghost_name = s.out.ghost_name; now = inked_by s.out.now s.pen ws };
+      pen = moved_by (length s.out.now) s.pen ws;
+    }
+
+-- the sheet s, on which the words ws were put, is t then
+abbrev pub Wrote : Sheet → List (List ℕ) → Sheet → Type 0
+Wrote s ws t = t ≡ with_words s ws

@@ -1,45 +1,54 @@
-// A pen by value appends text to a lent buffer: for every program that writes text. It never writes past the end: what does not fit is left out, and the
-// pen is full from then on. The public function takes any input.
-ghost use Rattle.std.specs.Prelude.{◌≡◌, ◌+◌, ◌≤◌, length};
-ghost use Rattle.std.proofs.Math.Seq.{paste};
-ghost use Rattle.text_pen.specs.Pens.{moved, inked};
+// A pen appends text to a lent buffer, the two of them a sheet: for every program that writes text. It never writes past the end: what does not fit is left
+// out, and the pen is full from then on. The public functions take any input.
+#![tactic(auto)]
 
-// Where the next byte goes; full once something did not fit.
-#[derive(Clone, Copy)]
+ghost use Rattle.std.specs.Prelude.{◌≡◌, [], ◌∷◌, length};
+ghost use Rattle.text_pen.specs.Pens.{has_room, Wrote, new_pen};
+
+// Where the next byte goes; full once something did not fit. By default at the front.
+#[derive(Clone, Copy, Default)]
 pub struct Pen {
     pub at: usize,
     pub full: bool,
 }
 
-fn copy_in(src: &[u8], dst: &mut [u8], at: usize)
-    requires { at + length src.now ≤ length dst.old }
-    ensures { dst.new ≡ paste dst.old at src.now (length src.now) }
-{
-    let mut j = 0;
-    while j < src.len() {
-        dst[at + j] = src[j];
-        j += 1;
-    }
+// A lent buffer, and the pen over it.
+#[derive(Drop)]
+pub struct Sheet<'a> {
+    pub out: &'a mut [u8],
+    pub pen: Pen,
 }
 
-// src after what the pen wrote before.
-pub fn put(out: &mut [u8], pen: Pen, src: &[u8]) -> Pen
-    ensures value { result ≡ moved (length out.old) pen (length src.now) }
-    ensures out_after { out.new ≡ inked out.old pen src.now }
-{
-    let at = pen.at;
-    if pen.full {
-        return pen;
+impl<'a> Sheet<'a> {
+    // The pen at the buffer's front.
+    pub fn new(out: &'a mut [u8]) -> Self
+        ensures pen { result.pen ≡ new_pen }
+        ensures text { result.out.now ≡ out.old }
+        ensures buffer { result.out.ghost_name ≡ out.entry.ghost_name }
+    {
+        Sheet {
+            out,
+            pen: Pen::default(),
+        }
     }
-    if at > out.len() {
-        return Pen { at, full: true };
+
+    #[tactic(auto, using(crate::proofs::Inks::is_full_lem, crate::proofs::Inks::too_long, crate::proofs::Inks::has_room_lem))]
+    fn has_room(&self, n: usize) -> bool
+        ensures { result ≡ has_room (length self.now.out.now) self.now.pen n }
+    {
+        !self.pen.full && self.pen.at <= self.out.len() && n <= self.out.len() - self.pen.at
     }
-    if src.len() > out.len() - at {
-        return Pen { at, full: true };
-    }
-    copy_in(src, out, at);
-    Pen {
-        at: at + src.len(),
-        full: false,
+
+    // src after what the pen wrote before.
+    pub fn put(&mut self, src: &[u8])
+        ensures { Wrote self.old (src.now ∷ []) self.new }
+    {
+        if !self.has_room(src.len()) {
+            self.pen.full = true;
+            return;
+        }
+        let at = self.pen.at;
+        self.out[at..at + src.len()].copy_from_slice(src);
+        self.pen.at = at + src.len();
     }
 }

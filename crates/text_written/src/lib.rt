@@ -1,12 +1,16 @@
-// Numbers and bytes as text, written by the pen: for every program that writes them. Every public function takes any input.
-ghost use Rattle.std.specs.Prelude.{◌≡◌, ◌≤◌, ◌<◌, length, nat_abs};
+// Numbers and bytes as text, put on a sheet: for every program that writes them. Every public function takes any input.
+// Kept (4): no `write!` to the sheet: a clause knows which bytes a format wrote only where they went to a `String`, which the heap would hold.
+#![tactic(auto, using(text_pen::proofs::Turns::sheets))]
+
+ghost use Rattle.std.specs.Prelude.{◌≡◌, ◌≤◌, ◌<◌, [], ◌∷◌};
 ghost use Rattle.text_numbers.specs.Numbers.{glyph_of, numeral};
-ghost use Rattle.text_pen.specs.Pens.{moved, inked, moved_by, inked_by};
+ghost use Rattle.text_pen.specs.Pens.{Wrote};
 ghost use Rattle.text_written.specs.Words.{hex_words, signed_words};
 
-use text_pen::{Pen, put};
+use text_pen::Sheet;
 
 // A digit's character.
+#[tactic(auto, using(text_numbers::proofs::Digits::low_glyph, text_numbers::proofs::Digits::high_glyph))]
 fn glyph(d: u8) -> u8
     requires { d < 16 }
     ensures { result ≡ glyph_of d }
@@ -18,10 +22,11 @@ fn glyph(d: u8) -> u8
 const PLACES: usize = 20;
 
 // The fewest digits that spell n in base.
-fn put_number(out: &mut [u8], pen: Pen, n: u64, base: u64) -> Pen
+// Kept (3): a turn goes on by what is left of n, and `at` only says where the digits before stand.
+// Kept (6): the digits come last first, and are gathered before they are put; there is no heap.
+fn put_number(sheet: &mut Sheet, n: u64, base: u64)
     requires { (10 ≤ base) × (base ≤ 16) }
-    ensures value { result ≡ moved (length out.old) pen (length (numeral base n)) }
-    ensures out_after { out.new ≡ inked out.old pen (numeral base n) }
+    ensures { Wrote sheet.old (numeral base n ∷ []) sheet.new }
 {
     let mut t = [0u8; PLACES];
     let mut at = PLACES;
@@ -29,61 +34,44 @@ fn put_number(out: &mut [u8], pen: Pen, n: u64, base: u64) -> Pen
     while rest >= base {
         at -= 1;
         t[at] = glyph((rest % base) as u8);
-        rest = rest / base;
+        rest /= base;
     }
     at -= 1;
     t[at] = glyph(rest as u8);
-    put(out, pen, &t[at..])
+    sheet.put(&t[at..]);
 }
 
-pub fn put_decimal(out: &mut [u8], pen: Pen, n: u64) -> Pen
-    ensures value { result ≡ moved (length out.old) pen (length (numeral 10 n)) }
-    ensures out_after { out.new ≡ inked out.old pen (numeral 10 n) }
+pub fn put_decimal(sheet: &mut Sheet, n: u64)
+    ensures { Wrote sheet.old (numeral 10 n ∷ []) sheet.new }
 {
-    put_number(out, pen, n, 10)
+    put_number(sheet, n, 10);
 }
 
-pub fn put_hexadecimal(out: &mut [u8], pen: Pen, n: u64) -> Pen
-    ensures value { result ≡ moved (length out.old) pen (length (numeral 16 n)) }
-    ensures out_after { out.new ≡ inked out.old pen (numeral 16 n) }
+pub fn put_hexadecimal(sheet: &mut Sheet, n: u64)
+    ensures { Wrote sheet.old (numeral 16 n ∷ []) sheet.new }
 {
-    put_number(out, pen, n, 16)
-}
-
-// How far v is from 0.
-fn size(v: i64) -> u64
-    ensures { result ≡ nat_abs v }
-{
-    if v < 0 { !v as u64 + 1 } else { v as u64 }
+    put_number(sheet, n, 16);
 }
 
 // `-` where v is below 0, and then how far it is from 0.
-pub fn put_signed(out: &mut [u8], pen: Pen, v: i64) -> Pen
-    ensures value { result ≡ moved_by (length out.old) pen (signed_words v) }
-    ensures out_after { out.new ≡ inked_by out.old pen (signed_words v) }
+pub fn put_signed(sheet: &mut Sheet, v: i64)
+    ensures { Wrote sheet.old (signed_words v) sheet.new }
 {
     if v < 0 {
-        let p = put(out, pen, b"-");
-        return put_decimal(out, p, size(v));
+        sheet.put(b"-");
     }
-    put_decimal(out, pen, size(v))
+    put_decimal(sheet, v.unsigned_abs());
 }
 
 // Two digits for each byte, `-` when there are none.
-pub fn put_hex(out: &mut [u8], pen: Pen, src: &[u8]) -> Pen
-    ensures value { result ≡ moved_by (length out.old) pen (hex_words src.now) }
-    ensures out_after { out.new ≡ inked_by out.old pen (hex_words src.now) }
+pub fn put_hex(sheet: &mut Sheet, src: &[u8])
+    ensures { Wrote sheet.old (hex_words src.now) sheet.new }
 {
-    if src.len() == 0 {
-        return put(out, pen, b"-");
+    if src.is_empty() {
+        sheet.put(b"-");
+        return;
     }
-    let mut p = pen;
-    let mut i = 0;
-    while i < src.len() {
-        let x = src[i];
-        let two = [glyph(x / 16), glyph(x % 16)];
-        p = put(out, p, &two);
-        i += 1;
+    for &x in src {
+        sheet.put(&[glyph(x / 16), glyph(x % 16)]);
     }
-    p
 }

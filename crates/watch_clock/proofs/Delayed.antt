@@ -1,4 +1,5 @@
 -- A history that is d ms later throughout has the same findings, and the same record but for the times as received.
+use Rattle.std.specs.Prelude as std
 use Prim.Native.Nat.{ℕ, ◌+◌, min}
 use native.Mathlib.Omega.{arith}
 use mathlib.Core.Path.{◌≡◌, refl, ap, ap₂}
@@ -208,9 +209,9 @@ module _ (d now : ℕ) where
   age-delayed : (t : ℕ) → age_of (now + d) (t + d) ≡ age_of now t
   age-delayed t = ap (λ (n : ℕ). min n 4294967295) (off d now t)
 
-  dated-delayed : (o : Option Said) → still_dated (dated_of (now + d) (later d o)) ≡ still_dated (dated_of now o)
+  dated-delayed : (o : Option Said) → still_latest (dated_of (now + d) (later d o)) ≡ still_latest (dated_of now o)
   dated-delayed none = refl
-  dated-delayed (some m) = rw (age-delayed m.time) (still_at (received_of (m.time + d)) (received_of m.time) (age_of now m.time) m.kind m.raw)
+  dated-delayed (some m) = rw (age-delayed m.time) (ap std.Some (still_at (received_of (m.time + d)) (received_of m.time) (age_of now m.time) m.kind m.raw))
 
   part-delayed : (o : Option Said) → still_part (part_of (now + d) (later d o)) ≡ still_part (part_of now o)
   part-delayed none = refl
@@ -222,8 +223,8 @@ module _ (d now : ℕ) where
   kept-delayed (some o) s c m = rw (dated-delayed s, dated-delayed c, dated-delayed m)
 
   latests-delayed : (h : History) (ks : List ℕ)
-      → map still_latest (map (λ j. record { message = dated_of (now + d) (newest (at_place j) (delayed d h)) }) ks)
-      ≡ map still_latest (map (λ j. record { message = dated_of now (newest (at_place j) h) }) ks)
+      → map still_latest (map (λ j. dated_of (now + d) (newest (at_place j) (delayed d h))) ks)
+      ≡ map still_latest (map (λ j. dated_of now (newest (at_place j) h)) ks)
   latests-delayed h [] = refl
   latests-delayed h (j ∷ ks) = rw (place_delayed d j h, dated-delayed (newest (at_place j) h), latests-delayed h ks)
 

@@ -1,4 +1,5 @@
 -- What one post answers whose clock is moved is what it answered, and the event that it accepts stands where the moved clock puts it.
+use Rattle.std.specs.Prelude.{Err}
 use Prim.Native.Nat.{ℕ}
 use mathlib.Core.Path.{◌≡◌, refl, sym, ap}
 use mathlib.Core.List.{◌∷◌}
@@ -9,12 +10,10 @@ use Rattle.rules.specs.History as history
 use Rattle.rules.specs.History.{History}
 use Rattle.rules.specs.Times.{earlier_in, Unrolled}
 use Rattle.rules.proofs.Unrolled.{unrolled_next}
-use Rattle.watch_rules.specs.declared.Answer.TheVariants.{Refused}
 use Rattle.watch_rules.specs.declared.Arrival.{Arrival}
 use Rattle.watch_rules.specs.declared.Arrival.TheVariants.{Tick, Frame, Unread}
 use Rattle.watch_rules.specs.Table.{Arriving}
 use Rattle.watch_rules.specs.Steps.{held, counted01, found01, answer_in, event_in}
-use Rattle.watch_rules.specs.Run.{frame, tick}
 use Rattle.watch_clock.specs.Moved.{on_clock, moved}
 use Rattle.watch_clock.proofs.Moved.{moved_event, earlier_moved, full_moved, findings_moved, stamp_moved}
 
@@ -41,6 +40,6 @@ module _ (d : ℕ) (h : History) where
   pub answer_moved : Unrolled h → (c : ℕ) (lim : PlainLimits) (t : ℕ) (a : Arriving) → answer_in (held c lim (moved d h)) (on_clock d t) a ≡ answer_in (held c lim h) t a
   answer_moved un c lim t a = rw (earlier_moved d h t) (go (earlier_in h t) refl)
     where
-      go : (b : Bool) → earlier_in h t ≡ b → cond b (Refused Earlier) (found01 lim (moved d h) (on_clock d t) (a lim)) ≡ cond b (Refused Earlier) (found01 lim h t (a lim))
+      go : (b : Bool) → earlier_in h t ≡ b → cond b (Err Earlier) (found01 lim (moved d h) (on_clock d t) (a lim)) ≡ cond b (Err Earlier) (found01 lim h t (a lim))
       go true early = refl
       go false early = found-moved un lim t early (a lim)

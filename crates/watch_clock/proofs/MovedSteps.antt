@@ -1,6 +1,6 @@
 -- One request to posts whose clocks are moved, each channel's by a number of its own.
-use Prim.Native.Nat.{ℕ, zero, suc, ◌+◌, ◌<◌, ◌≤◌}
-use native.Mathlib.Omega.{arith}
+use Rattle.std.specs.Prelude.{Ok, Err}
+use Prim.Native.Nat.{ℕ, ◌<◌}
 use mathlib.Core.Path.{◌≡◌, refl, sym, ap, subst, ◌∙◌}
 use mathlib.Core.List.{◌∷◌}
 use mathlib.Core.Bool.{Bool, true, false}
@@ -9,10 +9,8 @@ use borrow.Author.Tests.{eqb-true, eqb-false, eq-eqb, ltb-true}
 use Rattle.rule_limits.specs.declared.PlainLimits.{PlainLimits}
 use Rattle.rules.specs.History.{Event, History}
 use Rattle.rules.specs.Times.{Unrolled}
-use Rattle.watch_rules.specs.declared.Answer.{Answer}
-use Rattle.watch_rules.specs.declared.Answer.TheVariants.{Findings, Refused}
-use Rattle.watch_rules.specs.declared.Setting.{Setting}
-use Rattle.watch_rules.specs.declared.Setting.TheVariants as setting
+use Rattle.watch_rules.specs.Answer.{Answer}
+use Rattle.watch_rules.specs.Setting.{Setting}
 use Rattle.watch_rules.specs.Table.{post_count, is_channel, Arriving, framing, ticking, is_post}
 use Rattle.watch_rules.specs.Steps as step
 use Rattle.watch_rules.specs.Steps.{event, Steps, Standing, free, held, standing, holds_in, find_from, holder, answer_in, feed01, set_up01, is_held, release01, shown_in, look_up01, event_in, event_on, if_found, feed_steps, if_done, set_up_steps, release_steps, Apart, InTime}
@@ -72,12 +70,12 @@ module _ (by : ℕ → ℕ) where
         go false e = rw (standing_release_other z i j e, standing_release_other s i j e) (moves j low)
 
     done-setUp : (i c : ℕ) (lim : PlainLimits) (r : Setting) → Moves (if_done r (step.setUp i c lim) s) (if_done r (step.setUp i c lim) z)
-    done-setUp i c lim setting.Done = after-setUp i c lim
-    done-setUp i c lim (setting.Refused w) = moves
+    done-setUp i c lim (Ok tt) = after-setUp i c lim
+    done-setUp i c lim (Err w) = moves
 
     done-release : (i : ℕ) (r : Setting) → Moves (if_done r (step.release i) s) (if_done r (step.release i) z)
-    done-release i setting.Done = after-release i
-    done-release i (setting.Refused w) = moves
+    done-release i (Ok tt) = after-release i
+    done-release i (Err w) = moves
 
     module _ (apart : Apart s) (times : (i : ℕ) → i < post_count → InTime (standing i s)) where
       module _ (k c : ℕ) (lim : PlainLimits) (h : History) (low : k < post_count) (own : standing k s ≡ held c lim h) where
@@ -98,8 +96,8 @@ module _ (by : ℕ → ℕ) where
                 ∙ ap (moved_standing by) (sym (standing_event_other s c e j not-here))
 
         found-event : (e : Event) (r : Answer) → Moves (if_found r (event c e) s) (if_found r (event c (moved_event (by c) h e)) z)
-        found-event e (Findings n) = after-event e
-        found-event e (Refused w) = moves
+        found-event e (Ok n) = after-event e
+        found-event e (Err w) = moves
 
         un-held : Unrolled h
         un-held = subst InTime own (times k low)
@@ -165,7 +163,7 @@ module _ (by : ℕ → ℕ) where
 
       same-shown : (x : Standing) → InTime x → still_shown (shown_in (moved_standing by x)) ≡ still_shown (shown_in x)
       same-shown free un = refl
-      same-shown (held c lim h) un = ap (λ (r : _). record { answer = setting.Done; shown = r }) (record_moved (by c) c lim h un)
+      same-shown (held c lim h) un = ap (λ (r : _). record { answer = Ok tt; shown = r }) (record_moved (by c) c lim h un)
 
       pub same_look_up : (i : ℕ) → still_shown (look_up01 z i) ≡ still_shown (look_up01 s i)
       unfolding look_up01

@@ -1,6 +1,7 @@
 -- The laws of the clock on a night that crosses the round: each premise holds there, and each says something.
 -- Post 0 is charging on channel 4: its session opened at 4,294,967,000, the controller's status came at 4,294,967,290, and a tick at 195, 201 ms later.
 -- Post 1 stands idle on channel 9 and has a clock of its own.
+use Rattle.std.specs.Prelude.{Ok}
 use Prim.Native.Nat.{ℕ, ◌+◌, ◌<◌}
 use native.Mathlib.Omega.{arith}
 use borrow.Author.Tests.{ltb-true}
@@ -26,7 +27,6 @@ use Rattle.rules.specs.History.{Event, History, since_finished, opening, in_sess
 use Rattle.rules.specs.Times.{received_of, earlier_in, stamp_of, latest_time, Unrolled}
 use Rattle.rules.specs.Rules.{session_status, session_control, session_stop, limit_of, f1, f2, f3, f4, f5, f6, f7, f8, f9, f10, f11, f12, findings01}
 use Rattle.rules.specs.Record.{record_of}
-use Rattle.watch_rules.specs.declared.Answer.TheVariants.{Findings}
 use Rattle.watch_rules.specs.Table.{post_count, empty_table, look_up_of}
 use Rattle.watch_rules.specs.Steps.{held, standing, find_from, holder, other_holds, feed01, set_up01, release01, look_up01, feed_steps, set_up_steps, release_steps, InTime}
 use Rattle.watch_rules.specs.Run.{Request, setUp, frame, tick, fed, reply, run, accepted, replies_from}
@@ -169,10 +169,10 @@ moved_night_lem : moved_requests by night ≡ moved_night
 moved_night_lem = refl
 
 -- 11 ms after the tick the session has been silent for 502 ms, by either clock: F1 beside F2
-pub reply_night : reply (run night) (tick 4 206) ≡ fed (Findings 3)
+pub reply_night : reply (run night) (tick 4 206) ≡ fed (Ok 3)
 reply_night = own_tick night 0 4 limits heard first computed.0 206 ∙ rw (computed.5, computed.6)
 
-pub reply_300 : reply (run moved_night) (tick 4 506) ≡ fed (Findings 3)
+pub reply_300 : reply (run moved_night) (tick 4 506) ≡ fed (Ok 3)
 reply_300 = reply_moved by night (tick 4 206) ∙ reply_night
 
 pub look_up_300 : still_shown (look_up_of (run moved_night) 0) ≡ still_shown (look_up_of (run night) 0)

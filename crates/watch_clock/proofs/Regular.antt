@@ -1,4 +1,5 @@
 -- 02, Req 09: one post that is ticked regularly, after less than 2^31 ms each: its ticks are in time, F1 and F2 stay right, and ages stop at the largest.
+use Rattle.std.specs.Prelude as std
 use Prim.Native.Nat.{ℕ, zero, suc, ◌+◌, ◌*◌, ◌<◌}
 use native.Mathlib.Nat.{suc-mul}
 use native.Mathlib.Omega.{arith}
@@ -9,8 +10,7 @@ use mathlib.Core.Option.{Option, some}
 use lib.ListN.{length, get_or}
 use Rattle.rule_limits.specs.declared.PlainLimits.{PlainLimits}
 use Rattle.rule_asks.specs.Judgements.{bit}
-use Rattle.rules.specs.declared.Latest.{Latest}
-use Rattle.rules.specs.declared.Dated.TheVariants as dated
+use Rattle.rules.specs.declared.Dated.{Dated}
 use Rattle.rule_pages.specs.declared.Role.{Role}
 use Rattle.rule_pages.specs.declared.Role.TheVariants.{Status, Controller, Command, Stop}
 use Rattle.rules.specs.History.{Event, tick, History, Said, time_of, newest, asked, controller_of, opening, in_session}
@@ -59,8 +59,8 @@ module _ (every t : ℕ) (h : History) where
   length_ticked zero = omega arith
   length_ticked (suc n) = omega (arith, length_ticked n)
 
-abbrev pub no_latest : Latest
-no_latest = record { message = dated.Nothing }
+abbrev pub no_latest : std.Option Dated
+no_latest = std.None
 
 -- ---- regular ticks behind a post's latest event
 
@@ -110,12 +110,11 @@ module _ (every : ℕ) (half : every < 2147483648) (e : Event) (h : History) (un
 
   -- the record has each latest frame with its age, which grows with the ticks and stops at the largest
   pub age_ticked : (c : ℕ) (lim : PlainLimits) (k : ℕ) → k < place_count → (m : Said) → newest (at_place k) (e ∷ h) ≡ some m → (n : ℕ)
-      → (get_or (record_of c lim (after n)).latest k no_latest).message
-      ≡ dated_at (received_of m.time) (age_of (tick_time every (time_of e) n) m.time) m.kind m.raw
+      → get_or (record_of c lim (after n)).latest k no_latest
+      ≡ std.Some (dated_at (received_of m.time) (age_of (tick_time every (time_of e) n) m.time) m.kind m.raw)
   unfolding record_as_of
   age_ticked c lim k low m found n =
-      ap (λ (l : Latest). l.message)
-      (count_at (λ j. record { message = dated_of (latest_time (after n)) (newest (at_place j) (after n)) }) no_latest k 0 place_count k (omega arith) low)
+      count_at (λ j. dated_of (latest_time (after n)) (newest (at_place j) (after n))) no_latest k 0 place_count k (omega arith) low
       ∙ rw (place-ticked every (time_of e) (e ∷ h) k n, found, latest-ticked n)
 
   -- and so has the session's part

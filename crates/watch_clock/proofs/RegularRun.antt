@@ -1,4 +1,5 @@
 -- 02, Req 09: the same over the public operations: no regular tick is refused while the post's count has room, whatever rounds its clock makes.
+use Rattle.std.specs.Prelude.{Ok}
 use Prim.Native.Nat.{ℕ, zero, suc, ◌+◌, ◌<◌, ◌≤◌}
 use native.Mathlib.Omega.{arith}
 use mathlib.Core.Path.{◌≡◌, ap, ◌∙◌, subst}
@@ -13,8 +14,6 @@ use Rattle.rules.specs.Times.{received_of, Unrolled}
 use Rattle.rules.specs.Rules.{is_open}
 use Rattle.rules.specs.Counts.{largest, is_full}
 use Rattle.rules.specs.Record.{record_of}
-use Rattle.watch_rules.specs.declared.Answer.TheVariants.{Findings}
-use Rattle.watch_rules.specs.declared.Setting.TheVariants as setting
 use Rattle.watch_rules.specs.Table.{post_count, look_up_of}
 use Rattle.watch_rules.specs.Steps.{held, standing, look_up01, InTime}
 use Rattle.watch_rules.specs.Run.{Request, fed, reply, run, accepted}
@@ -38,7 +37,7 @@ module _ (every : ℕ) (half : every < 2147483648) (e : Event) (h : History) (rs
   room_for n room = lt-leb largest (length (ticks_after n)) (omega (arith, room, length_ticked every (time_of e) (e ∷ h) n))
 
   reply-next : (n : ℕ) → n + length (e ∷ h) < largest → standing i (accepted (ticked_on c every (time_of e) n rs)) ≡ held c lim (ticks_after n)
-      → reply (run (ticked_on c every (time_of e) n rs)) (tick_after c every (time_of e) n) ≡ fed (Findings bits)
+      → reply (run (ticked_on c every (time_of e) n rs)) (tick_after c every (time_of e) n) ≡ fed (Ok bits)
   reply-next n room stands =
       own_tick (ticked_on c every (time_of e) n rs) i c lim (ticks_after n) low stands (received_of (tick_time every (time_of e) (suc n)))
       ∙ rw (tick_in_time every half e h un n, room_for n room, tick_stands every half e h un n, findings_ticked every half e h un lim silent late n)
@@ -54,11 +53,11 @@ module _ (every : ℕ) (half : every < 2147483648) (e : Event) (h : History) (rs
 
   -- none is refused while the post's count has room, and each has the findings
   pub reply_ticked : (n : ℕ) → n + length (e ∷ h) < largest
-      → reply (run (ticked_on c every (time_of e) n rs)) (tick_after c every (time_of e) n) ≡ fed (Findings bits)
+      → reply (run (ticked_on c every (time_of e) n rs)) (tick_after c every (time_of e) n) ≡ fed (Ok bits)
   reply_ticked n room = reply-next n room (standing_ticked n (omega (arith, room)))
 
   pub record_ticked : (n : ℕ) → n + length (e ∷ h) ≤ largest
-      → look_up_of (run (ticked_on c every (time_of e) n rs)) i ≡ record { answer = setting.Done; shown = record_of c lim (ticks_after n) }
+      → look_up_of (run (ticked_on c every (time_of e) n rs)) i ≡ record { answer = Ok tt; shown = record_of c lim (ticks_after n) }
   unfolding look_up01
   record_ticked n room =
       every_record (ticked_on c every (time_of e) n rs) i ∙ rw (lt-ltb i post_count low, standing_ticked n room)

@@ -1,15 +1,13 @@
 -- The same event at another time, histories whose times never fall, and a record but for its times as received.
-use Rattle.std.specs.Prelude.{ℕ, ◌+◌, ◌≤◌, ◌≡◌, List, [], ◌∷◌, map}
+use Rattle.std.specs.Prelude as std
+use Rattle.std.specs.Prelude.{ℕ, ◌+◌, ◌≤◌, ◌≡◌, List, [], ◌∷◌, map, Some, None}
 use Rattle.std.proofs.Math.Option.{Option, none, some}
 use Rattle.rule_limits.specs.declared.PlainLimits.{PlainLimits}
-use Rattle.rules.specs.declared.LastTime.{LastTime}
-use Rattle.rules.specs.declared.LastTime.TheVariants as last
+use Rattle.rules.specs.LastTime.{LastTime}
 use Rattle.rules.specs.declared.Dated.{Dated}
 use Rattle.rules.specs.declared.Dated.TheVariants as dated
-use Rattle.rules.specs.declared.Latest.{Latest}
 use Rattle.rules.specs.declared.OpenSession.{OpenSession}
-use Rattle.rules.specs.declared.SessionPart.{SessionPart}
-use Rattle.rules.specs.declared.SessionPart.TheVariants as part
+use Rattle.rules.specs.SessionPart.{SessionPart}
 use Rattle.rules.specs.declared.Record.{Record}
 use Rattle.rules.specs.History.{Event, frame, tick, History, Said, said_at, time_of}
 use Rattle.rules.specs.Times.{latest_time}
@@ -68,23 +66,23 @@ FoundBy now (some m) = m.time ≤ now
 -- ---- a record but for its times as received: 0 stands for each, and the ages stay
 
 abbrev pub still_last : LastTime → LastTime
-still_last last.Never = last.Never
-still_last (last.At t) = last.At 0
+still_last None = None
+still_last (Some t) = Some 0
 
 abbrev pub still_dated : Dated → Dated
-still_dated dated.Nothing = dated.Nothing
 still_dated (dated.At t age m) = dated.At 0 age m
 still_dated (dated.OlderAt t age m) = dated.OlderAt 0 age m
 
-abbrev pub still_latest : Latest → Latest
-still_latest l = record { message = still_dated l.message }
+abbrev pub still_latest : std.Option Dated → std.Option Dated
+still_latest std.None = std.None
+still_latest (std.Some d) = std.Some (still_dated d)
 
 abbrev pub still_open : OpenSession → OpenSession
 still_open s = record { since = 0; age = s.age; protocol = s.protocol; plug = s.plug }
 
 abbrev pub still_part : SessionPart → SessionPart
-still_part part.Closed = part.Closed
-still_part (part.Opened s) = part.Opened (still_open s)
+still_part None = None
+still_part (Some s) = Some (still_open s)
 
 unfoldable pub still : Record → Record
 still r =
@@ -102,18 +100,21 @@ still r =
 -- ---- what is left out: its times as received
 
 abbrev pub last_time_in : LastTime → ℕ
-last_time_in last.Never = 0
-last_time_in (last.At t) = t
+last_time_in None = 0
+last_time_in (Some t) = t
 
 abbrev pub dated_time : Dated → ℕ
-dated_time dated.Nothing = 0
 dated_time (dated.At t age m) = t
 dated_time (dated.OlderAt t age m) = t
 
+abbrev pub latest_shown_time : std.Option Dated → ℕ
+latest_shown_time std.None = 0
+latest_shown_time (std.Some d) = dated_time d
+
 abbrev pub since_in : SessionPart → ℕ
-since_in part.Closed = 0
-since_in (part.Opened s) = s.since
+since_in None = 0
+since_in (Some s) = s.since
 
 abbrev pub times_in : Record → ℕ × List ℕ × ℕ × List ℕ
 times_in r =
-    (last_time_in r.last, map (λ (l : Latest). dated_time l.message) r.latest, since_in r.session, map (λ (l : Latest). dated_time l.message) r.kept)
+    (last_time_in r.last, map latest_shown_time r.latest, since_in r.session, map latest_shown_time r.kept)

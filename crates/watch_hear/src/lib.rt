@@ -1,30 +1,34 @@
 // One post hears what comes to it: 1 where it does not hold the channel, 2, then the reader's 3 to 6 with 29 in 3's place, then 25, then the findings.
 // For every way to step a table of posts.
+#![tactic(auto)]
+
 ghost use Rattle.std.specs.Prelude.{◌≡◌};
-ghost use Rattle.post.specs.rules.specs.After.{is_full_in, after_tick, after_frame};
+ghost use Rattle.post.specs.rules.specs.After.{is_full_in};
 ghost use Rattle.watch_places.specs.watch_rules.specs.Steps.{HearRight};
-ghost use Rattle.watch_places.specs.watch_rules.specs.Table.{arrival_for, turned_away, heard_by, unless_full, heard_of, one_more, refused_after};
+ghost use Rattle.watch_places.specs.watch_rules.specs.Table.{arrival_for, turned_away, heard_by, judged_of, heard_of, one_more, refused_after};
 
 // The crates among these are passed on to those above, which name them through this one.
 use page_interfaces::judge_for;
-use page_read::Judged;
 use post::post_times;
-use post::rules::{Head, PLACES, Slot};
+use post::rules::{AfterEvent, Head, PLACES, Slot};
 use refusals::Refusal;
-use rule_limits::PlainLimits;
-use rule_limits::kept::interface_of;
+use rule_limits::{Interface, PlainLimits};
 pub use watch_places;
+use watch_places::is_held;
 pub use watch_places::watch_rules;
-use watch_places::watch_rules::{Answer, Arrival, Heard};
+use watch_places::watch_rules::{Arrival, Heard};
 
-// What a frame is to a post, by its limits and by what the pages of its interface say.
+// What a frame is to a post, by its limits and by what the pages of its interface say. A kind that was read fits the word that a slot has for it.
+// Kept (5): identifier, form and payload go one by one from the entries, as C hands them in, to the reader.
 pub fn arrival_for(limits: PlainLimits, id: u32, extended: bool, payload: &[u8]) -> Arrival
     ensures { result ≡ arrival_for limits id extended payload.now }
 {
-    let iface = interface_of(limits.interface);
-    match judge_for(iface, id, extended, payload) {
-        Judged::Frame(kind, raw) => Arrival::Frame(kind as u32, raw),
-        Judged::Refused(w) => Arrival::Unread(w),
+    match judge_for(Interface::from(limits.interface), id, extended, payload) {
+        Ok((kind, raw)) => Arrival::Frame {
+            kind: kind as u32,
+            raw,
+        },
+        Err(w) => Arrival::Unread(w),
     }
 }
 
@@ -33,14 +37,9 @@ fn turned_away(h: Head, w: Refusal) -> Heard
 {
     Heard {
         head: h,
-        slot: Slot {
-            known: 0,
-            kind: 0,
-            time: 0,
-            raw: 0,
-        },
+        slot: Slot::default(),
         at: PLACES,
-        answer: Answer::Refused(w),
+        answer: Err(w),
     }
 }
 
@@ -48,40 +47,18 @@ fn turned_away(h: Head, w: Refusal) -> Heard
 fn is_full(h: Head) -> bool
     ensures { result ≡ is_full_in h }
 {
-    4294967295 <= h.counts[0]
+    h.counts[0] == u32::MAX
 }
 
-fn ticked(h: Head, time: u32) -> Heard
-    ensures { result ≡ unless_full h (heard_by (after_tick h time)) }
+// What an event leaves, as what its post heard.
+fn heard_by(r: AfterEvent) -> Heard
+    ensures { result ≡ heard_by r }
 {
-    if is_full(h) {
-        return turned_away(h, Refusal::CountFull);
-    }
-    let r = post::tick(h, time);
-    let g = r.head;
-    let slot = r.slot;
     Heard {
-        head: g,
-        slot,
+        head: r.head,
+        slot: r.slot,
         at: r.at,
-        answer: Answer::Findings(r.findings),
-    }
-}
-
-fn framed(h: Head, time: u32, kind: u32, raw: u64) -> Heard
-    ensures { result ≡ unless_full h (heard_by (after_frame h time kind raw)) }
-{
-    if is_full(h) {
-        return turned_away(h, Refusal::CountFull);
-    }
-    let r = post::frame(h, time, kind, raw);
-    let g = r.head;
-    let slot = r.slot;
-    Heard {
-        head: g,
-        slot,
-        at: r.at,
-        answer: Answer::Findings(r.findings),
+        answer: Ok(r.findings),
     }
 }
 
@@ -89,35 +66,37 @@ fn framed(h: Head, time: u32, kind: u32, raw: u64) -> Heard
 fn one_more(n: u64) -> u64
     ensures { result ≡ one_more n }
 {
-    if n < 4294967295 { n + 1 } else { n }
+    if n < u64::from(u32::MAX) { n + 1 } else { n }
+}
+
+// An event that is in time, on the post that holds its channel.
+fn judged(h: Head, time: u32, a: Arrival) -> Heard
+    ensures { result ≡ judged_of h time a }
+{
+    match a {
+        Arrival::Unread(w) => turned_away(h, w),
+        _ if is_full(h) => turned_away(h, Refusal::CountFull),
+        Arrival::Tick => heard_by(post::tick(h, time)),
+        Arrival::Frame { kind, raw } => heard_by(post::frame(h, time, kind, raw)),
+    }
 }
 
 pub fn hear(h: Head, channel: u32, time: u32, a: Arrival) -> Heard
     ensures by_record { result ≡ heard_of h channel time a }
     ensures by_history { HearRight h channel time a result }
 {
-    if 31 < channel {
-        return turned_away(h, Refusal::ChannelFree);
-    }
-    if !watch_places::holds_channel(h, channel) {
-        return turned_away(h, Refusal::ChannelFree);
-    }
-    if post_times::is_early(h, time) {
-        return turned_away(h, Refusal::Earlier);
-    }
-    match a {
-        Arrival::Tick => ticked(h, time),
-        Arrival::Frame(kind, raw) => framed(h, time, kind, raw),
-        Arrival::Unread(w) => turned_away(h, w),
+    if !is_held(h, channel) {
+        turned_away(h, Refusal::ChannelFree)
+    } else if post_times::is_early(h, time) {
+        turned_away(h, Refusal::Earlier)
+    } else {
+        judged(h, time, a)
     }
 }
 
 // The table's count of refused frames and ticks after an answer.
-pub fn refused_after(n: u64, a: Answer) -> u64
+pub fn refused_after(n: u64, a: Result<u32, Refusal>) -> u64
     ensures { result ≡ refused_after n a }
 {
-    match a {
-        Answer::Findings(_) => n,
-        Answer::Refused(_) => one_more(n),
-    }
+    if a.is_err() { one_more(n) } else { n }
 }

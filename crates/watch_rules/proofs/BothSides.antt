@@ -1,8 +1,9 @@
 -- The readings from both sides of each edge, of the operations that `by_record` promises, one after the other from the empty table:
 -- the very cases that hold by looking back (specs/Readings.antt), closed by computing.
+use Rattle.std.specs.Prelude as std
 use Prim.Native.Nat.{ℕ}
 use mathlib.Core.Path.{◌≡◌, refl}
-use mathlib.Core.List.{List, [], ◌∷◌, map}
+use mathlib.Core.List.{List, [], ◌∷◌}
 use lib.ListN.{get_or}
 use Rattle.signal.specs.Signal.{get_bits}
 use Rattle.signal.specs.Twos.{to_signed}
@@ -21,14 +22,13 @@ use Rattle.messages.specs.message_build.specs.Built.{message_of, built_of}
 use Rattle.rule_limits.specs.Limits.{limits_fit}
 use Rattle.rule_asks.specs.Judgements.{lowers_badly, outside, leaking, bad_insulation, differs}
 use Rattle.rules.specs.declared.Dated.{Dated}
-use Rattle.rules.specs.declared.Dated.TheVariants as dated
 use Rattle.rules.specs.After.{session_after, stamp_in, aged_to, with_frame, silent_in, late_after, any_findings, unready_in, carrying_in, stopped_in, control_findings, status_findings, opening_findings, finished_findings, message_findings, counted, with_counts, after_tick, after_frame, post_record}
 use Rattle.watch_rules.specs.Table.{place_of, place_named, some_place, place_in, heard_of, one_more, feed_at, feed_of, empty_table, is_other, set_up_of, release_of, look_up_of}
 use Rattle.watch_rules.specs.Run.{Request, run_from, replies_from}
 use Rattle.watch_rules.specs.Readings.{Case, codec, answers, shows, senses, reads-by, in-session, keeps, dates, counts, turns-away, names, is_dated, e8to13}
 
-abbrev latest_run : List Request → ℕ → ℕ → Dated
-latest_run asked post kind = (get_or (look_up_of (run_from empty_table asked) post).shown.latest kind (record { message = dated.Nothing })).message
+abbrev latest_run : List Request → ℕ → ℕ → std.Option Dated
+latest_run asked post kind = get_or (look_up_of (run_from empty_table asked) post).shown.latest kind std.None
 
 abbrev pub Runs : Case → Type 0
 Runs (codec c) = Unit {0}
@@ -37,7 +37,7 @@ Runs (shows asked post shown) = look_up_of (run_from empty_table asked) post ≡
 Runs (senses asked post sensor) = (look_up_of (run_from empty_table asked) post).shown.limits.sensor ≡ sensor
 Runs (reads-by asked post iface) = (look_up_of (run_from empty_table asked) post).shown.limits.interface ≡ iface
 Runs (in-session asked post session ks) =
-    ((look_up_of (run_from empty_table asked) post).shown.session ≡ session) × ((look_up_of (run_from empty_table asked) post).shown.kept ≡ map (λ d. record { message = d }) ks)
+    ((look_up_of (run_from empty_table asked) post).shown.session ≡ session) × ((look_up_of (run_from empty_table asked) post).shown.kept ≡ ks)
 Runs (keeps asked post kind latest) = latest_run asked post kind ≡ latest
 Runs (dates asked post kind d) = is_dated (latest_run asked post kind) d
 Runs (counts asked post accepted tallies) =

@@ -1,4 +1,5 @@
 -- Demand 3, over any requests from the empty table, refused ones among them, newest first.
+use Rattle.std.specs.Prelude.{Ok, Err}
 use Prim.Native.Nat.{ℕ, ◌<◌}
 use mathlib.Core.Path.{◌≡◌, refl, ap, ap₂, sym, subst, ◌∙◌}
 use mathlib.Core.List.{List, [], ◌∷◌, reverse, reverse_aux}
@@ -8,24 +9,20 @@ use lib.ListN.{get_or}
 use borrow.Author.Tests.{eqb-true, eq-eqb, ltb-true, lt-ltb}
 use Rattle.refusals.specs.declared.Refusal.{Refusal}
 use Rattle.refusals.specs.declared.Refusal.TheVariants.{ChannelFree, Earlier, CountFull}
-use Rattle.page_read.specs.declared.Judged.TheVariants as judged
 use Rattle.page_interfaces.specs.Foreign.{judge_for}
 use Rattle.rule_limits.specs.declared.PlainLimits.{PlainLimits}
-use Rattle.rule_limits.specs.Sensor.{interface_of}
+use Rattle.page_table.specs.Interfaces.{interface_of}
 use Rattle.rules.specs.declared.Head.{Head}
 use Rattle.rules.specs.declared.Post.{Post}
 use Rattle.rules.specs.Record.{is_set}
 use Rattle.rules.specs.History.{Event, History}
 use Rattle.rules.specs.Times.{earlier_in}
 use Rattle.rules.specs.Right.{tick_at, frame_at}
-use Rattle.rules.specs.History as history
 use Rattle.rules.specs.Rules.{findings01}
 use Rattle.rules.specs.Counts.{is_full}
 use Rattle.watch_rules.specs.declared.Table.{Table}
-use Rattle.watch_rules.specs.declared.Answer.{Answer}
-use Rattle.watch_rules.specs.declared.Answer.TheVariants.{Findings, Refused}
-use Rattle.watch_rules.specs.declared.Setting.{Setting}
-use Rattle.watch_rules.specs.declared.Setting.TheVariants as setting
+use Rattle.watch_rules.specs.Answer.{Answer}
+use Rattle.watch_rules.specs.Setting.{Setting}
 use Rattle.watch_rules.specs.Table.{post_count, is_channel, holds, no_post, post_in, Arriving, framing, ticking, one_refused, empty_table, is_post, look_up_of}
 use Rattle.watch_rules.specs.Steps as step
 use Rattle.watch_rules.specs.Steps.{event, Step, Steps, Standing, free, held, standing, holds_in, holder, other_holds, answer_in, feed01, set_up01, release01, look_up01, if_found, feed_steps, if_done, set_up_steps, release_steps, Apart, InRange, Kept}
@@ -77,24 +74,24 @@ module _ (rs : List Request) (i c : ℕ) (lim : PlainLimits) (h : History) (low 
   -- The same for the post that holds the channel, over its limits and its own history:
   -- 2 where the time is earlier than its latest, else the findings of 01's rules for the event where its time puts it,
   -- and 25 where the history has no room for one event more.
-  pub own_tick : (t : ℕ) → reply (run rs) (tick c t) ≡ fed (cond (earlier_in h t) (Refused Earlier) (cond (is_full h) (Refused CountFull) (Findings (findings01 lim h (tick_at t h)))))
+  pub own_tick : (t : ℕ) → reply (run rs) (tick c t) ≡ fed (cond (earlier_in h t) (Err Earlier) (cond (is_full h) (Err CountFull) (Ok (findings01 lim h (tick_at t h)))))
   own_tick t = every_answer rs (tick c t) ∙ ap fed (feed_own t ticking)
 
-  pub own_frame : (t m : ℕ) (x : Bool) (bs : List ℕ) (k n : ℕ) → judge_for (interface_of lim.interface) m x bs ≡ judged.Frame k n
-      → reply (run rs) (frame c t m x bs) ≡ fed (cond (earlier_in h t) (Refused Earlier) (cond (is_full h) (Refused CountFull) (Findings (findings01 lim h (frame_at t k n h)))))
+  pub own_frame : (t m : ℕ) (x : Bool) (bs : List ℕ) (k n : ℕ) → judge_for (interface_of lim.interface) m x bs ≡ Ok (k, n)
+      → reply (run rs) (frame c t m x bs) ≡ fed (cond (earlier_in h t) (Err Earlier) (cond (is_full h) (Err CountFull) (Ok (findings01 lim h (frame_at t k n h)))))
   own_frame t m x bs k n e = every_answer rs (frame c t m x bs) ∙ ap fed (feed_own t (framing m x bs) ∙ rw e)
 
   -- and for a frame that its reader refuses
-  pub own_unread : (t m : ℕ) (x : Bool) (bs : List ℕ) (w : Refusal) → judge_for (interface_of lim.interface) m x bs ≡ judged.Refused w
-      → reply (run rs) (frame c t m x bs) ≡ fed (cond (earlier_in h t) (Refused Earlier) (Refused w))
+  pub own_unread : (t m : ℕ) (x : Bool) (bs : List ℕ) (w : Refusal) → judge_for (interface_of lim.interface) m x bs ≡ Err w
+      → reply (run rs) (frame c t m x bs) ≡ fed (cond (earlier_in h t) (Err Earlier) (Err w))
   own_unread t m x bs w e = every_answer rs (frame c t m x bs) ∙ ap fed (feed_own t (framing m x bs) ∙ rw e)
 
   -- 02, Req 08: in time and readable, it gets 25 where its post's count is the largest, and the history does not grow (`refused-nothing`)
-  pub full_tick : (t : ℕ) → earlier_in h t ≡ false → is_full h ≡ true → reply (run rs) (tick c t) ≡ fed (Refused CountFull)
+  pub full_tick : (t : ℕ) → earlier_in h t ≡ false → is_full h ≡ true → reply (run rs) (tick c t) ≡ fed (Err CountFull)
   full_tick t late full = own_tick t ∙ rw (late, full)
 
-  pub full_frame : (t m : ℕ) (x : Bool) (bs : List ℕ) (k n : ℕ) → judge_for (interface_of lim.interface) m x bs ≡ judged.Frame k n → earlier_in h t ≡ false → is_full h ≡ true
-      → reply (run rs) (frame c t m x bs) ≡ fed (Refused CountFull)
+  pub full_frame : (t m : ℕ) (x : Bool) (bs : List ℕ) (k n : ℕ) → judge_for (interface_of lim.interface) m x bs ≡ Ok (k, n) → earlier_in h t ≡ false → is_full h ≡ true
+      → reply (run rs) (frame c t m x bs) ≡ fed (Err CountFull)
   full_frame t m x bs k n e late full = own_frame t m x bs k n e ∙ rw (late, full)
 
 -- ---- a refused request
@@ -117,20 +114,20 @@ module _ (s : Steps) (i : ℕ) (was : InTable i (standing i s)) where
   low-set k c lim = go (is_post k) refl
     where
       done : is_post k ≡ true → (r : Setting) → InTable i (standing i (if_done r (step.setUp k c lim) s))
-      done post setting.Done = over_set_up s (InTable i) i k c lim (λ e. subst (λ (j : ℕ). j < post_count) e (ltb-true k post_count post)) (λ ne. was)
-      done post (setting.Refused w) = was
+      done post (Ok tt) = over_set_up s (InTable i) i k c lim (λ e. subst (λ (j : ℕ). j < post_count) e (ltb-true k post_count post)) (λ ne. was)
+      done post (Err w) = was
 
       go : (b : Bool) → is_post k ≡ b → InTable i (standing i (set_up_steps s k c lim))
       go true e = done e (set_up01 s k c lim)
       go false e = rw e was
 
   low-done : (r : Setting) (k : ℕ) → InTable i (standing i (if_done r (step.release k) s))
-  low-done setting.Done k = over_release s (InTable i) i k tt was
-  low-done (setting.Refused w) k = was
+  low-done (Ok tt) k = over_release s (InTable i) i k tt was
+  low-done (Err w) k = was
 
   low-found : (r : Answer) (c : ℕ) (e : Event) → InTable i (standing i (if_found r (event c e) s))
-  low-found (Findings n) c e = over_event s (InTable i) i c e (λ lim h low. low) was
-  low-found (Refused w) c e = was
+  low-found (Ok n) c e = over_event s (InTable i) i c e (λ lim h low. low) was
+  low-found (Err w) c e = was
 
   low-next : (a : Request) → InTable i (standing i (steps01 s a))
   unfolding release_steps feed_steps
@@ -159,43 +156,43 @@ counted_none i = standing_none i
 
 module _ (rs : List Request) (i : ℕ) where
   -- 01: "Setting up a post again .. starts an empty history."
-  pub counted_set_up : (c : ℕ) (lim : PlainLimits) → reply (run rs) (setUp i c lim) ≡ set setting.Done → standing i (accepted (setUp i c lim ∷ rs)) ≡ held c lim []
+  pub counted_set_up : (c : ℕ) (lim : PlainLimits) → reply (run rs) (setUp i c lim) ≡ set (Ok tt) → standing i (accepted (setUp i c lim ∷ rs)) ≡ held c lim []
   unfolding accepted set_up_steps
   counted_set_up c lim q =
-      let z : set_up01 (accepted rs) i c lim ≡ setting.Done = cc (every_answer rs (setUp i c lim)) in
+      let z : set_up01 (accepted rs) i c lim ≡ Ok tt = cc (every_answer rs (setUp i c lim)) in
       rw z (standing_set_up (accepted rs) i c lim)
 
   -- 01: "Release frees the channel and drops the record."
-  pub counted_release : reply (run rs) (release i) ≡ set setting.Done → standing i (accepted (release i ∷ rs)) ≡ free
+  pub counted_release : reply (run rs) (release i) ≡ set (Ok tt) → standing i (accepted (release i ∷ rs)) ≡ free
   unfolding accepted release_steps
   counted_release q =
-      let z : release01 (accepted rs) i ≡ setting.Done = cc (every_answer rs (release i)) in
+      let z : release01 (accepted rs) i ≡ Ok tt = cc (every_answer rs (release i)) in
       rw z (standing_release (accepted rs) i)
 
   module _ (c : ℕ) (lim : PlainLimits) (h : History) (own : standing i (accepted rs) ≡ held c lim h) (t found : ℕ) where
-    pub counted_tick : reply (run rs) (tick c t) ≡ fed (Findings found) → standing i (accepted (tick c t ∷ rs)) ≡ held c lim (tick_at t h ∷ h)
+    pub counted_tick : reply (run rs) (tick c t) ≡ fed (Ok found) → standing i (accepted (tick c t ∷ rs)) ≡ held c lim (tick_at t h ∷ h)
     unfolding accepted feed_steps
     counted_tick q =
-        let z : feed01 (accepted rs) c t ticking ≡ Findings found = cc (every_answer rs (tick c t)) in
+        let z : feed01 (accepted rs) c t ticking ≡ Ok found = cc (every_answer rs (tick c t)) in
         rw (z, holder_own rs i c lim h own, own) (standing_event (accepted rs) i c lim h (tick_at t h) own)
 
-    pub counted_frame : (m : ℕ) (x : Bool) (bs : List ℕ) (k n : ℕ) → judge_for (interface_of lim.interface) m x bs ≡ judged.Frame k n → reply (run rs) (frame c t m x bs) ≡ fed (Findings found)
+    pub counted_frame : (m : ℕ) (x : Bool) (bs : List ℕ) (k n : ℕ) → judge_for (interface_of lim.interface) m x bs ≡ Ok (k, n) → reply (run rs) (frame c t m x bs) ≡ fed (Ok found)
         → standing i (accepted (frame c t m x bs ∷ rs)) ≡ held c lim (frame_at t k n h ∷ h)
     unfolding accepted feed_steps
     counted_frame m x bs k n e q =
-        let z : feed01 (accepted rs) c t (framing m x bs) ≡ Findings found = cc (every_answer rs (frame c t m x bs)) in
+        let z : feed01 (accepted rs) c t (framing m x bs) ≡ Ok found = cc (every_answer rs (frame c t m x bs)) in
         rw (z, holder_own rs i c lim h own, own, e) (standing_event (accepted rs) i c lim h (frame_at t k n h) own)
 
 -- ---- a request about another post
 
 module _ (s : Steps) (j : ℕ) where
   done-other : (r : Setting) (x : Step) → standing j (x ∷ s) ≡ standing j s → standing j (if_done r x s) ≡ standing j s
-  done-other setting.Done x q = q
-  done-other (setting.Refused w) x q = refl
+  done-other (Ok tt) x q = q
+  done-other (Err w) x q = refl
 
   found-other : (r : Answer) (x : Step) → standing j (x ∷ s) ≡ standing j s → standing j (if_found r x s) ≡ standing j s
-  found-other (Findings n) x q = q
-  found-other (Refused w) x q = refl
+  found-other (Ok n) x q = q
+  found-other (Err w) x q = refl
 
   steps-other : (a : Request) → concerns s a j ≡ false → standing j (steps01 s a) ≡ standing j s
   unfolding set_up_steps release_steps feed_steps
@@ -230,11 +227,11 @@ no_channel rs c q i h = go (holds_in (standing i (accepted rs)) c) refl
         let range : InRange (held c o.0 o.1) = subst InRange o.2 ((run_kept rs).ranges i h) in
         absurd (true≢false (sym range.0 ∙ q))
 
-free_answer : (s : Steps) (c : ℕ) → Unheld s c → (t : ℕ) (a : Arriving) → feed01 s c t a ≡ Refused ChannelFree
+free_answer : (s : Steps) (c : ℕ) → Unheld s c → (t : ℕ) (a : Arriving) → feed01 s c t a ≡ Err ChannelFree
 unfolding feed01
 free_answer s c unheld t a = go (is_channel c) (ltb (holder s c) post_count) refl
   where
-    go : (p q : Bool) → ltb (holder s c) post_count ≡ q → cond (p && q) (answer_in (standing (holder s c) s) t a) (Refused ChannelFree) ≡ Refused ChannelFree
+    go : (p q : Bool) → ltb (holder s c) post_count ≡ q → cond (p && q) (answer_in (standing (holder s c) s) t a) (Err ChannelFree) ≡ Err ChannelFree
     go false q e = refl
     go true false e = refl
     go true true e =
@@ -244,9 +241,9 @@ free_answer s c unheld t a = go (is_channel c) (ltb (holder s c) post_count) ref
 -- A frame or tick on a channel that nobody holds is refused with 1 and changes nothing but the count of those refused.
 -- 01: "channel above 31, or held by no post"
 pub nobody_holds : (rs : List Request) (c : ℕ) → Unheld (accepted rs) c → (a : Request) → arrives_on c a ≡ true
-    → (reply (run rs) a ≡ fed (Refused ChannelFree)) × (run (a ∷ rs) ≡ one_refused (run rs))
+    → (reply (run rs) a ≡ fed (Err ChannelFree)) × (run (a ∷ rs) ≡ one_refused (run rs))
 nobody_holds rs c unheld a q =
-    let z : reply (run rs) a ≡ fed (Refused ChannelFree) = every_answer rs a ∙ free a q in
+    let z : reply (run rs) a ≡ fed (Err ChannelFree) = every_answer rs a ∙ free a q in
     (z, (refused_nothing rs a (ap is_refusal z)).0 ∙ counts a q)
   where
     counts : (x : Request) → arrives_on c x ≡ true → after_refusal (run rs) x ≡ one_refused (run rs)
@@ -255,7 +252,7 @@ nobody_holds rs c unheld a q =
     counts (frame d time m x bs) e = refl
     counts (tick d time) e = refl
 
-    free : (x : Request) → arrives_on c x ≡ true → reply01 (accepted rs) x ≡ fed (Refused ChannelFree)
+    free : (x : Request) → arrives_on c x ≡ true → reply01 (accepted rs) x ≡ fed (Err ChannelFree)
     free (setUp i d lim) e = absurd (true≢false (sym e))
     free (release i) e = absurd (true≢false (sym e))
     free (frame d time m x bs) e = rw (eqb-true d c e) (ap fed (free_answer (accepted rs) c unheld time (framing m x bs)))

@@ -1,4 +1,5 @@
 -- What each post's standing keeps, whatever is accepted: it holds of a post that is not set up and of one that was just set up, and an accepted event keeps it.
+use Rattle.std.specs.Prelude.{Ok, Err}
 use Prim.Native.Nat.{ℕ, ◌<◌}
 use mathlib.Core.Path.{◌≡◌, refl, ap, subst, ◌∙◌}
 use mathlib.Core.List.{[], ◌∷◌}
@@ -8,10 +9,8 @@ use borrow.Author.Tests.{eqb-true, eqb-false, eq-eqb, ltb-true}
 use Rattle.rule_limits.specs.declared.PlainLimits.{PlainLimits}
 use Rattle.rules.specs.History.{Event, History}
 use Rattle.rules.specs.Times.{earlier_in}
-use Rattle.watch_rules.specs.declared.Answer.{Answer}
-use Rattle.watch_rules.specs.declared.Answer.TheVariants.{Findings, Refused}
-use Rattle.watch_rules.specs.declared.Setting.{Setting}
-use Rattle.watch_rules.specs.declared.Setting.TheVariants as setting
+use Rattle.watch_rules.specs.Answer.{Answer}
+use Rattle.watch_rules.specs.Setting.{Setting}
 use Rattle.watch_rules.specs.Table.{post_count, is_channel, Arriving}
 use Rattle.watch_rules.specs.Steps.{setUp, release, event, Steps, Standing, free, held, standing, holds_in, holder, answer_in, feed01, event_in, event_on, if_found, feed_steps, if_done, Apart}
 use Rattle.watch_rules.proofs.Standings.{standing_none, standing_event, standing_event_other, over_set_up, over_release, held_on, holder_holds, alone}
@@ -26,12 +25,12 @@ module _ (P : Standing → Type 0) where
 
     module _ (s : Steps) (each : Each s) where
       pub each_released : (k : ℕ) (r : Setting) → Each (if_done r (release k) s)
-      each_released k setting.Done = λ i h. over_release s P i k free-so (each i h)
-      each_released k (setting.Refused w) = each
+      each_released k (Ok tt) = λ i h. over_release s P i k free-so (each i h)
+      each_released k (Err w) = each
 
       pub each_set : (k c : ℕ) (lim : PlainLimits) (r : Setting) → Each (if_done r (setUp k c lim) s)
-      each_set k c lim setting.Done = λ i h. over_set_up s P i k c lim (λ e. fresh-so c lim) (λ ne. each i h)
-      each_set k c lim (setting.Refused w) = each
+      each_set k c lim (Ok tt) = λ i h. over_set_up s P i k c lim (λ e. fresh-so c lim) (λ ne. each i h)
+      each_set k c lim (Err w) = each
 
   -- an event goes to one post alone, and keeps there what it keeps of that post
   module _ (s : Steps) (each : Each s) (apart : Apart s) (a : Arriving)
@@ -47,8 +46,8 @@ module _ (P : Standing → Type 0) where
               (each i hi)
 
       each-found : (e : Event) → P (held c lim (e ∷ h)) → (r : Answer) → Each (if_found r (event c e) s)
-      each-found e so (Findings n) = each-event e so
-      each-found e so (Refused w) = each
+      each-found e so (Ok n) = each-event e so
+      each-found e so (Err w) = each
 
       each-heard : (t : ℕ) → Each (if_found (answer_in (held c lim h) t a) (event c (event_on (held c lim h) t a)) s)
       each-heard t = go (earlier_in h t) refl

@@ -1,14 +1,13 @@
 -- The counts at their largest: a post that was ticked 4,294,967,295 times gets 25, and a table that has refused as many ticks counts no further.
-use Prim.Native.Nat.{ℕ, zero, suc, ◌+◌, ◌≤◌, ◌<◌, min}
-use native.Mathlib.Nat.{zero-add}
+use Rattle.std.specs.Prelude.{Ok, Err}
+use Prim.Native.Nat.{ℕ, zero, suc, ◌+◌, ◌≤◌, ◌<◌}
 use native.Mathlib.Omega.{arith}
-use mathlib.Core.Path.{◌≡◌, refl, sym, ap, ◌∙◌}
+use mathlib.Core.Path.{◌≡◌, refl, ap, ◌∙◌}
 use mathlib.Core.List.{List, [], ◌∷◌}
-use mathlib.Core.Bool.{Bool, true, false}
+use mathlib.Core.Bool.{true, false}
 use borrow.Author.Tests.{ltb-true, le-leb, lt-leb}
-use lib.ListN.{length, replicate}
+use lib.ListN.{length}
 use Rattle.refusals.specs.declared.Refusal.TheVariants.{ChannelFree, CountFull}
-use Rattle.page_read.specs.declared.Judged.TheVariants as judged
 use Rattle.page_table.specs.Table.{rows, of_kind, first_at, covered}
 use Rattle.page_read.specs.Judge.{unlabelled, stray_below, judged_number, judge_on}
 use Rattle.page_table.specs.declared.Interface.TheVariants.{Newer}
@@ -27,10 +26,8 @@ use Rattle.rules.specs.Right.{tick_at}
 use Rattle.rules.specs.History as history
 use Rattle.rules.specs.Rules.{findings01}
 use Rattle.rules.specs.Counts.{largest, is_full}
-use Rattle.watch_rules.specs.declared.Answer.TheVariants.{Findings, Refused}
-use Rattle.watch_rules.specs.declared.Setting.TheVariants as setting
 use Rattle.watch_rules.specs.Table.{post_count}
-use Rattle.watch_rules.specs.Steps.{free, held, standing, find_from, holder, other_holds, feed01, set_up01, feed_steps, set_up_steps}
+use Rattle.watch_rules.specs.Steps.{held, standing, find_from, holder, other_holds, feed01, set_up01, feed_steps, set_up_steps}
 use Rattle.watch_rules.specs.Run.{Request, setUp, frame, tick, fed, reply, run, reply01, accepted, is_refusal, handed_in, refused_ever, accepted_ever}
 use Rattle.watch_rules.proofs.Demand.{own_tick, counted_tick, full_tick, full_frame, refused_nothing}
 use Rattle.watch_rules.proofs.Handed.{refused_counted, handed_in_lem}
@@ -77,18 +74,18 @@ stands (suc n) le =
     (own_tick (ticked n) 0 4 limits (ticks n) first own 0 ∙ rw (in_time n, room)) ∙ rw (at_0 n)
 
 -- the next tick is refused with 25, and no history grows
-pub tick_25 : (n : ℕ) → n ≡ largest → (reply (run (ticked n)) (tick 4 0) ≡ fed (Refused CountFull)) × (accepted (tick 4 0 ∷ ticked n) ≡ accepted (ticked n))
+pub tick_25 : (n : ℕ) → n ≡ largest → (reply (run (ticked n)) (tick 4 0) ≡ fed (Err CountFull)) × (accepted (tick 4 0 ∷ ticked n) ≡ accepted (ticked n))
 tick_25 n e =
     let full : is_full (ticks n) ≡ true = le-leb largest (length (ticks n)) (omega (arith, as_many n, e)) in
-    let z : reply (run (ticked n)) (tick 4 0) ≡ fed (Refused CountFull) = full_tick (ticked n) 0 4 limits (ticks n) first (stands n (omega (arith, e))) 0 (in_time n) full in
+    let z : reply (run (ticked n)) (tick 4 0) ≡ fed (Err CountFull) = full_tick (ticked n) 0 4 limits (ticks n) first (stands n (omega (arith, e))) 0 (in_time n) full in
     (z, (refused_nothing (ticked n) (tick 4 0) (ap is_refusal z)).1)
 
 -- and so is a frame
-readable : judge_for Newer 0x6b001 true (2 ∷ 1 ∷ []) ≡ judged.Frame 3 258
+readable : judge_for Newer 0x6b001 true (2 ∷ 1 ∷ []) ≡ Ok (3, 258)
 unfolding rows of_kind first_at covered unlabelled stray_below judged_number judge_on is_foreign judge_for role_of status_by opening_by limits_by command_by wholes_of pad raws_of get_bits le_number to_signed
 readable = refl
 
-pub frame_25 : (n : ℕ) → n ≡ largest → reply (run (ticked n)) (frame 4 0 0x6b001 true (2 ∷ 1 ∷ [])) ≡ fed (Refused CountFull)
+pub frame_25 : (n : ℕ) → n ≡ largest → reply (run (ticked n)) (frame 4 0 0x6b001 true (2 ∷ 1 ∷ [])) ≡ fed (Err CountFull)
 frame_25 n e =
     let full : is_full (ticks n) ≡ true = le-leb largest (length (ticks n)) (omega (arith, as_many n, e)) in
     full_frame (ticked n) 0 4 limits (ticks n) first (stands n (omega (arith, e))) 0 0x6b001 true (2 ∷ 1 ∷ []) 3 258 readable (in_time n) full
@@ -99,7 +96,7 @@ abbrev turned : ℕ → List Request
 turned zero = []
 turned (suc n) = tick 4 0 ∷ turned n
 
-nobody : reply01 [] (tick 4 0) ≡ fed (Refused ChannelFree)
+nobody : reply01 [] (tick 4 0) ≡ fed (Err ChannelFree)
 unfolding feed01 find_from holder standing
 nobody = refl
 

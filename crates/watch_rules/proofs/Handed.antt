@@ -1,5 +1,6 @@
 -- 02, Req 08: "The table keeps one more, of frames and ticks refused since it was made", and "Accepted ever plus refused equals handed in".
-use Prim.Native.Nat.{ℕ, ◌+◌, ◌≤◌, ◌<◌, min}
+use Rattle.std.specs.Prelude.{Ok, Err}
+use Prim.Native.Nat.{ℕ, ◌+◌, ◌≤◌, min}
 use native.Mathlib.Nat.{zero-add}
 use native.Mathlib.Omega.{arith}
 use mathlib.Core.Path.{◌≡◌, refl, sym, ap, ◌∙◌}
@@ -13,9 +14,8 @@ use Rattle.rule_asks.specs.Judgements.{bit}
 use Rattle.rules.specs.Counts.{largest}
 use Rattle.rules.specs.Record.{is_set}
 use Rattle.watch_rules.specs.declared.Table.{Table}
-use Rattle.watch_rules.specs.declared.Answer.{Answer}
-use Rattle.watch_rules.specs.declared.Answer.TheVariants.{Findings, Refused}
-use Rattle.watch_rules.specs.declared.Settled.{Settled}
+use Rattle.watch_rules.specs.Answer.{Answer}
+use Rattle.watch_rules.specs.Setting.{Settled}
 use Rattle.watch_rules.specs.Table.{post_count, is_channel, place_of, place_in, post_in, Arriving, framing, ticking, one_more, refused_after, feed_at, feed_of, is_other, is_post, set_up_of, release_of}
 use Rattle.watch_rules.specs.Run.{Request, setUp, release, frame, tick, fed, reply, next, run, reply01, accepted, is_refusal, is_arrival, handed_in, refused_ever, accepted_ever}
 use Rattle.watch_rules.proofs.Demand.{every_answer}
@@ -45,8 +45,8 @@ module _ (t : Table) where
   release-counts i = either (is_post i) _ _ (either (is_set (post_in t i).head.used) _ _ refl refl) refl
 
   after-answer : (w : Answer) → refused_after t.refused w ≡ cond (is_refusal (fed w)) (one_more t.refused) t.refused
-  after-answer (Findings n) = refl
-  after-answer (Refused w) = refl
+  after-answer (Ok n) = refl
+  after-answer (Err w) = refl
 
   -- a set-up and a release leave the count, and so does an accepted frame or tick; a refused one is counted
   pub next_refused : (a : Request) → (next t a).refused ≡ cond (is_arrival a && is_refusal (reply t a)) (one_more t.refused) t.refused

@@ -8,17 +8,16 @@ use mathlib.Core.Bool.{Bool, true, false, cond, ◌&&◌, true≢false}
 use lib.Dec.{ltb}
 use lib.ListN.{length, get_or, replicate}
 use lib.Seq.{get_or-set_other}
-use borrow.Author.Tests.{ltb-true, ltb-false, lt-ltb}
+use borrow.Author.Tests.{ltb-true, lt-ltb}
 use Rattle.refusals.specs.declared.Refusal.TheVariants.{ChannelFree}
 use Rattle.rule_limits.specs.declared.PlainLimits.{PlainLimits}
 use Rattle.rule_limits.specs.Limits.{limits_fit}
 use Rattle.rules.specs.declared.Post.{Post}
 use Rattle.watch_rules.specs.declared.Table.{Table}
-use Rattle.watch_rules.specs.declared.Answer.TheVariants.{Refused}
-use Rattle.watch_rules.specs.declared.Fed.{Fed}
+use Rattle.watch_rules.specs.Answer.{Fed}
 use Rattle.watch_rules.specs.Table.{post_count, channel_count, is_channel, holds, place_of, no_post, post_in, entry_of, place_named, some_place, place_in, Arriving, ticking, refused, feed_at, feed_of, is_other, set_up_of, release_of}
 use Rattle.watch_rules.specs.Steps.{holds_in, standing, holder, Indexed}
-use Rattle.watch_rules.specs.Run.{Request, setUp, release, tick, run, accepted}
+use Rattle.watch_rules.specs.Run.{Request, setUp, release, run, accepted}
 use Rattle.watch_rules.proofs.Standings.{holder_holds, holder_first}
 use Rattle.watch_rules.proofs.Placed.{holds_look, post_at, place_look}
 use Rattle.watch_rules.proofs.Indexed.{feed_index}

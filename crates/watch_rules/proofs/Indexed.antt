@@ -1,4 +1,5 @@
 -- The index of a table that stands for accepted steps: by it a channel's post is found as by the search, and each step keeps it so.
+use Rattle.std.specs.Prelude.{Ok, Err}
 use Prim.Native.Nat.{ℕ, zero, suc, ◌+◌, ◌-◌, ◌%◌, ◌<◌, ◌≤◌}
 use native.Mathlib.Nat.{mod-eq_of_lt}
 use native.Mathlib.Decide.{ℕ_discrete}
@@ -13,15 +14,14 @@ use borrow.Author.Tests.{eqb-true, eqb-false, ne_eqb, ltb-true, ltb-false, lt-lt
 use Rattle.refusals.specs.declared.Refusal.TheVariants.{ChannelFree}
 use Rattle.rule_limits.specs.declared.PlainLimits.{PlainLimits}
 use Rattle.rules.specs.declared.Post.{Post}
-use Rattle.rules.specs.History.{Event, History}
+use Rattle.rules.specs.History.{Event}
 use Rattle.rules.specs.Record.{is_set}
 use Rattle.rules.proofs.Look.{used_look, channel_look}
 use Rattle.watch_rules.specs.declared.Table.{Table}
-use Rattle.watch_rules.specs.declared.Answer.{Answer}
-use Rattle.watch_rules.specs.declared.Answer.TheVariants.{Findings, Refused}
+use Rattle.watch_rules.specs.Answer.{Answer}
 use Rattle.watch_rules.specs.Table.{post_count, channel_count, is_channel, holds, no_post, post_in, entry_of, place_named, some_place, place_in, Arriving, refused, feed_at, feed_of, empty_table}
 use Rattle.watch_rules.specs.Steps.{setUp, release, event, Steps, Standing, free, held, standing, holds_in, holder, if_found, kept_post, posts_of, Apart, Indexed}
-use Rattle.watch_rules.proofs.Standings.{standing_none, standing_set_up, standing_set_up_other, standing_release, standing_release_other, over_event, held_on, holder_holds, holder_first, holder_most, holder_none, holder_alike, holder_is, alone}
+use Rattle.watch_rules.proofs.Standings.{standing_none, standing_set_up, standing_set_up_other, standing_release, standing_release_other, over_event, holder_holds, holder_first, holder_most, holder_none, holder_alike, holder_is, alone}
 use Rattle.watch_rules.proofs.Placed.{holds_look, post_at}
 
 -- ---- a channel's post by the index
@@ -80,8 +80,8 @@ indexed_event xs s c e =
     indexed_alike xs s (event c e ∷ s) (λ d j h. over_event s (λ x. holds_in x d ≡ holds_in (standing j s) d) j c e (λ lim g same. same) refl)
 
 pub indexed_fed : (xs : List ℕ) (s : Steps) (c : ℕ) (e : Event) (r : Answer) → Indexed xs s → Indexed xs (if_found r (event c e) s)
-indexed_fed xs s c e (Findings n) = indexed_event xs s c e
-indexed_fed xs s c e (Refused w) = λ true-to. true-to
+indexed_fed xs s c e (Ok n) = indexed_event xs s c e
+indexed_fed xs s c e (Err w) = λ true-to. true-to
 
 -- frames and ticks leave the index of any table as it was
 pub feed_index : (t : Table) (c time : ℕ) (a : Arriving) → (feed_of t c time a).table.index ≡ t.index

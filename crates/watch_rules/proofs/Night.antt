@@ -1,5 +1,6 @@
 -- Demand 3's theorems on a night: each premise holds there, and each says something.
 -- Post 0 is charging on channel 4, post 1 stands idle on channel 9, and a third post, wired to channel 4 too, was refused.
+use Rattle.std.specs.Prelude.{Ok, Err}
 use Prim.Native.Nat.{ℕ, ◌<◌}
 use native.Mathlib.Omega.{arith}
 use borrow.Author.Tests.{ltb-true}
@@ -8,7 +9,6 @@ use mathlib.Core.Path.{◌≡◌, refl, ap, sym, ◌∙◌}
 use mathlib.Core.Bool.{Bool, true, false}
 use mathlib.Core.List.{List, [], ◌∷◌}
 use Rattle.refusals.specs.declared.Refusal.TheVariants.{ChannelFree, ChannelTaken, TooShort}
-use Rattle.page_read.specs.declared.Judged.TheVariants as judged
 use Rattle.page_table.specs.Table.{rows, of_kind, first_at, covered}
 use Rattle.page_read.specs.Judge.{unlabelled, stray_below, judged_number, judge_on}
 use Rattle.page_table.specs.declared.Interface.TheVariants.{Newer}
@@ -29,8 +29,6 @@ use Rattle.rules.specs.Rules.{session_status, session_control, session_stop, lim
 use Rattle.rules.specs.declared.Post.{Post}
 use Rattle.rules.specs.Record.{is_set, record_of}
 use Rattle.rules.proofs.Look.{used_look}
-use Rattle.watch_rules.specs.declared.Answer.TheVariants.{Findings, Refused}
-use Rattle.watch_rules.specs.declared.Setting.TheVariants as setting
 use Rattle.watch_rules.specs.Table.{post_count, no_post, post_in, one_refused, look_up_of}
 use Rattle.rule_limits.specs.Limits.{limits_fit}
 use Rattle.watch_rules.specs.Steps.{free, held, standing, own_of, kept_post, holds_in, find_from, holder, other_holds, feed01, set_up01, release01, look_up01, feed_steps, set_up_steps, release_steps}
@@ -66,10 +64,10 @@ first = ltb-true 0 post_count refl
 -- what the premises ask of the night, and what 01's rules give there, by computing
 computed : (standing 0 (accepted night) ≡ held 4 limits heard) × (standing 0 (accepted alone) ≡ held 4 limits heard) × (holds_in (standing 1 (accepted night)) 4 ≡ false)
     × (earlier_in heard 501 ≡ false) × (findings01 limits heard (history.tick 501) ≡ 1) × (findings01 limits heard (history.tick 500) ≡ 0) × (earlier_in heard 500 ≡ false)
-    × (judge_for Newer 0x6b001 true (2 ∷ []) ≡ judged.Refused TooShort) × (set_up01 (accepted night) 2 4 limits ≡ setting.Refused ChannelTaken) × (holder (accepted night) 5 ≡ post_count)
-    × (judge_for Newer 0x63000 true status ≡ judged.Frame 0 allowed) × (findings01 limits heard (history.frame 501 0 allowed) ≡ 1)
-    × (other_holds (accepted night) 2 4 0 post_count ≡ other_holds (accepted alone) 2 4 0 post_count) × (look_up01 (accepted night) 0 ≡ record { answer = setting.Done; shown = record_of 4 limits heard })
-    × (holder (accepted alone) 5 ≡ post_count) × (set_up01 (accepted night) 3 5 limits ≡ setting.Done) × (release01 (accepted night) 1 ≡ setting.Done) × (own_of 0 (accepted night) ≡ own_of 0 (accepted alone))
+    × (judge_for Newer 0x6b001 true (2 ∷ []) ≡ Err TooShort) × (set_up01 (accepted night) 2 4 limits ≡ Err ChannelTaken) × (holder (accepted night) 5 ≡ post_count)
+    × (judge_for Newer 0x63000 true status ≡ Ok (0, allowed)) × (findings01 limits heard (history.frame 501 0 allowed) ≡ 1)
+    × (other_holds (accepted night) 2 4 0 post_count ≡ other_holds (accepted alone) 2 4 0 post_count) × (look_up01 (accepted night) 0 ≡ record { answer = Ok tt; shown = record_of 4 limits heard })
+    × (holder (accepted alone) 5 ≡ post_count) × (set_up01 (accepted night) 3 5 limits ≡ Ok tt) × (release01 (accepted night) 1 ≡ Ok tt) × (own_of 0 (accepted night) ≡ own_of 0 (accepted alone))
 unfolding standing find_from holder other_holds feed01 set_up01 release01 look_up01 feed_steps set_up_steps release_steps limits_fit accepted since_finished opening in_session earlier_in lowers_badly outside leaking bad_insulation differs session_status session_control session_stop limit_of f1 f2 f3 f4 f5 f6 f7 f8 f9 f10 f11 f12 findings01 rows of_kind first_at covered unlabelled stray_below judged_number judge_on is_foreign judge_for role_of status_by opening_by limits_by command_by wholes_of pad raws_of get_bits le_number to_signed status_in parameters_in session_in control_in
 computed = (refl, refl, refl, refl, refl, refl, refl, refl, refl, refl, refl, refl, refl, refl, refl, refl, refl, refl)
 
@@ -90,18 +88,18 @@ unheld : Unheld (accepted night) 5
 unheld = unheld_in night 5 computed.9
 
 -- F1 on a tick 501 ms after the opening, and not after 500
-pub tick_501 : reply (run night) (tick 4 501) ≡ fed (Findings 1)
+pub tick_501 : reply (run night) (tick 4 501) ≡ fed (Ok 1)
 tick_501 = own_tick night 0 4 limits heard first own 501 ∙ rw (computed.3, computed.4)
 
-pub tick_500 : reply (run night) (tick 4 500) ≡ fed (Findings 0)
+pub tick_500 : reply (run night) (tick 4 500) ≡ fed (Ok 0)
 tick_500 = own_tick night 0 4 limits heard first own 500 ∙ rw (computed.6, computed.5)
 
 -- and so on a Power_Modules_Status
-pub late_status : reply (run night) (frame 4 501 0x63000 true status) ≡ fed (Findings 1)
+pub late_status : reply (run night) (frame 4 501 0x63000 true status) ≡ fed (Ok 1)
 late_status = own_frame night 0 4 limits heard first own 501 0x63000 true status 0 allowed computed.10 ∙ rw (computed.3, computed.11)
 
 -- a frame of one byte too few
-pub short : reply (run night) (frame 4 501 0x6b001 true (2 ∷ [])) ≡ fed (Refused TooShort)
+pub short : reply (run night) (frame 4 501 0x6b001 true (2 ∷ [])) ≡ fed (Err TooShort)
 short = own_unread night 0 4 limits heard first own 501 0x6b001 true (2 ∷ []) TooShort computed.7 ∙ rw computed.3
 
 -- the tick counts for post 0 and leaves post 1's record as it was
@@ -112,11 +110,11 @@ pub neighbour : look_up_of (run (tick 4 501 ∷ night)) 1 ≡ look_up_of (run ni
 neighbour = others_record night (tick 4 501) 1 computed.2
 
 -- nobody holds channel 5
-pub nobody : (reply (run night) (tick 5 0) ≡ fed (Refused ChannelFree)) × (run (tick 5 0 ∷ night) ≡ one_refused (run night))
+pub nobody : (reply (run night) (tick 5 0) ≡ fed (Err ChannelFree)) × (run (tick 5 0 ∷ night) ≡ one_refused (run night))
 nobody = nobody_holds night 5 unheld (tick 5 0) refl
 
 -- the third post is refused again, and nothing changes
-pub twin : reply (run night) (setUp 2 4 limits) ≡ set (setting.Refused ChannelTaken)
+pub twin : reply (run night) (setUp 2 4 limits) ≡ set (Err ChannelTaken)
 twin = every_answer night (setUp 2 4 limits) ∙ ap set computed.8
 
 pub twin_nothing : (run (setUp 2 4 limits ∷ night) ≡ run night) × (accepted (setUp 2 4 limits ∷ night) ≡ accepted night)
@@ -133,7 +131,7 @@ pub twin_as_alone : reply (run night) (setUp 2 4 limits) ≡ reply (run alone) (
 twin_as_alone = alike_set_up night alone 2 4 computed.12 limits
 
 -- and the record is that of its own history
-pub record_0 : look_up_of (run night) 0 ≡ record { answer = setting.Done; shown = record_of 4 limits heard }
+pub record_0 : look_up_of (run night) 0 ≡ record { answer = Ok tt; shown = record_of 4 limits heard }
 record_0 = every_record night 0 ∙ computed.13
 
 -- ---- what a set-up, a release and a frame add to a post's standing

@@ -1,6 +1,8 @@
 -- 02, Req 11: a post hears the messages of its own interface alone, whatever was asked of the table (`own-pages`), so that the latest frame that it keeps in a
 -- place is the latest of a kind (`latest-of-kind`), and so does its record show it (`latest-shown`); an identifier that only the other interface has is
 -- refused with 29 (`own-foreign`).
+use Rattle.std.specs.Prelude.{Ok, Err}
+use Rattle.std.specs.Prelude as std
 use Prim.Native.Nat.{ℕ, ◌+◌, ◌-◌, ◌≤◌, ◌<◌}
 use native.Mathlib.Omega.{arith}
 use mathlib.Core.Path.{◌≡◌, refl, ap, sym, subst, ◌∙◌}
@@ -14,25 +16,22 @@ use Rattle.refusals.specs.declared.Refusal.TheVariants.{Earlier, OtherInterface}
 use Rattle.page_table.specs.declared.Interface.{Interface}
 use Rattle.page_table.specs.declared.Interface.TheVariants.{Newer, Older}
 use Rattle.page_table.specs.Messages.{message_count}
-use Rattle.page_table.specs.Interfaces.{is_on}
+use Rattle.page_table.specs.Interfaces.{is_on, interface_of}
 use Rattle.page_table.proofs.Rules.{not_both}
-use Rattle.page_read.specs.declared.Judged.{Judged}
-use Rattle.page_read.specs.declared.Judged.TheVariants as judged
+use Rattle.page_read.specs.Judged.{Judged}
 use Rattle.page_read.specs.Judge.{judge_on}
 use Rattle.page_read.proofs.Interfaces.{on_own, on_table}
 use Rattle.page_interfaces.specs.Foreign.{is_foreign, judge_for}
 use Rattle.message_types.specs.KindNumbers.{safety_control_kind, sequence_kind}
 use Rattle.older_types.specs.KindNumbers as older
 use Rattle.rule_limits.specs.declared.PlainLimits.{PlainLimits}
-use Rattle.rule_limits.specs.Sensor.{interface_of}
 use Rattle.rule_pages.specs.Places.{place_by}
 use Rattle.rule_pages.proofs.Places.{place_small}
-use Rattle.rules.specs.declared.Latest.{Latest}
+use Rattle.rules.specs.declared.Dated.{Dated}
 use Rattle.rules.specs.History.{frame, tick, History, Said, newest, of_kind}
 use Rattle.rules.specs.Times.{earlier_in, latest_time}
 use Rattle.rules.specs.Record.{place_count, dated_of, at_place, record_as_of}
 use Rattle.rules.proofs.Counted.{count_at}
-use Rattle.watch_rules.specs.declared.Answer.TheVariants.{Refused}
 use Rattle.watch_rules.specs.declared.LookedUp.{LookedUp}
 use Rattle.watch_rules.specs.Table.{post_count, arrival_of, framing, ticking, look_up_of}
 use Rattle.watch_rules.specs.Steps.{Steps, held, standing, event_in, set_up_steps, release_steps, set_up01, release01, shown_in, look_up01, Apart}
@@ -43,15 +42,15 @@ use Rattle.watch_rules.proofs.Demand.{run_kept, every_record, own_unread}
 
 -- ---- what a post reads is of its own pages
 
-foreign_29 : (iface : Interface) (m : ℕ) (x : Bool) (bs : List ℕ) → is_foreign iface m x ≡ true → judge_for iface m x bs ≡ judged.Refused OtherInterface
+foreign_29 : (iface : Interface) (m : ℕ) (x : Bool) (bs : List ℕ) → is_foreign iface m x ≡ true → judge_for iface m x bs ≡ Err OtherInterface
 unfolding judge_for
 foreign_29 iface m x bs e = rw e
 
-pub own_read : (iface : Interface) (m : ℕ) (x : Bool) (bs : List ℕ) (k n : ℕ) → judge_for iface m x bs ≡ judged.Frame k n → (is_on iface k ≡ true) × (k < message_count)
+pub own_read : (iface : Interface) (m : ℕ) (x : Bool) (bs : List ℕ) (k n : ℕ) → judge_for iface m x bs ≡ Ok (k, n) → (is_on iface k ≡ true) × (k < message_count)
 unfolding judge_for
 own_read iface m x bs k n e = go (is_foreign iface m x) e
   where
-    go : (b : Bool) → cond b (judged.Refused OtherInterface) (judge_on iface m x bs) ≡ judged.Frame k n → (is_on iface k ≡ true) × (k < message_count)
+    go : (b : Bool) → cond b (Err OtherInterface) (judge_on iface m x bs) ≡ Ok (k, n) → (is_on iface k ≡ true) × (k < message_count)
     go true q = absurd (let z : ◌≡◌ {A = ℕ} 0 1 = cc in omega arith)
     go false q = (on_own iface m x bs k n q, on_table iface m x bs k n q)
 
@@ -60,8 +59,8 @@ frame_grows : (m : ℕ) (x : Bool) (bs : List ℕ) (c : ℕ) (lim : PlainLimits)
 frame_grows m x bs c lim h t early so = go (judge_for (interface_of lim.interface) m x bs) refl
   where
     go : (j : Judged) → judge_for (interface_of lim.interface) m x bs ≡ j → OnOwn (held c lim (event_in h t (arrival_of j) ∷ h))
-    go (judged.Frame k n) e = (own_read (interface_of lim.interface) m x bs k n e, so)
-    go (judged.Refused w) e = so
+    go (Ok (k, n)) e = (own_read (interface_of lim.interface) m x bs k n e, so)
+    go (Err w) e = so
 
 steps_own : (s : Steps) → Each OnOwn s → Apart s → (a : run.Request) → Each OnOwn (run.steps01 s a)
 unfolding set_up_steps release_steps
@@ -164,20 +163,20 @@ module _ (iface : Interface) where
 -- THEOREM: the record that is looked up shows, in the place of a kind that the post's interface has, the latest frame of that kind since its latest set-up
 pub latest_shown_lem : (rs : List run.Request) (i c : ℕ) (lim : PlainLimits) (h : History) → i < post_count → standing i (run.accepted rs) ≡ held c lim h
     → (k : ℕ) → k < message_count → is_on (interface_of lim.interface) k ≡ true
-    → (d : Latest) → get_or (look_up_of (run.run rs) i).shown.latest (place_by k) d ≡ record { message = dated_of (latest_time h) (newest (of_kind k) h) }
+    → (d : std.Option Dated) → get_or (look_up_of (run.run rs) i).shown.latest (place_by k) d ≡ dated_of (latest_time h) (newest (of_kind k) h)
 unfolding look_up01 record_as_of
 latest_shown_lem rs i c lim h low own k few has d =
     let iface = interface_of lim.interface in
     let pages : OnPages iface h = subst OnOwn own (own_pages rs i low) in
     let shown : look_up_of (run.run rs) i ≡ shown_in (held c lim h) = every_record rs i ∙ rw (lt-ltb i post_count low, own) in
     ap (λ (l : LookedUp). get_or l.shown.latest (place_by k) d) shown
-    ∙ count_at (λ j. record { message = dated_of (latest_time h) (newest (at_place j) h) }) d (place_by k) 0 place_count (place_by k) (omega arith) (place_small k few)
-    ∙ ap (λ (m : Option Said). record { message = dated_of (latest_time h) m }) (own_latest iface h pages k has)
+    ∙ count_at (λ j. dated_of (latest_time h) (newest (at_place j) h)) d (place_by k) 0 place_count (place_by k) (omega arith) (place_small k few)
+    ∙ ap (λ (m : Option Said). dated_of (latest_time h) m) (own_latest iface h pages k has)
 
 -- ---- 29
 
 -- THEOREM: in time, a frame whose identifier only the other interface has gets 29 on the post, of whatever length and content
 pub own_foreign : (rs : List run.Request) (i c : ℕ) (lim : PlainLimits) (h : History) → i < post_count → standing i (run.accepted rs) ≡ held c lim h
     → (t m : ℕ) (x : Bool) (bs : List ℕ) → is_foreign (interface_of lim.interface) m x ≡ true
-    → run.reply (run.run rs) (run.frame c t m x bs) ≡ run.fed (cond (earlier_in h t) (Refused Earlier) (Refused OtherInterface))
+    → run.reply (run.run rs) (run.frame c t m x bs) ≡ run.fed (cond (earlier_in h t) (Err Earlier) (Err OtherInterface))
 own_foreign rs i c lim h low own t m x bs foreign = own_unread rs i c lim h low own t m x bs OtherInterface (foreign_29 (interface_of lim.interface) m x bs foreign)

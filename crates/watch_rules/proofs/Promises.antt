@@ -3,8 +3,8 @@ use Prim.Native.Nat.{ℕ}
 use mathlib.Core.Path.{◌≡◌, sym, subst, ◌∙◌}
 use Rattle.rule_limits.specs.declared.PlainLimits.{PlainLimits}
 use Rattle.watch_rules.specs.declared.Table.{Table}
-use Rattle.watch_rules.specs.declared.Fed.{Fed}
-use Rattle.watch_rules.specs.declared.Settled.{Settled}
+use Rattle.watch_rules.specs.Answer.{Fed}
+use Rattle.watch_rules.specs.Setting.{Settled}
 use Rattle.watch_rules.specs.declared.LookedUp.{LookedUp}
 use Rattle.watch_rules.specs.Table.{Arriving, feed_of, set_up_of, release_of, look_up_of}
 use Rattle.watch_rules.specs.Steps.{Steps, look_up01, Kept, FeedRight, SetUpRight, ReleaseRight}

@@ -1,4 +1,5 @@
 -- A refused request leaves every table, and the accepted steps, as they were, but that the table counts a refused frame or tick.
+use Rattle.std.specs.Prelude.{Ok, Err}
 use Prim.Native.Nat.{ℕ}
 use mathlib.Core.Path.{◌≡◌, refl, ap, sym}
 use mathlib.Core.List.{List}
@@ -12,13 +13,9 @@ use Rattle.rules.specs.declared.Post.{Post}
 use Rattle.rules.specs.Record.{is_set}
 use Rattle.rules.specs.After.{is_early, is_full_in}
 use Rattle.watch_rules.specs.declared.Table.{Table}
-use Rattle.watch_rules.specs.declared.Answer.{Answer}
-use Rattle.watch_rules.specs.declared.Answer.TheVariants.{Findings, Refused}
-use Rattle.watch_rules.specs.declared.Fed.{Fed}
+use Rattle.watch_rules.specs.Answer.{Answer, Fed}
 use Rattle.watch_rules.specs.declared.Heard.{Heard}
-use Rattle.watch_rules.specs.declared.Setting.{Setting}
-use Rattle.watch_rules.specs.declared.Setting.TheVariants as setting
-use Rattle.watch_rules.specs.declared.Settled.{Settled}
+use Rattle.watch_rules.specs.Setting.{Setting, Settled}
 use Rattle.watch_rules.specs.declared.Arrival.{Arrival}
 use Rattle.watch_rules.specs.declared.Arrival.TheVariants.{Tick, Frame, Unread}
 use Rattle.watch_rules.specs.Table.{post_count, is_channel, holds, place_of, place_in, no_post, post_in, Arriving, framing, ticking, turned_away, judged_of, heard_of, one_more, one_refused, fed_by, feed_at, feed_of, is_other, is_post, set_up_of, release_of}
@@ -101,12 +98,12 @@ module _ (t : Table) where
 -- ---- the steps
 
 found_stays : (r : Answer) (x : Step) (s : Steps) → is_refusal (fed r) ≡ true → if_found r x s ≡ s
-found_stays (Findings n) x s = never
-found_stays (Refused w) x s = λ q. refl
+found_stays (Ok n) x s = never
+found_stays (Err w) x s = λ q. refl
 
 done_stays : (r : Setting) (x : Step) (s : Steps) → is_refusal (set r) ≡ true → if_done r x s ≡ s
-done_stays setting.Done x s = never
-done_stays (setting.Refused w) x s = λ q. refl
+done_stays (Ok tt) x s = never
+done_stays (Err w) x s = λ q. refl
 
 -- 01: "A refused frame is part of no history"
 pub refused_steps : (s : Steps) (a : Request) → is_refusal (reply01 s a) ≡ true → steps01 s a ≡ s

@@ -1,4 +1,5 @@
 -- Each operation on a table that stands for accepted steps answers what 01's rules give over them, and its table stands for the steps afterwards.
+use Rattle.std.specs.Prelude.{Ok, Err}
 use Prim.Native.Nat.{ℕ, suc, ◌<◌, ◌≤◌}
 use native.Mathlib.Omega.{arith}
 use mathlib.Core.Path.{◌≡◌, refl, ap, sym, subst, ◌∙◌}
@@ -14,15 +15,13 @@ use Rattle.rules.specs.Times.{earlier_in, Unrolled}
 use Rattle.rules.specs.Record.{is_set}
 use Rattle.rules.proofs.Unrolled.{unrolled_next}
 use Rattle.watch_rules.specs.declared.Table.{Table}
-use Rattle.watch_rules.specs.declared.Answer.{Answer}
-use Rattle.watch_rules.specs.declared.Answer.TheVariants.{Findings, Refused}
+use Rattle.watch_rules.specs.Answer.{Answer}
 use Rattle.watch_rules.specs.declared.Arrival.{Arrival}
 use Rattle.watch_rules.specs.declared.Arrival.TheVariants.{Tick, Frame, Unread}
-use Rattle.watch_rules.specs.declared.Setting.{Setting}
-use Rattle.watch_rules.specs.declared.Setting.TheVariants as setting
+use Rattle.watch_rules.specs.Setting.{Setting}
 use Rattle.watch_rules.specs.Table.{post_count, is_channel, place_of, post_in, Arriving, feed_of, empty_table, is_other, is_post, set_up_of, release_of, look_up_of}
 use Rattle.rule_limits.specs.Limits.{limits_fit}
-use Rattle.watch_rules.specs.Steps.{setUp, release, event, Steps, Standing, held, standing, holds_in, holder, other_holds, answer_in, feed01, set_up01, is_held, release01, look_up01, event_in, event_on, if_found, feed_steps, if_done, set_up_steps, release_steps, posts_of, Apart, InRange, InTime, Indexed, Kept, FeedRight, SetUpRight, ReleaseRight}
+use Rattle.watch_rules.specs.Steps.{setUp, release, event, Steps, Standing, standing, holds_in, holder, other_holds, feed01, set_up01, is_held, release01, look_up01, event_in, event_on, if_found, feed_steps, if_done, set_up_steps, release_steps, posts_of, Apart, InRange, InTime, Indexed, Kept, FeedRight, SetUpRight, ReleaseRight}
 use Rattle.watch_rules.proofs.Standings.{standing_none, over_set_up, over_release, over_event, others_none}
 use Rattle.watch_rules.proofs.Each.{Each, each_none, each_released, each_set, each_fed}
 use Rattle.watch_rules.proofs.Tables.{feed_look, other_place, set_up_look, at, used_at, release_look, look_up_look, empty_look}
@@ -75,12 +74,12 @@ module _ (s : Steps) (sound : Sound s) where
   -- ---- after a request
 
   sound-fed : (c : ℕ) (e : Event) (r : Answer) → Sound (if_found r (event c e) s)
-  sound-fed c e (Findings n) = sound-event c e
-  sound-fed c e (Refused w) = sound
+  sound-fed c e (Ok n) = sound-event c e
+  sound-fed c e (Err w) = sound
 
   sound-released : (i : ℕ) (r : Setting) → Sound (if_done r (release i) s)
-  sound-released i setting.Done = sound-release i
-  sound-released i (setting.Refused w) = sound
+  sound-released i (Ok tt) = sound-release i
+  sound-released i (Err w) = sound
 
   sound-set : (i c : ℕ) (lim : PlainLimits) → Sound (set_up_steps s i c lim)
   unfolding set_up_steps set_up01

@@ -1,16 +1,15 @@
 -- What comes to `somePlace` is the table's step: the post that the index names hears it where it holds the channel, and else turns it away
 -- and is stored as it was.
+use Rattle.std.specs.Prelude.{Err}
 use Prim.Native.Nat.{ℕ, ◌%◌, ◌<◌}
 use native.Mathlib.Omega.{arith}
 use mathlib.Core.Path.{◌≡◌, refl, ap}
-use mathlib.Core.Bool.{Bool, true, false, cond}
-use lib.Dec.{ltb}
+use mathlib.Core.Bool.{Bool, true, false}
 use lib.ListN.{get_or}
-use borrow.Author.Tests.{ltb-true, lt-ltb}
+use borrow.Author.Tests.{lt-ltb}
 use Rattle.refusals.specs.declared.Refusal.TheVariants.{ChannelFree}
 use Rattle.watch_rules.specs.declared.Table.{Table}
-use Rattle.watch_rules.specs.declared.Answer.TheVariants.{Refused}
-use Rattle.watch_rules.specs.declared.Fed.{Fed}
+use Rattle.watch_rules.specs.Answer.{Fed}
 use Rattle.watch_rules.specs.Table.{post_count, channel_count, is_channel, holds, post_in, place_named, some_place, place_in, Arriving, turned_away, heard_of, refused, fed_by, feed_at, feed_of}
 use Rattle.watch_rules.proofs.Refusing.{put_same}
 
@@ -36,7 +35,7 @@ unfolding feed_of feed_at heard_of
 feed_same t c time a = go (is_channel c) (holds (post_in t (some_place t c)).head c) refl refl
   where
     stays : (i : ℕ) → ◌≡◌ {A = Fed} (fed_by t i (turned_away (post_in t i).head ChannelFree)) (refused t ChannelFree)
-    stays i = ap (λ (u : Table). record { table = u; answer = Refused ChannelFree }) (put_same t i ChannelFree)
+    stays i = ap (λ (u : Table). record { table = u; answer = Err ChannelFree }) (put_same t i ChannelFree)
 
     go : (b d : Bool) → is_channel c ≡ b → holds (post_in t (some_place t c)).head c ≡ d → feed_at t (some_place t c) c time a ≡ feed_of t c time a
     go false d e f = rw e (stays (some_place t c))

@@ -1,4 +1,6 @@
 -- The laws of the interfaces on a night of two posts: 0 of the older interface on channel 4, 1 of the newer one on channel 9.
+use Rattle.std.specs.Prelude.{Err}
+use Rattle.std.specs.Prelude as std
 use Prim.Native.Nat.{ℕ, ◌<◌}
 use mathlib.Core.Path.{◌≡◌, refl, ap, subst, ◌∙◌}
 use mathlib.Core.List.{List, [], ◌∷◌}
@@ -9,7 +11,7 @@ use borrow.Author.Tests.{ltb-true}
 use Rattle.refusals.specs.declared.Refusal.TheVariants.{OtherInterface}
 use Rattle.page_table.specs.Messages.{message_count}
 use Rattle.page_table.specs.Table.{rows, of_kind, first_at, covered}
-use Rattle.page_table.specs.declared.Interface.TheVariants.{Newer, Older}
+use Rattle.page_table.specs.declared.Interface.TheVariants.{Older}
 use Rattle.page_read.specs.Judge.{unlabelled, stray_below, judged_number, judge_on}
 use Rattle.page_interfaces.specs.Foreign.{is_foreign, judge_for}
 use Rattle.page_write.specs.Raws.{wholes_of, pad, raws_of}
@@ -21,16 +23,15 @@ use Rattle.rule_limits.specs.declared.PlainLimits.{PlainLimits}
 use Rattle.rule_limits.specs.Limits.{limits_fit}
 use Rattle.rule_pages.specs.Roles.{role_of}
 use Rattle.rule_pages.specs.Places.{place_by}
-use Rattle.rules.specs.declared.Latest.{Latest}
+use Rattle.rules.specs.declared.Dated.{Dated}
 use Rattle.rules.specs.History as history
 use Rattle.rules.specs.History.{History, newest, said_at, since_finished, opening, in_session}
 use Rattle.rules.specs.Times.{earlier_in}
 use Rattle.rules.specs.Rules.{session_status, session_stop, f1, f2, f3, f4, f5, f6, f7, f8, f9, f10, f11, f12, findings01}
 use Rattle.rules.specs.Record.{dated_of, at_place}
-use Rattle.watch_rules.specs.declared.Answer.TheVariants.{Refused}
 use Rattle.watch_rules.specs.Table.{post_count, look_up_of}
 use Rattle.watch_rules.specs.Steps.{Standing, held, standing, holds_in, find_from, holder, other_holds, feed01, set_up01, feed_steps, set_up_steps}
-use Rattle.watch_rules.specs.Run.{Request, setUp, frame, tick, fed, reply, run, accepted}
+use Rattle.watch_rules.specs.Run.{Request, setUp, frame, fed, reply, run, accepted}
 use Rattle.watch_rules.specs.Pages.{OnPages, OnOwn, only_of}
 use Rattle.watch_rules.proofs.Pages.{own_pages, never_heard, latest_of_kind, latest_shown_lem, own_foreign}
 use Rattle.watch_rules.proofs.Demand.{others_record}
@@ -71,7 +72,7 @@ pub none_of_000 : newest (history.of_kind 3) heard ≡ none
 none_of_000 = never_heard Older heard heard_own 3 refl
 
 -- 000's Power_Modules_Status gets 29 on it, of whatever length and content
-pub status_29 : (bs : List ℕ) → reply (run night) (frame 4 30 0x63000 true bs) ≡ fed (Refused OtherInterface)
+pub status_29 : (bs : List ℕ) → reply (run night) (frame 4 30 0x63000 true bs) ≡ fed (Err OtherInterface)
 status_29 bs = own_foreign night 0 4 (limits 1) heard first computed.0 30 0x63000 true bs foreign ∙ rw computed.1
 
 -- what comes to post 1, of whatever pages, leaves the record of post 0 as it was, and the other way
@@ -82,5 +83,5 @@ pub newer_untouched : (t m : ℕ) (x : Bool) (bs : List ℕ) → look_up_of (run
 newer_untouched t m x bs = others_record night (frame 4 t m x bs) 1 (ap (λ (s : Standing). holds_in s 4) computed.2)
 
 -- the record shows the Charging_Loop in its place
-pub loop_shown : (d : Latest) → get_or (look_up_of (run night) 0).shown.latest (place_by older.charging_kind) d ≡ record { message = dated_of 20 (some (said_at 20 older.charging_kind 0)) }
+pub loop_shown : (d : std.Option Dated) → get_or (look_up_of (run night) 0).shown.latest (place_by older.charging_kind) d ≡ dated_of 20 (some (said_at 20 older.charging_kind 0))
 loop_shown = latest_shown_lem night 0 4 (limits 1) heard first computed.0 older.charging_kind (ltb-true older.charging_kind message_count refl) refl

@@ -1,9 +1,10 @@
 -- Each operation on a table with the posts that accepted steps leave is looking back over them:
 -- its answer is 01's, and its posts are those that the steps leave with one more, or as they were.
+use Rattle.std.specs.Prelude.{Ok, Err}
 use Prim.Native.Nat.{ℕ, ◌<◌}
 use native.Mathlib.Omega.{arith}
 use mathlib.Core.Path.{◌≡◌, refl, ap, sym, subst, ◌∙◌}
-use mathlib.Core.List.{List, [], ◌∷◌, map}
+use mathlib.Core.List.{List, [], ◌∷◌}
 use mathlib.Core.Bool.{Bool, true, false, cond}
 use lib.Dec.{eqb, ltb}
 use lib.ListN.{get_or, set}
@@ -13,20 +14,16 @@ use Rattle.refusals.specs.declared.Refusal.TheVariants.{NotSetUp}
 use Rattle.rule_limits.specs.declared.PlainLimits.{PlainLimits}
 use Rattle.rule_limits.specs.Limits.{limits_fit}
 use Rattle.rules.specs.declared.Post.{Post}
-use Rattle.rules.specs.History.{Event, History, count_from}
+use Rattle.rules.specs.History.{Event, History}
 use Rattle.rules.specs.Times.{Unrolled}
 use Rattle.rules.specs.Record.{is_set, post_of}
 use Rattle.rules.specs.After.{stored, free_post, fresh_post, post_record}
 use Rattle.rules.proofs.Counted.{count_same, count_set}
 use Rattle.rules.proofs.Look.{used_look, limits_look, fresh_look, record_look}
 use Rattle.watch_rules.specs.declared.Table.{Table}
-use Rattle.watch_rules.specs.declared.Answer.{Answer}
-use Rattle.watch_rules.specs.declared.Answer.TheVariants.{Findings, Refused}
-use Rattle.watch_rules.specs.declared.Fed.{Fed}
+use Rattle.watch_rules.specs.Answer.{Answer, Fed}
 use Rattle.watch_rules.specs.declared.Heard.{Heard}
-use Rattle.watch_rules.specs.declared.Setting.{Setting}
-use Rattle.watch_rules.specs.declared.Setting.TheVariants as setting
-use Rattle.watch_rules.specs.declared.Settled.{Settled}
+use Rattle.watch_rules.specs.Setting.{Setting, Settled}
 use Rattle.watch_rules.specs.Table.{post_count, is_channel, place_of, place_in, no_post, post_in, Arriving, with_post, feed_at, feed_of, empty_table, is_other, is_post, set_up_of, release_of, not_found, look_up_of}
 use Rattle.watch_rules.specs.Steps.{setUp, release, event, Steps, Standing, free, held, standing, holds_in, holder, other_holds, answer_in, feed01, set_up01, is_held, release01, shown_in, look_up01, event_in, event_on, grown, Hears01, if_found, feed_steps, set_up_steps, release_steps, kept_post, posts_of, Apart, InTime, Indexed}
 use Rattle.watch_rules.proofs.Placed.{used_standing, post_at, place_look}
@@ -84,8 +81,8 @@ module _ (t : Table) (s : Steps) (apart : Apart s) (same : t.posts ≡ posts_of 
     Heard01 time a = Fed01 (if_found (answer_in (held c lim h) time a) (event c (event_on (held c lim h) time a)) s) (answer_in (held c lim h) time a)
 
     posts-grown : (e : Event) (w : Answer) → set t.posts i (post_of c lim (grown w e h)) ≡ posts_of (if_found w (event c e) s)
-    posts-grown e (Findings n) = posts-event e
-    posts-grown e (Refused w) = posts-stay
+    posts-grown e (Ok n) = posts-event e
+    posts-grown e (Err w) = posts-stay
 
     heard-look : (time : ℕ) (a : Arriving) → Unrolled h → is_channel c ≡ true → Heard01 time a (feed_at t i c time a)
     unfolding feed_at
@@ -163,7 +160,7 @@ module _ (t : Table) (s : Steps) (same : t.posts ≡ posts_of s) where
   unfolding look_up_of look_up01
   look_up_look i = go (is_post i) refl
     where
-      shown : (x : Standing) → cond (is_set (kept_post x).head.used) (record { answer = setting.Done; shown = post_record (kept_post x) }) (not_found NotSetUp) ≡ shown_in x
+      shown : (x : Standing) → cond (is_set (kept_post x).head.used) (record { answer = Ok tt; shown = post_record (kept_post x) }) (not_found NotSetUp) ≡ shown_in x
       shown free = refl
       shown (held c lim h) = rw (record_look c lim h, used_look c lim h)
 

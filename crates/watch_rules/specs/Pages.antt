@@ -4,10 +4,9 @@ use Rattle.std.proofs.Math.Option.{Option, none, some}
 use Rattle.page_table.specs.declared.Interface.{Interface}
 use Rattle.page_table.specs.declared.Interface.TheVariants.{Newer, Older}
 use Rattle.page_table.specs.Messages.{message_count}
-use Rattle.page_table.specs.Interfaces.{is_on}
+use Rattle.page_table.specs.Interfaces.{is_on, interface_of}
 use Rattle.message_types.specs.KindNumbers.{safety_control_kind, sequence_kind}
 use Rattle.older_types.specs.KindNumbers as older
-use Rattle.rule_limits.specs.Sensor.{interface_of}
 use Rattle.rules.specs.History.{frame, tick, History, Said}
 use Rattle.watch_rules.specs.Steps.{Standing, free, held}
 

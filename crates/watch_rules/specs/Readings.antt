@@ -1,6 +1,7 @@
 -- 01, "Readings from both sides of each edge": E1* to E13*, and 02, Req 02 to 04, 08, 09, 11, 13 and 14: one table under one statement, closed by computing the
 -- definitions. What the watch answers is read by looking back.
-use Rattle.std.specs.Prelude.{ℕ, ◌≡◌, refl, true, false, List, [], ◌∷◌, ◌++◌, map, reverse, pos, negsuc, get_or, replicate}
+use Rattle.std.specs.Prelude as std
+use Rattle.std.specs.Prelude.{ℕ, ◌≡◌, refl, true, false, List, [], ◌∷◌, ◌++◌, map, reverse, pos, negsuc, get_or, replicate, Some, None, Ok, Err}
 use Rattle.refusals.specs.declared.Refusal.TheVariants.{ChannelFree, Earlier, UnknownIdentifier, OtherInterface, TooShort, TooLong, NoLabel, UncoveredBit, ChannelTaken, LimitOutside, NoSuchPost, NotSetUp}
 use Rattle.page_table.specs.Table.{rows, of_kind, first_at, covered}
 use Rattle.page_table.specs.declared.Interface.{Interface}
@@ -36,10 +37,7 @@ use Rattle.rule_limits.specs.declared.Sensor.{Sensor}
 use Rattle.rule_limits.specs.declared.Sensor.TheVariants.{Measuring, YesNo}
 use Rattle.rules.specs.declared.Dated.{Dated}
 use Rattle.rules.specs.declared.Dated.TheVariants as dated
-use Rattle.rules.specs.declared.Latest.{Latest}
-use Rattle.rules.specs.declared.LastTime.TheVariants as last
-use Rattle.rules.specs.declared.SessionPart.{SessionPart}
-use Rattle.rules.specs.declared.SessionPart.TheVariants as part
+use Rattle.rules.specs.SessionPart.{SessionPart}
 use Rattle.rules.specs.declared.Record.{Record}
 use Rattle.rules.specs.History.{since_finished, opening, in_session}
 use Rattle.rules.specs.Times.{earlier_in}
@@ -48,8 +46,6 @@ use Rattle.rules.specs.Rules.{session_status, session_control, session_stop, lim
 use Rattle.rules.specs.Counts.{tallies_of}
 use Rattle.rules.specs.Record.{place_count, dated_at, record_as_of}
 use Rattle.rules.specs.After.{kept_count}
-use Rattle.watch_rules.specs.declared.Answer.TheVariants.{Findings, Refused}
-use Rattle.watch_rules.specs.declared.Setting.TheVariants as setting
 use Rattle.watch_rules.specs.declared.LookedUp.{LookedUp}
 use Rattle.rule_limits.specs.Limits.{limits_fit}
 use Rattle.watch_rules.specs.Table.{entry_of, not_found}
@@ -66,20 +62,20 @@ pub data Case : Type 0 where
   shows : List Request → ℕ → LookedUp → Case
   senses : List Request → ℕ → Sensor → Case
   reads-by : List Request → ℕ → Interface → Case
-  in-session : List Request → ℕ → SessionPart → List Dated → Case
-  keeps : List Request → ℕ → ℕ → Dated → Case
+  in-session : List Request → ℕ → SessionPart → List (std.Option Dated) → Case
+  keeps : List Request → ℕ → ℕ → std.Option Dated → Case
   dates : List Request → ℕ → ℕ → ℕ × ℕ → Case
   counts : List Request → ℕ → ℕ → List ℕ → Case
   turns-away : List Request → ℕ → Case
   names : List Request → ℕ → ℕ → Case
 
-abbrev latest_shown : List Request → ℕ → ℕ → Dated
-latest_shown asked post kind = (get_or (look_up01 (accepted_from [] asked) post).shown.latest kind (record { message = dated.Nothing })).message
+abbrev latest_shown : List Request → ℕ → ℕ → std.Option Dated
+latest_shown asked post kind = get_or (look_up01 (accepted_from [] asked) post).shown.latest kind std.None
 
-abbrev pub is_dated : Dated → ℕ × ℕ → Type 0
-is_dated dated.Nothing d = ⊥
-is_dated (dated.At time age m) d = (time ≡ d.0) × (age ≡ d.1)
-is_dated (dated.OlderAt time age m) d = (time ≡ d.0) × (age ≡ d.1)
+abbrev pub is_dated : std.Option Dated → ℕ × ℕ → Type 0
+is_dated std.None d = ⊥
+is_dated (std.Some (dated.At time age m)) d = (time ≡ d.0) × (age ≡ d.1)
+is_dated (std.Some (dated.OlderAt time age m)) d = (time ≡ d.0) × (age ≡ d.1)
 
 abbrev pub Holds : Case → Type 0
 Holds (codec c) = messages.Holds c
@@ -88,7 +84,7 @@ Holds (shows asked post shown) = look_up01 (accepted_from [] asked) post ≡ sho
 Holds (senses asked post sensor) = (look_up01 (accepted_from [] asked) post).shown.limits.sensor ≡ sensor
 Holds (reads-by asked post iface) = (look_up01 (accepted_from [] asked) post).shown.limits.interface ≡ iface
 Holds (in-session asked post session ks) =
-    ((look_up01 (accepted_from [] asked) post).shown.session ≡ session) × ((look_up01 (accepted_from [] asked) post).shown.kept ≡ map (λ d. record { message = d }) ks)
+    ((look_up01 (accepted_from [] asked) post).shown.session ≡ session) × ((look_up01 (accepted_from [] asked) post).shown.kept ≡ ks)
 Holds (keeps asked post kind latest) = latest_shown asked post kind ≡ latest
 Holds (dates asked post kind d) = is_dated (latest_shown asked post kind) d
 Holds (counts asked post accepted tallies) =
@@ -112,27 +108,27 @@ abbrev limits_on : ℕ → PlainLimits
 limits_on n = record { voltage = 5000; charge = 1000; discharge = 500; silence = 500; sensor = 0; interface = n }
 
 -- the record of a post that was just set up: never heard, no message in any of the twenty-five places, no session
-abbrev none : Latest
-none = record { message = dated.Nothing }
+abbrev none : std.Option Dated
+none = std.None
 
 abbrev empty_record : Record
 empty_record =
     record {
       channel = 4;
       limits = record { voltage = 5000; charge = 1000; discharge = 500; silence = 500; sensor = Measuring; interface = Newer };
-      last = last.Never;
+      last = None;
       latest = replicate place_count none;
-      session = part.Closed;
+      session = None;
       kept = replicate kept_count none;
       accepted = 0;
       tallies = 0 ∷ 0 ∷ 0 ∷ 0 ∷ 0 ∷ 0 ∷ 0 ∷ 0 ∷ 0 ∷ 0 ∷ 0 ∷ 0 ∷ [];
     }
 
 abbrev done : Reply
-done = set setting.Done
+done = set (Ok tt)
 
 abbrev found : ℕ → Reply
-found n = fed (Findings n)
+found n = fed (Ok n)
 
 -- frames on channel 4: Power_Modules_Status (Allowed, 0 A) by the voltage's two bytes and the insulation, DC_Power_Parameters by Maximum_Voltage,
 -- Advantics_Controller_Status Charging, New_Charge_Session 02 01, DC_Power_Control by Target_Voltage and byte 6
@@ -226,20 +222,20 @@ e8to13 =
     -- E11: closed contactors and power transfer before any session, target within limit, no lowering: 12
     ∷ answers (set_up ∷ control 0 0x88 0x13 0x48 ∷ []) (done ∷ found 12 ∷ [])
     -- E12: post 0 on channel 4: post 1 on 4 gets 11; post 0 on 4 again is accepted with an empty record
-    ∷ answers (set_up ∷ tick 4 100 ∷ setUp 1 4 limits ∷ set_up ∷ []) (done ∷ found 0 ∷ set (setting.Refused ChannelTaken) ∷ done ∷ [])
-    ∷ shows (set_up ∷ tick 4 100 ∷ setUp 1 4 limits ∷ set_up ∷ []) 0 (record { answer = setting.Done; shown = empty_record })
+    ∷ answers (set_up ∷ tick 4 100 ∷ setUp 1 4 limits ∷ set_up ∷ []) (done ∷ found 0 ∷ set (Err ChannelTaken) ∷ done ∷ [])
+    ∷ shows (set_up ∷ tick 4 100 ∷ setUp 1 4 limits ∷ set_up ∷ []) 0 (record { answer = Ok tt; shown = empty_record })
     -- E13: default 5000: Maximum_Voltage 0 or 6000 gives 5000, 4000 gives 4000; target 4001 then has F7 (standby, so that nothing else is found)
     ∷ answers (set_up ∷ parameters 0 0 0 ∷ control 1 0x88 0x13 1 ∷ control 2 0x89 0x13 1 ∷ []) (done ∷ found 0 ∷ found 0 ∷ found 64 ∷ [])
     ∷ answers (set_up ∷ parameters 0 0x70 0x17 ∷ control 1 0x88 0x13 1 ∷ control 2 0x89 0x13 1 ∷ []) (done ∷ found 0 ∷ found 0 ∷ found 64 ∷ [])
     ∷ answers (set_up ∷ parameters 0 0xA0 0x0F ∷ control 1 0xA0 0x0F 1 ∷ control 2 0xA1 0x0F 1 ∷ []) (done ∷ found 0 ∷ found 0 ∷ found 64 ∷ [])
     -- E14: after time 100: 99 gets 2, 100 is accepted; an unknown identifier at 99 gets 2 too, the lowest number that applies, and at 100 it gets 3
     ∷ answers (set_up ∷ tick 4 100 ∷ tick 4 99 ∷ tick 4 100 ∷ frame 4 99 0x63003 true (0 ∷ []) ∷ frame 4 100 0x63003 true (0 ∷ []) ∷ [])
-    (done ∷ found 0 ∷ fed (Refused Earlier) ∷ found 0 ∷ fed (Refused Earlier) ∷ fed (Refused UnknownIdentifier) ∷ [])
+    (done ∷ found 0 ∷ fed (Err Earlier) ∷ found 0 ∷ fed (Err Earlier) ∷ fed (Err UnknownIdentifier) ∷ [])
     -- 02, Req 09: "after 4,294,967,290 a time of 5 is accepted, 11 ms later", and 4,294,967,290 again is earlier; the first time after a set-up may be any
-    ∷ answers (set_up ∷ tick 4 4294967290 ∷ tick 4 5 ∷ tick 4 4294967290 ∷ set_up ∷ tick 4 4294967290 ∷ []) (done ∷ found 0 ∷ found 0 ∷ fed (Refused Earlier) ∷ done ∷ found 0 ∷ [])
+    ∷ answers (set_up ∷ tick 4 4294967290 ∷ tick 4 5 ∷ tick 4 4294967290 ∷ set_up ∷ tick 4 4294967290 ∷ []) (done ∷ found 0 ∷ found 0 ∷ fed (Err Earlier) ∷ done ∷ found 0 ∷ [])
     ∷ dates (set_up ∷ probes 4294967290 ∷ tick 4 5 ∷ []) 0 probes_kind (4294967290, 11)
     -- a wrapped difference of 2^31 - 1 is later, one of 2^31 earlier
-    ∷ answers (set_up ∷ tick 4 7 ∷ tick 4 2147483655 ∷ tick 4 2147483654 ∷ tick 4 6 ∷ []) (done ∷ found 0 ∷ fed (Refused Earlier) ∷ found 0 ∷ fed (Refused Earlier) ∷ [])
+    ∷ answers (set_up ∷ tick 4 7 ∷ tick 4 2147483655 ∷ tick 4 2147483654 ∷ tick 4 6 ∷ []) (done ∷ found 0 ∷ fed (Err Earlier) ∷ found 0 ∷ fed (Err Earlier) ∷ [])
     -- F1 at 500 and 501 ms across the round, F2 at 200 and 201
     ∷ answers (set_up ∷ session 4294967290 ∷ tick 4 494 ∷ tick 4 495 ∷ []) (done ∷ found 0 ∷ found 0 ∷ found 1 ∷ [])
     ∷ answers (set_up ∷ controller 4294967290 ∷ tick 4 194 ∷ tick 4 195 ∷ []) (done ∷ found 0 ∷ found 0 ∷ found 2 ∷ [])
@@ -250,16 +246,16 @@ e8to13 =
     -- each post has a clock of its own, and a frame goes to the post that holds its channel: the session of post 0 opens at 501, whatever post 1 hears
     ∷ answers (set_up ∷ setUp 1 9 limits ∷ tick 9 700 ∷ session 501 ∷ tick 9 1300 ∷ tick 4 1001 ∷ tick 4 1002 ∷ []) (done ∷ done ∷ found 0 ∷ found 0 ∷ found 0 ∷ found 0 ∷ found 1 ∷ [])
     -- 11 before 12
-    ∷ answers (set_up ∷ setUp 1 4 (limits_with 2) ∷ setUp 1 5 (limits_with 2) ∷ []) (done ∷ set (setting.Refused ChannelTaken) ∷ set (setting.Refused LimitOutside) ∷ [])
+    ∷ answers (set_up ∷ setUp 1 4 (limits_with 2) ∷ setUp 1 5 (limits_with 2) ∷ []) (done ∷ set (Err ChannelTaken) ∷ set (Err LimitOutside) ∷ [])
     -- 01: "Release frees the channel and drops the record"; 14 for a post that is not set up
-    ∷ answers (set_up ∷ release 0 ∷ tick 4 6 ∷ release 0 ∷ setUp 1 4 limits ∷ []) (done ∷ done ∷ fed (Refused ChannelFree) ∷ set (setting.Refused NotSetUp) ∷ done ∷ [])
+    ∷ answers (set_up ∷ release 0 ∷ tick 4 6 ∷ release 0 ∷ setUp 1 4 limits ∷ []) (done ∷ done ∷ fed (Err ChannelFree) ∷ set (Err NotSetUp) ∷ done ∷ [])
     ∷ shows (set_up ∷ release 0 ∷ []) 0 (not_found NotSetUp)
     -- 02, Req 13: 9 begins at 16 in set-up, release and look-up; 8 and 15 are posts
     ∷ answers (setUp 16 4 limits ∷ setUp 15 4 limits ∷ setUp 8 5 limits ∷ tick 4 1 ∷ tick 5 1 ∷ release 16 ∷ release 15 ∷ release 15 ∷ [])
-    (set (setting.Refused NoSuchPost) ∷ done ∷ done ∷ found 0 ∷ found 0 ∷ set (setting.Refused NoSuchPost) ∷ done ∷ set (setting.Refused NotSetUp) ∷ [])
+    (set (Err NoSuchPost) ∷ done ∷ done ∷ found 0 ∷ found 0 ∷ set (Err NoSuchPost) ∷ done ∷ set (Err NotSetUp) ∷ [])
     ∷ shows (set_up ∷ []) 16 (not_found NoSuchPost)
     ∷ shows (set_up ∷ []) 15 (not_found NotSetUp)
-    ∷ shows (setUp 15 4 limits ∷ []) 15 (record { answer = setting.Done; shown = empty_record })
+    ∷ shows (setUp 15 4 limits ∷ []) 15 (record { answer = Ok tt; shown = empty_record })
     -- the index names the post that holds a channel; a second set-up on another channel and a release take the name away, a refused set-up does not,
     -- and the channel can be held by another post
     ∷ names (set_up ∷ setUp 15 9 limits ∷ []) 4 1
@@ -271,10 +267,10 @@ e8to13 =
     ∷ names (set_up ∷ setUp 0 5 limits ∷ setUp 1 4 limits ∷ []) 4 2
     ∷ names (set_up ∷ release 0 ∷ []) 4 0
     ∷ names (set_up ∷ release 0 ∷ setUp 3 4 limits ∷ tick 4 7 ∷ tick 5 7 ∷ []) 4 4
-    ∷ answers (set_up ∷ setUp 0 5 limits ∷ tick 4 1 ∷ tick 5 1 ∷ setUp 1 4 limits ∷ tick 4 0 ∷ []) (done ∷ done ∷ fed (Refused ChannelFree) ∷ found 0 ∷ done ∷ found 0 ∷ [])
+    ∷ answers (set_up ∷ setUp 0 5 limits ∷ tick 4 1 ∷ tick 5 1 ∷ setUp 1 4 limits ∷ tick 4 0 ∷ []) (done ∷ done ∷ fed (Err ChannelFree) ∷ found 0 ∷ done ∷ found 0 ∷ [])
     -- 02, Req 02: the watch hands the start bit on, "lowest start first"; a byte too few is 4, one too many 15
     ∷ answers (set_up ∷ frame 4 0 0x6b001 true (8 ∷ 5 ∷ []) ∷ frame 4 0 0x6b001 true (2 ∷ 5 ∷ []) ∷ frame 4 0 0x6b001 true (8 ∷ []) ∷ frame 4 0 0x6b001 true (8 ∷ 5 ∷ 0 ∷ []) ∷ [])
-    (done ∷ fed (Refused (NoLabel 0)) ∷ fed (Refused (NoLabel 8)) ∷ fed (Refused TooShort) ∷ fed (Refused TooLong) ∷ [])
+    (done ∷ fed (Err (NoLabel 0)) ∷ fed (Err (NoLabel 8)) ∷ fed (Err TooShort) ∷ fed (Err TooLong) ∷ [])
     -- 02, Req 03: under precharge at 0 V raw 0 and raw 1 have no F9 on a measuring post, which has it at raw 24 of voltage raw 5000
     ∷ answers (sensing 0 ∷ session 0 ∷ control 10 0x88 0x13 0x01 ∷ status 20 0 0 0 ∷ control 30 0x88 0x13 0x04 ∷ status 40 0 0 0 ∷ status 50 0 0 1 ∷ status 60 0x88 0x13 24 ∷ [])
     (done ∷ found 0 ∷ found 0 ∷ found 0 ∷ found 0 ∷ found 0 ∷ found 0 ∷ found 256 ∷ [])
@@ -283,7 +279,7 @@ e8to13 =
     (done ∷ found 0 ∷ found 0 ∷ found 0 ∷ found 0 ∷ found 256 ∷ found 0 ∷ found 256 ∷ found 0 ∷ [])
     -- a number that is no sensor kind gets 12, and the post stays as it was
     ∷ answers (sensing 1 ∷ session 0 ∷ status 10 0 0 255 ∷ control 20 0x88 0x13 0x04 ∷ sensing 2 ∷ status 30 0 0 0 ∷ [])
-    (done ∷ found 0 ∷ found 0 ∷ found 0 ∷ set (setting.Refused LimitOutside) ∷ found 256 ∷ [])
+    (done ∷ found 0 ∷ found 0 ∷ found 0 ∷ set (Err LimitOutside) ∷ found 256 ∷ [])
     ∷ senses (sensing 1 ∷ sensing 2 ∷ []) 0 YesNo
     -- the record shows the kind of the latest set-up
     ∷ senses (sensing 0 ∷ sensing 1 ∷ []) 0 YesNo
@@ -295,10 +291,10 @@ e8to13 =
     ∷ answers (set_up ∷ session 0 ∷ safety_state 500 ∷ safety_control 501 ∷ safety_state 501 ∷ probes 501 ∷ []) (done ∷ found 0 ∷ found 0 ∷ found 1 ∷ found 1 ∷ found 1 ∷ [])
     -- a standard 9 and an extended 7 get 3, a bit that no signal covers 6
     ∷ answers (set_up ∷ frame 4 0 9 false (0x82 ∷ 0x15 ∷ 0 ∷ 0 ∷ 0 ∷ 0 ∷ 0 ∷ 0 ∷ []) ∷ frame 4 0 7 true (0x82 ∷ 0x15 ∷ 3 ∷ 3 ∷ 3 ∷ 0 ∷ 0 ∷ 0 ∷ []) ∷ frame 4 0 7 false (0x82 ∷ 0x15 ∷ 3 ∷ 3 ∷ 3 ∷ 0 ∷ 0 ∷ 1 ∷ []) ∷ [])
-    (done ∷ fed (Refused UnknownIdentifier) ∷ fed (Refused UnknownIdentifier) ∷ fed (Refused UncoveredBit) ∷ [])
+    (done ∷ fed (Err UnknownIdentifier) ∷ fed (Err UnknownIdentifier) ∷ fed (Err UncoveredBit) ∷ [])
     -- the record shows each under its kind
     ∷ keeps (set_up ∷ safety_state 10 ∷ probes 20 ∷ []) 0 safety_state_kind
-    (dated.At 10 10
+    (std.Some (dated.At 10 10
     (SafetyState
     (record {
       duty = 533;
@@ -316,9 +312,9 @@ e8to13 =
       estop3 = false;
       imdabort = false;
       imdfailure = false;
-    })))
+    }))))
     ∷ keeps (set_up ∷ safety_state 10 ∷ probes 20 ∷ []) 0 probes_kind
-    (dated.At 20 0
+    (std.Some (dated.At 20 0
     (Probes
     (record {
       temperature1 = negsuc 99;
@@ -333,7 +329,7 @@ e8to13 =
       temperature4 = pos 0;
       stopped4 = false;
       failed4 = false;
-    })))
+    }))))
     -- 02, Req 08: what was refused counts for no post; F2 once, and F3 and F4 of one frame
     ∷ counts (set_up ∷ controller 1000 ∷ tick 4 1200 ∷ tick 4 1201 ∷ tick 4 1199 ∷ frame 4 1201 0x63003 true (0 ∷ []) ∷ []) 0 3 (0 ∷ 1 ∷ 0 ∷ 0 ∷ 0 ∷ 0 ∷ 0 ∷ 0 ∷ 0 ∷ 0 ∷ 0 ∷ 0 ∷ [])
     ∷ counts (set_up ∷ control 0 0x88 0x13 0x48 ∷ tick 4 1 ∷ []) 0 2 (0 ∷ 0 ∷ 1 ∷ 1 ∷ 0 ∷ 0 ∷ 0 ∷ 0 ∷ 0 ∷ 0 ∷ 0 ∷ 0 ∷ [])
@@ -344,13 +340,13 @@ e8to13 =
     ∷ turns-away (tick 4 0 ∷ set_up ∷ setUp 1 4 limits ∷ release 1 ∷ tick 4 100 ∷ tick 4 99 ∷ frame 4 100 0x63003 true (0 ∷ []) ∷ release 0 ∷ tick 4 101 ∷ []) 4
     -- 02, Req 11: an identifier that only the other interface has gets 29, before 4, 5, 6 and 15 and after 1 and 2; the exact identifier and its form count
     ∷ answers (reading 0 ∷ tick 4 10 ∷ older_status 10 0 0 0 0 255 ∷ frame 4 10 0x60010 true (0 ∷ []) ∷ frame 4 10 0x60012 true (0xFF ∷ 0xFF ∷ 0xFF ∷ []) ∷ frame 4 9 0x60010 true [] ∷ frame 4 10 0x60010 false [] ∷ frame 5 10 0x60010 true [] ∷ [])
-    (done ∷ found 0 ∷ fed (Refused OtherInterface) ∷ fed (Refused OtherInterface) ∷ fed (Refused OtherInterface) ∷ fed (Refused Earlier) ∷ fed (Refused UnknownIdentifier) ∷ fed (Refused ChannelFree) ∷ [])
+    (done ∷ found 0 ∷ fed (Err OtherInterface) ∷ fed (Err OtherInterface) ∷ fed (Err OtherInterface) ∷ fed (Err Earlier) ∷ fed (Err UnknownIdentifier) ∷ fed (Err ChannelFree) ∷ [])
     ∷ answers (reading 1 ∷ tick 4 10 ∷ status 10 0 0 255 ∷ frame 4 10 0x63000 true [] ∷ frame 4 10 0x63003 true [] ∷ frame 4 10 0x60010 true (0 ∷ []) ∷ frame 4 10 0x60012 true (4 ∷ 0 ∷ 0 ∷ []) ∷ frame 4 10 0x68006 true (2 ∷ []) ∷ [])
-    (done ∷ found 0 ∷ fed (Refused OtherInterface) ∷ fed (Refused OtherInterface) ∷ fed (Refused UnknownIdentifier) ∷ fed (Refused TooShort) ∷ fed (Refused UncoveredBit) ∷ fed (Refused (NoLabel 0)) ∷ [])
+    (done ∷ found 0 ∷ fed (Err OtherInterface) ∷ fed (Err OtherInterface) ∷ fed (Err UnknownIdentifier) ∷ fed (Err TooShort) ∷ fed (Err UncoveredBit) ∷ fed (Err (NoLabel 0)) ∷ [])
     -- 004's frames are accepted on posts of either
     ∷ answers (reading 1 ∷ safety_control 0 ∷ safety_state 10 ∷ probes 20 ∷ []) (done ∷ found 0 ∷ found 0 ∷ found 0 ∷ [])
     -- a number that is no interface gets 12, and the post stays as it was; the record shows the interface of the latest set-up
-    ∷ answers (reading 1 ∷ reading 2 ∷ charging 0 ∷ reading 0 ∷ charging 1 ∷ []) (done ∷ set (setting.Refused LimitOutside) ∷ found 8 ∷ done ∷ fed (Refused OtherInterface) ∷ [])
+    ∷ answers (reading 1 ∷ reading 2 ∷ charging 0 ∷ reading 0 ∷ charging 1 ∷ []) (done ∷ set (Err LimitOutside) ∷ found 8 ∷ done ∷ fed (Err OtherInterface) ∷ [])
     ∷ reads-by (reading 0 ∷ reading 1 ∷ reading 2 ∷ []) 0 Older
     ∷ reads-by (reading 1 ∷ reading 0 ∷ []) 0 Newer
     -- with no session open F4 of each of the three functions, and neither F3 nor F7, whatever their numbers; F11; no finding of an Emergency_Stop
@@ -360,7 +356,7 @@ e8to13 =
     -- insulation test
     ∷ answers (reading 1 ∷ frame 4 0 0x68001 true (2 ∷ 1 ∷ []) ∷ older_session 0 2 1 0 ∷ older_session 1 2 1 7 ∷ older_session 2 2 2 0 ∷ charging 3 ∷ older_status 4 0x88 0x13 0 0 25 ∷ charging 5 ∷ older_status 6 0x88 0x13 0 0 25
     ∷ older_status 7 0x88 0x13 0 0 24 ∷ frame 4 8 0x68002 true (0 ∷ 0 ∷ []) ∷ older_status 9 0x88 0x13 0 0 24 ∷ frame 4 10 0x68003 true (0 ∷ 0 ∷ 0 ∷ 0 ∷ []) ∷ older_status 11 0x88 0x13 0 0 24 ∷ [])
-    (done ∷ fed (Refused TooShort) ∷ found 0 ∷ found 0 ∷ found 512 ∷ found 16 ∷ found 0 ∷ found 0 ∷ found 0
+    (done ∷ fed (Err TooShort) ∷ found 0 ∷ found 0 ∷ found 512 ∷ found 16 ∷ found 0 ∷ found 0 ∷ found 0
     ∷ found 256 ∷ found 0 ∷ found 0 ∷ found 0 ∷ found 256 ∷ [])
     -- Power_Modules_Limits: 40.0 A is a charge limit, -0.1 A and 0 A are none, and 100.1 A is not above the default; the discharge limit is the default
     ∷ answers (reading 1 ∷ older_session 0 2 1 0 ∷ older_limits 1 0x90 1 ∷ older_status 2 0 0 0x90 1 255 ∷ older_status 3 0 0 0x91 1 255 ∷ older_limits 4 0xFF 0xFF ∷ older_status 5 0 0 0xE8 3 255 ∷ older_status 6 0 0 0xE9 3 255
@@ -372,15 +368,15 @@ e8to13 =
     (done ∷ found 0 ∷ found 0 ∷ found 1 ∷ found 0 ∷ found 1 ∷ found 1 ∷ found 0 ∷ [])
     ∷ answers (reading 1 ∷ frame 4 1000 0x68009 true (7 ∷ []) ∷ tick 4 1200 ∷ tick 4 1201 ∷ []) (done ∷ found 0 ∷ found 0 ∷ found 2 ∷ [])
     -- the record shows 001's messages, the latest of the three functions among them, at the places that 000's have on another post
-    ∷ keeps (reading 1 ∷ charging 10 ∷ tick 4 12 ∷ []) 0 8 (dated.OlderAt 10 2 (older.Charging (record { voltage = 0; current = pos 0; charge = 0 })))
-    ∷ keeps (reading 1 ∷ charging 10 ∷ reading 0 ∷ tick 4 12 ∷ []) 0 8 dated.Nothing
+    ∷ keeps (reading 1 ∷ charging 10 ∷ tick 4 12 ∷ []) 0 8 (std.Some (dated.OlderAt 10 2 (older.Charging (record { voltage = 0; current = pos 0; charge = 0 }))))
+    ∷ keeps (reading 1 ∷ charging 10 ∷ reading 0 ∷ tick 4 12 ∷ []) 0 8 std.None
     ∷ in-session (reading 1 ∷ older_session 0 2 1 0 ∷ charging 1 ∷ frame 4 2 0x68003 true (1 ∷ 0 ∷ 2 ∷ 0 ∷ []) ∷ older_status 3 0 0 0 0 255 ∷ []) 0
-    (part.Opened (record { since = 0; age = 3; protocol = CcsIso15118v2013; plug = CcsDcExtended }))
-    (dated.OlderAt 3 0 (older.Status (record { voltage = 0; current = pos 0; modules = pos 25; enclosure = pos 25; enable = Allowed; insulation = 510 }))
-    ∷ dated.OlderAt 2 1 (older.Precharge (record { voltage = 1; current = 2 })) ∷ dated.Nothing ∷ [])
+    (Some (record { since = 0; age = 3; protocol = CcsIso15118v2013; plug = CcsDcExtended }))
+    (std.Some (dated.OlderAt 3 0 (older.Status (record { voltage = 0; current = pos 0; modules = pos 25; enclosure = pos 25; enable = Allowed; insulation = 510 })))
+    ∷ std.Some (dated.OlderAt 2 1 (older.Precharge (record { voltage = 1; current = 2 }))) ∷ std.None ∷ [])
     -- an old and a new post side by side: each by its own pages
     ∷ answers (reading 1 ∷ setUp 1 9 limits ∷ older_session 0 2 1 0 ∷ frame 9 0 0x6b001 true (2 ∷ 1 ∷ []) ∷ frame 9 1 0x68001 true (2 ∷ 1 ∷ 0 ∷ 0 ∷ 0 ∷ 0 ∷ 0 ∷ 0 ∷ []) ∷ session 1 ∷ charging 2 ∷ frame 9 2 0x6b003 true (0 ∷ 0 ∷ 0 ∷ 0 ∷ 0 ∷ 0 ∷ 0x48 ∷ []) ∷ [])
-    (done ∷ done ∷ found 0 ∷ found 0 ∷ fed (Refused OtherInterface) ∷ fed (Refused OtherInterface) ∷ found 16 ∷ found 16 ∷ [])
+    (done ∷ done ∷ found 0 ∷ found 0 ∷ fed (Err OtherInterface) ∷ fed (Err OtherInterface) ∷ found 16 ∷ found 16 ∷ [])
     -- 02, Req 14: no F12 without a stop, nor of one before the opening, which has none of its own; with no session open F4 alone
     ∷ answers (set_up ∷ session 0 ∷ status 1 0 0 255 ∷ control 2 0x88 0x13 0x02 ∷ control 3 0x88 0x13 0x04 ∷ control 4 0x88 0x13 0x08 ∷ []) (done ∷ found 0 ∷ found 0 ∷ found 0 ∷ found 0 ∷ found 0 ∷ [])
     ∷ answers (set_up ∷ stop 0 1 ∷ control 1 0x88 0x13 0x08 ∷ session 2 ∷ status 3 0 0 255 ∷ control 4 0x88 0x13 0x08 ∷ []) (done ∷ found 0 ∷ found 8 ∷ found 0 ∷ found 0 ∷ found 0 ∷ [])
@@ -391,37 +387,37 @@ e8to13 =
     -- none once the session closed, and none in the next one; none of a stop that was refused
     ∷ answers (set_up ∷ session 0 ∷ status 1 0 0 255 ∷ stop 2 1 ∷ control 3 0x88 0x13 0x08 ∷ finished 4 ∷ control 5 0x88 0x13 0x08 ∷ session 6 ∷ status 7 0 0 255 ∷ control 8 0x88 0x13 0x08 ∷ [])
     (done ∷ found 0 ∷ found 0 ∷ found 0 ∷ found 2048 ∷ found 0 ∷ found 8 ∷ found 0 ∷ found 0 ∷ found 0 ∷ [])
-    ∷ answers (set_up ∷ session 0 ∷ status 1 0 0 255 ∷ stop 2 2 ∷ control 3 0x88 0x13 0x08 ∷ []) (done ∷ found 0 ∷ found 0 ∷ fed (Refused (NoLabel 0)) ∷ found 0 ∷ [])
+    ∷ answers (set_up ∷ session 0 ∷ status 1 0 0 255 ∷ stop 2 2 ∷ control 3 0x88 0x13 0x08 ∷ []) (done ∷ found 0 ∷ found 0 ∷ fed (Err (NoLabel 0)) ∷ found 0 ∷ [])
     -- F11 once and F12 twice, each in its own tally
     ∷ counts (set_up ∷ session 0 ∷ status 1 0 0 255 ∷ stop 2 1 ∷ control 3 0x88 0x13 0x04 ∷ control 4 0x88 0x13 0x08 ∷ finished 5 ∷ finished 6 ∷ []) 0 7 (0 ∷ 0 ∷ 0 ∷ 0 ∷ 0 ∷ 0 ∷ 0 ∷ 0 ∷ 0 ∷ 0 ∷ 1 ∷ 2 ∷ [])
     -- the session's part keeps the latest stop; one before the opening, or of the session before, is none of it
     ∷ in-session (set_up ∷ session 0 ∷ stop 1 1 ∷ stop 3 3 ∷ tick 4 5 ∷ []) 0
-    (part.Opened (record { since = 0; age = 5; protocol = CcsIso15118v2013; plug = CcsDcExtended })) (dated.Nothing ∷ dated.Nothing ∷ dated.At 3 2 (Stop (record { origin = Pev })) ∷ [])
+    (Some (record { since = 0; age = 5; protocol = CcsIso15118v2013; plug = CcsDcExtended })) (std.None ∷ std.None ∷ std.Some (dated.At 3 2 (Stop (record { origin = Pev }))) ∷ [])
     ∷ in-session (set_up ∷ session 0 ∷ stop 1 1 ∷ finished 2 ∷ stop 3 3 ∷ session 4 ∷ []) 0
-    (part.Opened (record { since = 4; age = 0; protocol = CcsIso15118v2013; plug = CcsDcExtended })) (replicate kept_count dated.Nothing)
-    ∷ in-session (set_up ∷ session 0 ∷ stop 1 1 ∷ finished 2 ∷ []) 0 part.Closed (replicate kept_count dated.Nothing)
+    (Some (record { since = 4; age = 0; protocol = CcsIso15118v2013; plug = CcsDcExtended })) (replicate kept_count std.None)
+    ∷ in-session (set_up ∷ session 0 ∷ stop 1 1 ∷ finished 2 ∷ []) 0 None (replicate kept_count std.None)
     -- on an older post the three functions after its Emergency_Stop
     ∷ answers (reading 1 ∷ older_session 0 2 1 0 ∷ older_status 1 0 0 0 0 255 ∷ charging 2 ∷ older_stop 3 ∷ frame 4 4 0x68002 true (0 ∷ 0 ∷ []) ∷ frame 4 5 0x68003 true (0 ∷ 0 ∷ 0 ∷ 0 ∷ []) ∷ charging 6
     ∷ frame 4 7 0x68007 true (0 ∷ []) ∷ older_stop 8 ∷ older_session 9 2 1 0 ∷ older_status 10 0 0 0 0 255 ∷ charging 11 ∷ [])
     (done ∷ found 0 ∷ found 0 ∷ found 0 ∷ found 0 ∷ found 2048 ∷ found 2048 ∷ found 2048
     ∷ found 0 ∷ found 0 ∷ found 0 ∷ found 0 ∷ found 0 ∷ [])
     ∷ in-session (reading 1 ∷ older_session 0 2 1 0 ∷ older_stop 1 ∷ []) 0
-    (part.Opened (record { since = 0; age = 1; protocol = CcsIso15118v2013; plug = CcsDcExtended })) (dated.Nothing ∷ dated.Nothing ∷ dated.OlderAt 1 0 (older.Stop (record { origin = Evse })) ∷ [])
+    (Some (record { since = 0; age = 1; protocol = CcsIso15118v2013; plug = CcsDcExtended })) (std.None ∷ std.None ∷ std.Some (dated.OlderAt 1 0 (older.Stop (record { origin = Evse }))) ∷ [])
     -- 02, Req 14: the rest of 000's are accepted on a newer post with no finding, and get 29 on an older one; they raise F2 of a late controller, and F1 in a
     -- silent session, and nothing else
     ∷ answers (reading 0 ∷ rest 0) (done ∷ replicate rest_count (found 0))
-    ∷ answers (reading 1 ∷ rest 0) (done ∷ replicate rest_count (fed (Refused OtherInterface)))
+    ∷ answers (reading 1 ∷ rest 0) (done ∷ replicate rest_count (fed (Err OtherInterface)))
     ∷ answers (set_up ∷ controller 1000 ∷ session 1000 ∷ rest 1201 ++ rest 1501) (done ∷ found 0 ∷ found 0 ∷ replicate rest_count (found 2) ++ replicate rest_count (found 3))
     -- a bit that no signal covers is 6, a byte too few 4, one too many 15, a number without a label 5; the identifiers beside them are unknown
     ∷ answers (set_up ∷ frame 4 0 0x63002 true (4 ∷ 0 ∷ 0 ∷ []) ∷ frame 4 0 0x6b202 true (0 ∷ 0 ∷ 0 ∷ 0 ∷ 0 ∷ 1 ∷ 0 ∷ 0 ∷ []) ∷ zero_frame 0 0x63002 2 ∷ zero_frame 0 0x6b300 3
     ∷ frame 4 0 0x6b203 true (1 ∷ replicate 7 0) ∷ frame 4 0 0x6b204 true (0 ∷ 4 ∷ replicate 6 0) ∷ zero_frame 0 0x6b106 6 ∷ zero_frame 0 0x63200 8 ∷ frame 4 0 0x6b300 false (0 ∷ 0 ∷ []) ∷ [])
-    (done ∷ fed (Refused UncoveredBit) ∷ fed (Refused UncoveredBit) ∷ fed (Refused TooShort) ∷ fed (Refused TooLong)
-    ∷ fed (Refused (NoLabel 0)) ∷ fed (Refused (NoLabel 8)) ∷ fed (Refused UnknownIdentifier) ∷ fed (Refused UnknownIdentifier) ∷ fed (Refused UnknownIdentifier) ∷ [])
+    (done ∷ fed (Err UncoveredBit) ∷ fed (Err UncoveredBit) ∷ fed (Err TooShort) ∷ fed (Err TooLong)
+    ∷ fed (Err (NoLabel 0)) ∷ fed (Err (NoLabel 8)) ∷ fed (Err UnknownIdentifier) ∷ fed (Err UnknownIdentifier) ∷ fed (Err UnknownIdentifier) ∷ [])
     -- the record shows each under its kind: a Sequence_Control, an EV_Information_Energy of -1, 2 and -32,768 kWh, and an OCPP_Control of -12.5 A
     ∷ keeps (set_up ∷ frame 4 10 0x63002 true (3 ∷ 5 ∷ 1 ∷ []) ∷ tick 4 12 ∷ []) 0 (place_by sequence_kind)
-    (dated.At 10 2 (Sequence (record { authorisation = permission.Allowed; chademo = button.Pressed; done = step.Done; valid = validity.Invalid; parameters = step.Done; stop = button.Pressed })))
-    ∷ keeps (set_up ∷ rest 5 ++ (frame 4 10 0x6b104 true (0xFF ∷ 0xFF ∷ 2 ∷ 0 ∷ 0 ∷ 0x80 ∷ []) ∷ tick 4 12 ∷ [])) 0 (place_by energy_kind) (dated.At 10 2 (Energy (record { minimum = negsuc 0; target = pos 2; maximum = negsuc 32767 })))
-    ∷ keeps (set_up ∷ frame 4 10 0x6b300 true (0x83 ∷ 0xFF ∷ []) ∷ []) 0 (place_by ocpp_kind) (dated.At 10 0 (Ocpp (record { target = negsuc 124 })))
+    (std.Some (dated.At 10 2 (Sequence (record { authorisation = permission.Allowed; chademo = button.Pressed; done = step.Done; valid = validity.Invalid; parameters = step.Done; stop = button.Pressed }))))
+    ∷ keeps (set_up ∷ rest 5 ++ (frame 4 10 0x6b104 true (0xFF ∷ 0xFF ∷ 2 ∷ 0 ∷ 0 ∷ 0x80 ∷ []) ∷ tick 4 12 ∷ [])) 0 (place_by energy_kind) (std.Some (dated.At 10 2 (Energy (record { minimum = negsuc 0; target = pos 2; maximum = negsuc 32767 }))))
+    ∷ keeps (set_up ∷ frame 4 10 0x6b300 true (0x83 ∷ 0xFF ∷ []) ∷ []) 0 (place_by ocpp_kind) (std.Some (dated.At 10 0 (Ocpp (record { target = negsuc 124 }))))
     ∷ []
 
 abbrev pub table : List Case

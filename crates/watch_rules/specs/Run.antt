@@ -1,11 +1,9 @@
 -- Any sequence of requests from the empty table, newest first: what the operations answer, and which requests were accepted.
-use Rattle.std.specs.Prelude.{ℕ, ◌+◌, ◌<◌, List, [], ◌∷◌, Bool, true, false, not, ◌&&◌, ◌≡◌, eqb}
+use Rattle.std.specs.Prelude.{ℕ, ◌+◌, ◌<◌, List, [], ◌∷◌, Bool, true, false, not, ◌&&◌, ◌≡◌, eqb, Ok, Err}
 use Rattle.rule_limits.specs.declared.PlainLimits.{PlainLimits}
 use Rattle.watch_rules.specs.declared.Table.{Table}
-use Rattle.watch_rules.specs.declared.Answer.{Answer}
-use Rattle.watch_rules.specs.declared.Answer.TheVariants.{Findings, Refused}
-use Rattle.watch_rules.specs.declared.Setting.{Setting}
-use Rattle.watch_rules.specs.declared.Setting.TheVariants as setting
+use Rattle.watch_rules.specs.Answer.{Answer}
+use Rattle.watch_rules.specs.Setting.{Setting}
 use Rattle.rule_asks.specs.Judgements.{bit}
 use Rattle.watch_rules.specs.Table.{post_count, one_refused, empty_table, framing, ticking, feed_of, set_up_of, release_of}
 use Rattle.watch_rules.specs.Steps.{Steps, standing, holds_in, feed01, set_up01, release01, feed_steps, set_up_steps, release_steps}
@@ -67,10 +65,10 @@ after_refusal t (frame c time m x bs) = one_refused t
 after_refusal t (tick c time) = one_refused t
 
 abbrev pub is_refusal : Reply → Bool
-is_refusal (set setting.Done) = false
-is_refusal (set (setting.Refused w)) = true
-is_refusal (fed (Findings n)) = false
-is_refusal (fed (Refused w)) = true
+is_refusal (set (Ok tt)) = false
+is_refusal (set (Err w)) = true
+is_refusal (fed (Ok n)) = false
+is_refusal (fed (Err w)) = true
 
 -- a request is about post j where it sets it up or releases it, or comes on the channel that it holds
 abbrev pub concerns : Steps → Request → ℕ → Bool

@@ -1,5 +1,5 @@
 -- Demand 3's definitions: the accepted steps of all posts, newest first; each post's own set-up and events in them; and 01's answers read afresh over those.
-use Rattle.std.specs.Prelude.{ℕ, zero, suc, ◌<◌, ◌≡◌, List, [], ◌∷◌, map, Bool, true, false, cond, not, ◌&&◌, ltb, eqb, length, get_or}
+use Rattle.std.specs.Prelude.{ℕ, zero, suc, ◌<◌, ◌≡◌, List, [], ◌∷◌, map, Bool, true, false, cond, not, ◌&&◌, ltb, eqb, length, get_or, Ok, Err}
 use Rattle.std.proofs.Math.Option.{Option, none, some}
 use Rattle.refusals.specs.declared.Refusal.TheVariants.{ChannelFree, Earlier, NoSuchPost, NoSuchChannel, ChannelTaken, LimitOutside, NotSetUp, CountFull}
 use Rattle.rule_limits.specs.declared.PlainLimits.{PlainLimits}
@@ -12,13 +12,9 @@ use Rattle.rules.specs.Counts.{is_full}
 use Rattle.rules.specs.Record.{record_of, head_of, post_of}
 use Rattle.rules.specs.After.{stored, free_post}
 use Rattle.watch_rules.specs.declared.Table.{Table}
-use Rattle.watch_rules.specs.declared.Answer.{Answer}
-use Rattle.watch_rules.specs.declared.Answer.TheVariants.{Findings, Refused}
-use Rattle.watch_rules.specs.declared.Fed.{Fed}
+use Rattle.watch_rules.specs.Answer.{Answer, Fed}
 use Rattle.watch_rules.specs.declared.Heard.{Heard}
-use Rattle.watch_rules.specs.declared.Setting.{Setting}
-use Rattle.watch_rules.specs.declared.Setting.TheVariants as setting
-use Rattle.watch_rules.specs.declared.Settled.{Settled}
+use Rattle.watch_rules.specs.Setting.{Setting, Settled}
 use Rattle.watch_rules.specs.declared.LookedUp.{LookedUp}
 use Rattle.watch_rules.specs.declared.Arrival.{Arrival}
 use Rattle.watch_rules.specs.declared.Arrival.TheVariants.{Tick, Frame, Unread}
@@ -93,32 +89,32 @@ other_holds s i c k (suc n) = cond (not (eqb k i) && holds_in (standing k s) c) 
 
 -- the findings of an event, where the history has room for it
 abbrev pub counted01 : PlainLimits → History → Event → Answer
-counted01 lim h e = cond (is_full h) (Refused CountFull) (Findings (findings01 lim h e))
+counted01 lim h e = cond (is_full h) (Err CountFull) (Ok (findings01 lim h e))
 
 -- the findings, or the reader's refusal
 abbrev pub found01 : PlainLimits → History → ℕ → Arrival → Answer
 found01 lim h t Tick = counted01 lim h (tick (stamp_of h t))
 found01 lim h t (Frame k n) = counted01 lim h (frame (stamp_of h t) k n)
-found01 lim h t (Unread w) = Refused w
+found01 lim h t (Unread w) = Err w
 
 abbrev pub answer_in : Standing → ℕ → Arriving → Answer
-answer_in free t a = Refused ChannelFree
-answer_in (held c lim h) t a = cond (earlier_in h t) (Refused Earlier) (found01 lim h t (a lim))
+answer_in free t a = Err ChannelFree
+answer_in (held c lim h) t a = cond (earlier_in h t) (Err Earlier) (found01 lim h t (a lim))
 
 -- 01: "1: channel above 31, or held by no post", then 2, then the reader's 3 to 6; 02, Req 08: then 25
 unfoldable pub feed01 : Steps → ℕ → ℕ → Arriving → Answer
-feed01 s c t a = cond (is_channel c && ltb (holder s c) post_count) (answer_in (standing (holder s c) s) t a) (Refused ChannelFree)
+feed01 s c t a = cond (is_channel c && ltb (holder s c) post_count) (answer_in (standing (holder s c) s) t a) (Err ChannelFree)
 
 -- 9, 10, 11, 12
 unfoldable pub set_up01 : Steps → ℕ → ℕ → PlainLimits → Setting
 set_up01 s i c lim =
     cond (is_post i)
     (cond (is_channel c)
-    (cond (other_holds s i c 0 post_count) (setting.Refused ChannelTaken)
-    (cond (limits_fit lim) setting.Done
-    (setting.Refused LimitOutside)))
-    (setting.Refused NoSuchChannel))
-    (setting.Refused NoSuchPost)
+    (cond (other_holds s i c 0 post_count) (Err ChannelTaken)
+    (cond (limits_fit lim) (Ok tt)
+    (Err LimitOutside)))
+    (Err NoSuchChannel))
+    (Err NoSuchPost)
 
 abbrev pub is_held : Standing → Bool
 is_held free = false
@@ -126,11 +122,11 @@ is_held (held c lim h) = true
 
 -- 9, 14
 unfoldable pub release01 : Steps → ℕ → Setting
-release01 s i = cond (is_post i) (cond (is_held (standing i s)) setting.Done (setting.Refused NotSetUp)) (setting.Refused NoSuchPost)
+release01 s i = cond (is_post i) (cond (is_held (standing i s)) (Ok tt) (Err NotSetUp)) (Err NoSuchPost)
 
 abbrev pub shown_in : Standing → LookedUp
 shown_in free = not_found NotSetUp
-shown_in (held c lim h) = record { answer = setting.Done; shown = record_of c lim h }
+shown_in (held c lim h) = record { answer = Ok tt; shown = record_of c lim h }
 
 unfoldable pub look_up01 : Steps → ℕ → LookedUp
 look_up01 s i = cond (is_post i) (shown_in (standing i s)) (not_found NoSuchPost)
@@ -147,15 +143,15 @@ event_on free t a = tick t
 event_on (held c lim h) t a = event_in h t (a lim)
 
 abbrev pub if_found : Answer → Step → Steps → Steps
-if_found (Findings n) x s = x ∷ s
-if_found (Refused w) x s = s
+if_found (Ok n) x s = x ∷ s
+if_found (Err w) x s = s
 
 unfoldable pub feed_steps : Steps → ℕ → ℕ → Arriving → Steps
 feed_steps s c t a = if_found (feed01 s c t a) (event c (event_on (standing (holder s c) s) t a)) s
 
 abbrev pub if_done : Setting → Step → Steps → Steps
-if_done setting.Done x s = x ∷ s
-if_done (setting.Refused w) x s = s
+if_done (Ok tt) x s = x ∷ s
+if_done (Err w) x s = s
 
 unfoldable pub set_up_steps : Steps → ℕ → ℕ → PlainLimits → Steps
 set_up_steps s i c lim = if_done (set_up01 s i c lim) (setUp i c lim) s
@@ -201,12 +197,12 @@ pub record Kept (t : Table) (s : Steps) : Type 0 where
 -- ---- a post hears right
 
 abbrev pub grown : Answer → Event → History → History
-grown (Findings n) e h = e ∷ h
-grown (Refused w) e h = h
+grown (Ok n) e h = e ∷ h
+grown (Err w) e h = h
 
 -- what comes on the channel c to a post that stands on the channel d for the history h: 1 on another channel, and the history grows by what is accepted
 pub record Hears01 (d : ℕ) (lim : PlainLimits) (h : History) (c t : ℕ) (a : Arrival) (r : Heard) : Type 0 where
-  pub answer : r.answer ≡ cond (is_channel c && eqb d c) (cond (earlier_in h t) (Refused Earlier) (found01 lim h t a)) (Refused ChannelFree)
+  pub answer : r.answer ≡ cond (is_channel c && eqb d c) (cond (earlier_in h t) (Err Earlier) (found01 lim h t a)) (Err ChannelFree)
   pub post : stored (post_of d lim h) r.head r.at r.slot ≡ post_of d lim (grown r.answer (event_in h t a) h)
 
 abbrev pub HearRight : Head → ℕ → ℕ → Arrival → Heard → Type 0

@@ -1,13 +1,12 @@
 -- Each operation's answer and table, for every table. What they are for a table that accepted steps left stands in Steps.
-use Rattle.std.specs.Prelude.{ℕ, suc, ◌+◌, ◌-◌, ◌%◌, List, [], ◌∷◌, Bool, cond, not, ◌&&◌, ltb, leb, eqb, get_or, set, replicate}
+use Rattle.std.specs.Prelude.{ℕ, suc, ◌+◌, ◌-◌, ◌%◌, List, [], ◌∷◌, Bool, cond, not, ◌&&◌, ltb, leb, eqb, get_or, set, replicate, Ok, Err}
 use Rattle.refusals.specs.declared.Refusal.{Refusal}
 use Rattle.refusals.specs.declared.Refusal.TheVariants.{ChannelFree, Earlier, NoSuchPost, NoSuchChannel, ChannelTaken, LimitOutside, NotSetUp, CountFull}
-use Rattle.page_read.specs.declared.Judged.{Judged}
-use Rattle.page_read.specs.declared.Judged.TheVariants as judged
+use Rattle.page_read.specs.Judged.{Judged}
 use Rattle.page_interfaces.specs.Foreign.{judge_for}
 use Rattle.rule_limits.specs.declared.PlainLimits.{PlainLimits}
 use Rattle.rule_limits.specs.Limits.{limits_fit}
-use Rattle.rule_limits.specs.Sensor.{interface_of}
+use Rattle.page_table.specs.Interfaces.{interface_of}
 use Rattle.rules.specs.declared.Session.{Session}
 use Rattle.rules.specs.declared.Head.{Head}
 use Rattle.rules.specs.declared.Post.{Post}
@@ -17,12 +16,9 @@ use Rattle.rules.specs.Record.{place_count, is_set, unknown}
 use Rattle.rules.specs.Counts.{largest}
 use Rattle.rules.specs.After.{is_early, is_full_in, after_tick, after_frame, stored, no_limits, free_post, fresh_post, post_record}
 use Rattle.watch_rules.specs.declared.Table.{Table}
-use Rattle.watch_rules.specs.declared.Answer.{Answer}
-use Rattle.watch_rules.specs.declared.Answer.TheVariants.{Findings, Refused}
-use Rattle.watch_rules.specs.declared.Fed.{Fed}
+use Rattle.watch_rules.specs.Answer.{Answer, Fed}
 use Rattle.watch_rules.specs.declared.Heard.{Heard}
-use Rattle.watch_rules.specs.declared.Setting.TheVariants as setting
-use Rattle.watch_rules.specs.declared.Settled.{Settled}
+use Rattle.watch_rules.specs.Setting.{Settled}
 use Rattle.watch_rules.specs.declared.LookedUp.{LookedUp}
 use Rattle.watch_rules.specs.declared.Arrival.{Arrival}
 use Rattle.watch_rules.specs.declared.Arrival.TheVariants.{Tick, Frame, Unread}
@@ -91,8 +87,8 @@ unnamed t p = record { posts = t.posts; index = cond (is_set p.used) (set t.inde
 -- ---- frames and ticks
 
 abbrev pub arrival_of : Judged → Arrival
-arrival_of (judged.Frame k n) = Frame k n
-arrival_of (judged.Refused w) = Unread w
+arrival_of (Ok (k, n)) = Frame k n
+arrival_of (Err w) = Unread w
 
 -- what comes to a post is read by the limits that it was set up with: 02, Req 11, by the pages of its interface, and 29 in 3's place
 abbrev pub Arriving : Type 0
@@ -109,10 +105,10 @@ ticking lim = Tick
 
 -- a refused event leaves the head as it was and fills no slot
 abbrev pub turned_away : Head → Refusal → Heard
-turned_away p w = record { head = p; slot = unknown; at = place_count; answer = Refused w }
+turned_away p w = record { head = p; slot = unknown; at = place_count; answer = Err w }
 
 abbrev pub heard_by : AfterEvent → Heard
-heard_by r = record { head = r.head; slot = r.slot; at = r.at; answer = Findings r.findings }
+heard_by r = record { head = r.head; slot = r.slot; at = r.at; answer = Ok r.findings }
 
 -- 02, Req 08: "A frame or tick that would take its post's count past the largest is refused with a new number, judged after all others"
 abbrev pub unless_full : Head → Heard → Heard
@@ -135,15 +131,15 @@ unfoldable pub one_more : ℕ → ℕ
 one_more n = cond (ltb n largest) (n + 1) n
 
 abbrev pub refused_after : ℕ → Answer → ℕ
-refused_after n (Findings f) = n
-refused_after n (Refused w) = one_more n
+refused_after n (Ok f) = n
+refused_after n (Err w) = one_more n
 
 -- what a refused frame or tick leaves: "that count is now the only thing a refused one changes"
 abbrev pub one_refused : Table → Table
 one_refused t = record { posts = t.posts; index = t.index; refused = one_more t.refused }
 
 abbrev pub refused : Table → Refusal → Fed
-refused t w = record { table = one_refused t; answer = Refused w }
+refused t w = record { table = one_refused t; answer = Err w }
 
 abbrev pub with_post : Table → ℕ → Post → Answer → Table
 with_post t i p w = record { posts = set t.posts i p; index = t.index; refused = refused_after t.refused w }
@@ -173,10 +169,10 @@ abbrev pub is_post : ℕ → Bool
 is_post i = ltb i post_count
 
 abbrev pub unsettled : Table → Refusal → Settled
-unsettled t w = record { table = t; answer = setting.Refused w }
+unsettled t w = record { table = t; answer = Err w }
 
 abbrev pub settled : Table → Settled
-settled t = record { table = t; answer = setting.Done }
+settled t = record { table = t; answer = Ok tt }
 
 -- the post i with what it was set up with: the index names it for its channel, and no post for the channel that it held before
 abbrev pub seat : Table → ℕ → ℕ → Post → Table
@@ -206,12 +202,12 @@ abbrev pub no_record : Record
 no_record = post_record free_post
 
 abbrev pub not_found : Refusal → LookedUp
-not_found w = record { answer = setting.Refused w; shown = no_record }
+not_found w = record { answer = Err w; shown = no_record }
 
 unfoldable pub look_up_of : Table → ℕ → LookedUp
 look_up_of t i =
     cond (is_post i)
     (cond (is_set (post_in t i).head.used)
-    (record { answer = setting.Done; shown = post_record (post_in t i) })
+    (record { answer = Ok tt; shown = post_record (post_in t i) })
     (not_found NotSetUp))
     (not_found NoSuchPost)

@@ -27,51 +27,44 @@ pub struct Table {
     pub refused: u64,
 }
 
-// The findings of an accepted frame or tick, finding k in bit k - 1, or the refusal.
+// A table after a step, and what the step answers.
 #[derive(Clone, Copy)]
-pub enum Answer {
-    Findings(u32),
-    Refused(Refusal),
-}
-
-#[derive(Clone, Copy)]
-pub struct Fed {
+pub struct Stepped<A> {
     pub table: Table,
-    pub answer: Answer,
+    pub answer: A,
 }
 
-#[derive(Clone, Copy)]
-pub enum Setting {
-    Done,
-    Refused(Refusal),
-}
+// After a frame or tick: the findings, finding k in bit k - 1, or the refusal.
+pub type Fed = Stepped<Result<u32, Refusal>>;
 
-#[derive(Clone, Copy)]
-pub struct Settled {
-    pub table: Table,
-    pub answer: Setting,
-}
+// After a set-up or a release.
+pub type Settled = Stepped<Result<(), Refusal>>;
 
 // The record of a refused look-up is an empty one.
+// Kept (1): no `Result<Record, Refusal>`, since `look_up_of` promises that empty record too.
 #[derive(Clone, Copy)]
 pub struct LookedUp {
-    pub answer: Setting,
+    pub answer: Result<(), Refusal>,
     pub shown: Record,
 }
 
 // What comes to a post at a time: a tick, a frame by its kind and payload number, or a frame that its reader refused.
+// Kept (1): no `Result<Arrival, Refusal>`: 1 and 2 are told before what the reader refused, so that a frame that was not read goes to its post as every other
+// does, and no `?` could take it out on the way; `arrival_of`, `judged_of` and `found01` have a case for it.
 #[derive(Clone, Copy)]
 pub enum Arrival {
     Tick,
-    Frame(u32, u64),
+    Frame { kind: u32, raw: u64 },
     Unread(Refusal),
 }
 
 // A post's head after an arrival, the slot that the arrival fills and its place (PLACES where it fills none), and the answer.
+// Kept (1): no `Result<AfterEvent, Refusal>`: who steps a table goes on with head, slot and place whatever the answer is, by value, over one head and through a
+// batch, and each would make those of a refusal anew; `heard_of`, of which the theorems on every step speak, has them of a refusal too.
 #[derive(Clone, Copy)]
 pub struct Heard {
     pub head: Head,
     pub slot: Slot,
     pub at: usize,
-    pub answer: Answer,
+    pub answer: Result<u32, Refusal>,
 }

@@ -1,4 +1,5 @@
 -- What the operations answered to a post's accepted events is 01's findings of each, over the history before it.
+use Rattle.std.specs.Prelude.{Ok, Err}
 use Prim.Native.Nat.{ℕ, ◌<◌}
 use mathlib.Core.Path.{◌≡◌, refl, sym, ap, subst, ◌∙◌}
 use mathlib.Core.List.{List, [], ◌∷◌, map}
@@ -10,10 +11,8 @@ use Rattle.rules.specs.History.{Event, History}
 use Rattle.rules.specs.Times.{earlier_in}
 use Rattle.rules.specs.Rules.{findings01}
 use Rattle.rules.specs.Counts.{is_full}
-use Rattle.watch_rules.specs.declared.Answer.{Answer}
-use Rattle.watch_rules.specs.declared.Answer.TheVariants.{Findings, Refused}
-use Rattle.watch_rules.specs.declared.Setting.{Setting}
-use Rattle.watch_rules.specs.declared.Setting.TheVariants as setting
+use Rattle.watch_rules.specs.Answer.{Answer}
+use Rattle.watch_rules.specs.Setting.{Setting}
 use Rattle.watch_rules.specs.declared.Arrival.{Arrival}
 use Rattle.watch_rules.specs.declared.Arrival.TheVariants.{Tick, Frame, Unread}
 use Rattle.watch_rules.specs.Table.{post_count, Arriving, framing, ticking}
@@ -26,30 +25,30 @@ use Rattle.watch_ticks.specs.Answers.{answers_after, answers_to}
 
 abbrev Stands : Standing → List Answer → Type 0
 Stands free l = l ≡ []
-Stands (held c lim h) l = l ≡ map Findings (judged lim h)
+Stands (held c lim h) l = l ≡ map Ok (judged lim h)
 
 -- ---- one accepted frame or tick
 
 module _ (lim : PlainLimits) (h : History) where
-  counted_is : (e : Event) → is_refusal (fed (counted01 lim h e)) ≡ false → counted01 lim h e ≡ Findings (findings01 lim h e)
+  counted_is : (e : Event) → is_refusal (fed (counted01 lim h e)) ≡ false → counted01 lim h e ≡ Ok (findings01 lim h e)
   counted_is e = go (is_full h)
     where
-      go : (full : Bool) → is_refusal (fed (cond full (Refused CountFull) (Findings (findings01 lim h e)))) ≡ false
-          → cond full (Refused CountFull) (Findings (findings01 lim h e)) ≡ Findings (findings01 lim h e)
+      go : (full : Bool) → is_refusal (fed (cond full (Err CountFull) (Ok (findings01 lim h e)))) ≡ false
+          → cond full (Err CountFull) (Ok (findings01 lim h e)) ≡ Ok (findings01 lim h e)
       go true q = absurd (true≢false q)
       go false q = refl
 
-  found-is : (t : ℕ) (x : Arrival) → is_refusal (fed (found01 lim h t x)) ≡ false → found01 lim h t x ≡ Findings (findings01 lim h (event_in h t x))
+  found-is : (t : ℕ) (x : Arrival) → is_refusal (fed (found01 lim h t x)) ≡ false → found01 lim h t x ≡ Ok (findings01 lim h (event_in h t x))
   found-is t Tick q = counted_is (event_in h t Tick) q
   found-is t (Frame k n) q = counted_is (event_in h t (Frame k n)) q
   found-is t (Unread w) q = absurd (true≢false q)
 
   answer-is : (c t : ℕ) (a : Arriving) → is_refusal (fed (answer_in (held c lim h) t a)) ≡ false
-      → answer_in (held c lim h) t a ≡ Findings (findings01 lim h (event_in h t (a lim)))
+      → answer_in (held c lim h) t a ≡ Ok (findings01 lim h (event_in h t (a lim)))
   answer-is c t a = go (earlier_in h t)
     where
-      go : (early : Bool) → is_refusal (fed (cond early (Refused Earlier) (found01 lim h t (a lim)))) ≡ false
-          → cond early (Refused Earlier) (found01 lim h t (a lim)) ≡ Findings (findings01 lim h (event_in h t (a lim)))
+      go : (early : Bool) → is_refusal (fed (cond early (Err Earlier) (found01 lim h t (a lim)))) ≡ false
+          → cond early (Err Earlier) (found01 lim h t (a lim)) ≡ Ok (findings01 lim h (event_in h t (a lim)))
       go true q = absurd (true≢false q)
       go false q = found-is t (a lim) q
 
@@ -59,10 +58,10 @@ module _ (rs : List Request) (i : ℕ) (low : i < post_count) where
     is-holder = holder_is (accepted rs) (run_kept rs).apart i c low (ap (λ (x : Standing). holds_in x c) own ∙ eq-eqb c c refl)
 
     arrived : is_refusal (fed (feed01 (accepted rs) c t a)) ≡ false
-        → (feed01 (accepted rs) c t a ≡ Findings (findings01 lim h (event_in h t (a lim)))) × (standing i (feed_steps (accepted rs) c t a) ≡ held c lim (event_in h t (a lim) ∷ h))
+        → (feed01 (accepted rs) c t a ≡ Ok (findings01 lim h (event_in h t (a lim)))) × (standing i (feed_steps (accepted rs) c t a) ≡ held c lim (event_in h t (a lim) ∷ h))
     unfolding feed_steps
     arrived q =
-        let z : feed01 (accepted rs) c t a ≡ Findings (findings01 lim h (event_in h t (a lim))) = feed_own rs i c lim h low own t a ∙ answer-is lim h c t a (ap (λ (w : Answer). is_refusal (fed w)) (sym (feed_own rs i c lim h low own t a)) ∙ q) in
+        let z : feed01 (accepted rs) c t a ≡ Ok (findings01 lim h (event_in h t (a lim))) = feed_own rs i c lim h low own t a ∙ answer-is lim h c t a (ap (λ (w : Answer). is_refusal (fed w)) (sym (feed_own rs i c lim h low own t a)) ∙ q) in
         (z, rw (z, is-holder, own) (standing_event (accepted rs) i c lim h (event_in h t (a lim)) own))
 
   -- ---- one request
@@ -76,12 +75,12 @@ module _ (rs : List Request) (i : ℕ) (low : i < post_count) where
             → Stands (standing i (feed_steps (accepted rs) c t a)) (feed01 (accepted rs) c t a ∷ answers_to i rs)
         go (lim, h, own) =
             let z = arrived c lim h own t a q in
-            let before : answers_to i rs ≡ map Findings (judged lim h) = subst (λ (x : Standing). Stands x (answers_to i rs)) own stands in
+            let before : answers_to i rs ≡ map Ok (judged lim h) = subst (λ (x : Standing). Stands x (answers_to i rs)) own stands in
             rw (z.0, z.1, before) refl
 
-    done : (r : Setting) → is_refusal (set r) ≡ false → set r ≡ set setting.Done
-    done setting.Done q = refl
-    done (setting.Refused w) q = absurd (true≢false q)
+    done : (r : Setting) → is_refusal (set r) ≡ false → set r ≡ set (Ok tt)
+    done (Ok tt) q = refl
+    done (Err w) q = absurd (true≢false q)
 
     by_answer : (a : Request) → Stands (standing i (accepted (a ∷ rs))) (answers_after (reply01 (accepted rs) a) (answers_to i rs))
         → Stands (standing i (accepted (a ∷ rs))) (answers_after (reply (run rs) a) (answers_to i rs))
@@ -118,5 +117,5 @@ stand i low (a ∷ rs) = any-request rs i low (stand i low rs) a
 
 -- a post's accepted events, each with its answer: 01's findings of it
 pub answers_judged : (rs : List Request) (i c : ℕ) (lim : PlainLimits) (h : History) → i < post_count → standing i (accepted rs) ≡ held c lim h
-    → answers_to i rs ≡ map Findings (judged lim h)
+    → answers_to i rs ≡ map Ok (judged lim h)
 answers_judged rs i c lim h low own = subst (λ (x : Standing). Stands x (answers_to i rs)) own (stand i low rs)

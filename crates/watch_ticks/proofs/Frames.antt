@@ -4,7 +4,7 @@ use mathlib.Core.Path.{◌≡◌, refl, sym, ap, ◌∙◌}
 use mathlib.Core.List.{[], ◌∷◌}
 use mathlib.Core.Option.{Option, none, some}
 use Rattle.message_types.specs.declared.DcPowerParameters.{DcPowerParameters}
-use Rattle.rules.specs.History.{Event, frame, tick, History, Said, said_at, first, newest, oldest, unless, only_if, since_newest, after_oldest, status_of, command_of, limits_told, controller_of, opening_of, finished_of, stop_of, since_finished, opening, in_session}
+use Rattle.rules.specs.History.{Event, frame, tick, History, Said, first, newest, oldest, unless, only_if, since_newest, after_oldest, status_of, command_of, limits_told, controller_of, opening_of, finished_of, stop_of, since_finished, opening, in_session}
 use Rattle.rules.specs.Rules.{session_status, session_control, session_stop, limit_of, limit_by, f1, f2, f3, f4, f5, f6, f7, f8, f9, f10, f11, f12, rules01}
 use Rattle.watch_ticks.specs.Marks.{frames, Tickless, ReadsFrames, Every}
 

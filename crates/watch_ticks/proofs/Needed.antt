@@ -1,4 +1,5 @@
 -- Each premise of the two theorems is needed: with it dropped, or 1 ms off, the rest holds of these lists and the theorem's claim does not.
+use Rattle.std.specs.Prelude as std
 use Prim.Native.Nat.{ℕ, ◌+◌, ◌<◌}
 use native.Mathlib.Omega.{arith}
 use borrow.Author.Tests.{lt-ltb, le-leb}
@@ -11,8 +12,7 @@ use Rattle.message_parts.specs.Parts.{status_kind, session_kind, finished_kind}
 use Rattle.rule_pages.specs.Roles.{role_of}
 use Rattle.rule_pages.specs.Said.{opening_by}
 use Rattle.rule_limits.specs.declared.PlainLimits.{PlainLimits}
-use Rattle.rules.specs.declared.SessionPart.{SessionPart}
-use Rattle.rules.specs.declared.SessionPart.TheVariants as part
+use Rattle.rules.specs.SessionPart.{SessionPart}
 use Rattle.rules.specs.declared.Record.{Record}
 use Rattle.rules.specs.History.{Event, frame, tick, History, Said, said_at, time_of, since_finished, opening, in_session}
 use Rattle.rules.specs.Times.{earlier_in, elapsed, latest_time, Unrolled}
@@ -185,8 +185,8 @@ reads_needed q = true≢false (sym (ap flag q))
 
 -- the record, where all is 1 ms later as it was received: the session is open since another time
 abbrev since_in : SessionPart → ℕ
-since_in part.Closed = 0
-since_in (part.Opened s) = s.since
+since_in std.None = 0
+since_in (std.Some s) = s.since
 
 pub received_needed : (said (session 1000 ∷ []) ≡ said (session 1001 ∷ [])) × (gaps (session 1000 ∷ []) ≡ gaps (session 1001 ∷ []))
     × (unticked (record_of 4 limits (session 1000 ∷ [])) ≡ unticked (record_of 4 limits (session 1001 ∷ [])) → ⊥)

@@ -1,4 +1,5 @@
 -- Both theorems on a night: each premise holds there, and each says something. Post 0 stands on channel 4 with W 100 ms.
+use Rattle.std.specs.Prelude.{Ok}
 use Prim.Native.Nat.{ℕ, ◌+◌, ◌<◌}
 use native.Mathlib.Omega.{arith}
 use borrow.Author.Tests.{ltb-true}
@@ -26,7 +27,6 @@ use Rattle.rules.specs.Times.{earlier_in, Unrolled}
 use Rattle.rules.specs.Rules.{session_status, session_control, session_stop, limit_of, f1, f2, f3, f4, f5, f6, f7, f8, f9, f10, f11, f12, rules01, findings01}
 use Rattle.rules.specs.Counts.{tallies_of}
 use Rattle.rules.specs.Record.{record_of}
-use Rattle.watch_rules.specs.declared.Answer.TheVariants.{Findings}
 use Rattle.watch_rules.specs.Table.{post_count, look_up_of}
 use Rattle.watch_rules.specs.Steps.{held, standing, find_from, holder, other_holds, feed01, set_up01, feed_steps, set_up_steps}
 use Rattle.watch_rules.specs.Run.{Request, setUp, frame, tick, run, accepted}
@@ -96,11 +96,11 @@ unfolding standing find_from holder other_holds feed01 set_up01 feed_steps set_u
 computed = (refl, refl, refl, refl, refl, refl)
 
 -- the answers to the kept events with the ticks are those without them: F1 and F2 of the late status, and nothing of the others
-pub answered_with : answers_to 0 ticking ≡ Findings 2 ∷ Findings 3 ∷ Findings 3 ∷ Findings 0 ∷ Findings 0 ∷ Findings 0 ∷ Findings 0 ∷ []
-answered_with = answers_judged ticking 0 4 limits (whole more) first computed.1 ∙ ap (map Findings) computed.3
+pub answered_with : answers_to 0 ticking ≡ Ok 2 ∷ Ok 3 ∷ Ok 3 ∷ Ok 0 ∷ Ok 0 ∷ Ok 0 ∷ Ok 0 ∷ []
+answered_with = answers_judged ticking 0 4 limits (whole more) first computed.1 ∙ ap (map Ok) computed.3
 
-pub answered_without : answers_to 0 plain ≡ Findings 3 ∷ Findings 0 ∷ Findings 0 ∷ Findings 0 ∷ []
-answered_without = answers_judged plain 0 4 limits (whole fewer) first computed.0 ∙ ap (map Findings) computed.2
+pub answered_without : answers_to 0 plain ≡ Ok 3 ∷ Ok 0 ∷ Ok 0 ∷ Ok 0 ∷ []
+answered_without = answers_judged plain 0 4 limits (whole fewer) first computed.0 ∙ ap (map Ok) computed.2
 
 pub answers_kept : kept_of more (answers_to 0 ticking) ≡ kept_of fewer (answers_to 0 plain)
 answers_kept = answers_alike ticking plain 0 4 limits more fewer first computed.1 computed.0 refl refl
@@ -147,8 +147,8 @@ silence =
 pub silence_heard : SomeAnswer (λ k e w. Told limits opened 1000 k e × HasF1 w) since (answers_to 0 quiet)
 silence_heard = silence_answered limits opened 1000 quiet 0 4 since first silent_there.0 (event.there (event.here silence))
 
-pub answered_quiet : answers_to 0 quiet ≡ Findings 0 ∷ Findings 1 ∷ Findings 1 ∷ Findings 0 ∷ Findings 0 ∷ []
-answered_quiet = answers_judged quiet 0 4 limits since first silent_there.0 ∙ ap (map Findings) silent_there.4
+pub answered_quiet : answers_to 0 quiet ≡ Ok 0 ∷ Ok 1 ∷ Ok 1 ∷ Ok 0 ∷ Ok 0 ∷ []
+answered_quiet = answers_judged quiet 0 4 limits since first silent_there.0 ∙ ap (map Ok) silent_there.4
 
 -- ---- the same over the histories themselves
 

@@ -1,12 +1,12 @@
 -- Both theorems of 02, Req 12 on a post of the older interface: ticks put in and taken out around its frames, a stop and F12 (Req 14) among them, and a silence
 -- of W + 101 ms of its power modules.
-use Prim.Native.Nat.{ℕ, ◌+◌, ◌<◌}
+use Rattle.std.specs.Prelude.{Ok}
+use Prim.Native.Nat.{ℕ, ◌<◌}
 use native.Mathlib.Omega.{arith}
 use borrow.Author.Tests.{ltb-true}
-use mathlib.Core.Path.{◌≡◌, refl, ap, sym, ◌∙◌}
+use mathlib.Core.Path.{◌≡◌, refl, ap, ◌∙◌}
 use mathlib.Core.Bool.{true}
 use mathlib.Core.List.{List, [], ◌∷◌, map}
-use lib.ListN.{length}
 use mathlib.Core.Option.{none, some}
 use Rattle.page_table.specs.Table.{rows, of_kind, first_at, covered}
 use Rattle.page_read.specs.Judge.{unlabelled, stray_below, judged_number, judge_on}
@@ -24,25 +24,18 @@ use Rattle.rule_limits.specs.Limits.{limits_fit}
 use Rattle.rule_asks.specs.Judgements.{lowers_badly, outside, leaking, bad_insulation, differs}
 use Rattle.rules.specs.History.{History, Said, said_at, since_finished, opening, in_session}
 use Rattle.rules.specs.History as history
-use Rattle.rules.specs.Times.{earlier_in, Unrolled}
-use Rattle.rules.specs.Rules.{session_status, session_control, session_stop, limit_of, f1, f2, f3, f4, f5, f6, f7, f8, f9, f10, f11, f12, rules01, findings01}
-use Rattle.rules.specs.Counts.{tallies_of}
-use Rattle.rules.specs.Record.{record_of}
-use Rattle.watch_rules.specs.declared.Answer.TheVariants.{Findings}
+use Rattle.rules.specs.Times.{earlier_in}
+use Rattle.rules.specs.Rules.{session_status, session_control, session_stop, limit_of, f1, f2, f3, f4, f5, f6, f7, f8, f9, f10, f11, f12, findings01}
 use Rattle.watch_rules.specs.Table.{post_count, look_up_of}
 use Rattle.watch_rules.specs.Steps.{held, standing, find_from, holder, other_holds, feed01, set_up01, feed_steps, set_up_steps}
 use Rattle.watch_rules.specs.Run.{Request, setUp, frame, tick, run, accepted}
-use Rattle.watch_ticks.specs.Marks.{Mark, kept, extra, whole, extras_by, kept_of, judged}
-use Rattle.watch_ticks.specs.Gaps.{Alike}
-use Rattle.watch_ticks.specs.Unticked.{unticked, plus}
+use Rattle.watch_ticks.specs.Marks.{Mark, kept, extra, whole, kept_of, judged}
+use Rattle.watch_ticks.specs.Unticked.{unticked}
 use Rattle.watch_ticks.specs.Silence.{Silent, Told, Some}
 use Rattle.watch_ticks.specs.Silence as event
 use Rattle.watch_ticks.specs.Answers.{answers_to, SomeAnswer, HasF1}
-use Rattle.watch_ticks.proofs.Alike.{kept_findings, tallies_alike, accepted_alike}
-use Rattle.watch_ticks.proofs.Unticked.{record_alike}
-use Rattle.watch_ticks.proofs.Silence.{silence_told}
 use Rattle.watch_ticks.proofs.Answers.{answers_judged}
-use Rattle.watch_ticks.proofs.Runs.{answers_alike, counts_alike, shown_alike, silence_answered}
+use Rattle.watch_ticks.proofs.Runs.{answers_alike, shown_alike, silence_answered}
 
 -- W 100 ms, and the pages of 001
 abbrev limits : PlainLimits
@@ -96,8 +89,8 @@ computed = (refl, refl, refl, refl)
 pub answers_kept : kept_of more (answers_to 0 ticking) ≡ kept_of fewer (answers_to 0 plain)
 answers_kept = answers_alike ticking plain 0 4 limits more fewer first computed.1 computed.0 refl refl
 
-pub answered_without : answers_to 0 plain ≡ Findings 2048 ∷ Findings 0 ∷ Findings 1 ∷ Findings 16 ∷ Findings 0 ∷ []
-answered_without = answers_judged plain 0 4 limits (whole fewer) first computed.0 ∙ ap (map Findings) computed.2
+pub answered_without : answers_to 0 plain ≡ Ok 2048 ∷ Ok 0 ∷ Ok 1 ∷ Ok 16 ∷ Ok 0 ∷ []
+answered_without = answers_judged plain 0 4 limits (whole fewer) first computed.0 ∙ ap (map Ok) computed.2
 
 pub shown_kept : ((look_up_of (run ticking) 0).answer ≡ (look_up_of (run plain) 0).answer) × (unticked (look_up_of (run ticking) 0).shown ≡ unticked (look_up_of (run plain) 0).shown)
 shown_kept = shown_alike ticking plain 0 4 limits more fewer first computed.1 computed.0 refl

@@ -1,5 +1,6 @@
 -- 02, Req 12, of the operations' own answers: of two runs of requests in which a post's accepted events differ in ticks alone, and of a run in which a post
 -- ticks often enough.
+use Rattle.std.specs.Prelude.{Ok}
 use Prim.Native.Nat.{ℕ, ◌+◌, ◌%◌, ◌<◌}
 use native.Mathlib.Omega.{arith}
 use mathlib.Core.Path.{◌≡◌, refl, sym, ap, subst, ◌∙◌}
@@ -7,13 +8,11 @@ use mathlib.Core.List.{List, [], ◌∷◌, map}
 use mathlib.Core.Bool.{Bool, true, false}
 use borrow.Author.Tests.{lt-ltb}
 use Rattle.rule_limits.specs.declared.PlainLimits.{PlainLimits}
-use Rattle.rules.specs.History.{Event, History, Said, said_at}
+use Rattle.rules.specs.History.{Event, History, Said}
 use Rattle.rules.specs.Times.{Unrolled}
 use Rattle.rules.specs.Rules.{rules01, f1, f2, f3, f4, f5, f6, f7, f8, f9, f10, f11, f12, found, bits_from, findings01}
 use Rattle.rules.specs.Record.{record_as_of, record_of}
-use Rattle.watch_rules.specs.declared.Answer.{Answer}
-use Rattle.watch_rules.specs.declared.Answer.TheVariants.{Findings}
-use Rattle.watch_rules.specs.declared.Setting.TheVariants as setting
+use Rattle.watch_rules.specs.Answer.{Answer}
 use Rattle.watch_rules.specs.Table.{post_count, look_up_of}
 use Rattle.watch_rules.specs.Steps.{held, standing, InTime, look_up01}
 use Rattle.watch_rules.specs.Run.{Request, run, accepted}
@@ -35,7 +34,7 @@ module _ (rs : List Request) (i c : ℕ) (lim : PlainLimits) (h : History) (low 
   in_time : Unrolled h
   in_time = subst InTime own ((run_kept rs).times i low)
 
-  shown : look_up_of (run rs) i ≡ record { answer = setting.Done; shown = record_of c lim h }
+  shown : look_up_of (run rs) i ≡ record { answer = Ok tt; shown = record_of c lim h }
   unfolding look_up01
   shown = every_record rs i ∙ rw (lt-ltb i post_count low, own)
 
@@ -49,10 +48,10 @@ module _ (rs qs : List Request) (i c : ℕ) (lim : PlainLimits) (m n : List Mark
 
     -- the kept events got the same answers
     pub answers_alike : kept_of m (answers_to i rs) ≡ kept_of n (answers_to i qs)
-    answers_alike = side rs m one ∙ ap (map Findings) (kept_findings lim m n alike) ∙ sym (side qs n other)
+    answers_alike = side rs m one ∙ ap (map Ok) (kept_findings lim m n alike) ∙ sym (side qs n other)
       where
-        side : (ps : List Request) (x : List Mark) → standing i (accepted ps) ≡ held c lim (whole x) → kept_of x (answers_to i ps) ≡ map Findings (kept_of x (judged lim (whole x)))
-        side ps x own = ap (kept_of x) (answers_judged ps i c lim (whole x) low own) ∙ kept_map Findings x (judged lim (whole x))
+        side : (ps : List Request) (x : List Mark) → standing i (accepted ps) ≡ held c lim (whole x) → kept_of x (answers_to i ps) ≡ map Ok (kept_of x (judged lim (whole x)))
+        side ps x own = ap (kept_of x) (answers_judged ps i c lim (whole x) low own) ∙ kept_map Ok x (judged lim (whole x))
 
     -- the record counts what was put in, and what was found of it
     pub counts_alike : ((look_up_of (run rs) i).shown.accepted + extras n ≡ (look_up_of (run qs) i).shown.accepted + extras m)
@@ -80,7 +79,7 @@ module _ (lim : PlainLimits) (o : Said) (b : ℕ) where
   abbrev TellsOf : History → Event → Answer → Type 0
   TellsOf h e w = Told lim o b h e × HasF1 w
 
-  told-answered : (h : History) → Some (Told lim o b) h → SomeAnswer TellsOf h (map Findings (judged lim h))
+  told-answered : (h : History) → Some (Told lim o b) h → SomeAnswer TellsOf h (map Ok (judged lim h))
   told-answered [] x' = elim x' [ ]
   told-answered (e ∷ h) (some.here t) = here (t, f1_bit lim h e t.finds)
   told-answered (e ∷ h) (some.there more) = there (told-answered h more)

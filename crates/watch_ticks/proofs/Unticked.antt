@@ -1,5 +1,7 @@
 -- 02, Req 12: "the record differs only in its latest time, ages and tallies". What it says of messages and of the session is read off the kept events as they
 -- were received, whatever the gaps between them.
+use Rattle.std.specs.Prelude.{Some, None}
+use Rattle.std.specs.Prelude as std
 use Prim.Native.Nat.{ℕ}
 use mathlib.Core.Path.{◌≡◌, refl, sym, ap, ◌∙◌}
 use mathlib.Core.List.{List, [], ◌∷◌, map}
@@ -12,12 +14,9 @@ use Rattle.rule_pages.specs.Said.{opening_by}
 use Rattle.message_build.specs.Built.{message_of}
 use Rattle.rule_limits.specs.declared.PlainLimits.{PlainLimits}
 use Rattle.rule_limits.specs.Sensor.{limits_of}
-use Rattle.rules.specs.declared.LastTime.TheVariants as last
 use Rattle.rules.specs.declared.Dated.{Dated}
 use Rattle.rules.specs.declared.Dated.TheVariants as dated
-use Rattle.rules.specs.declared.Latest.{Latest}
-use Rattle.rules.specs.declared.SessionPart.{SessionPart}
-use Rattle.rules.specs.declared.SessionPart.TheVariants as part
+use Rattle.rules.specs.SessionPart.{SessionPart}
 use Rattle.rules.specs.declared.Record.{Record}
 use Rattle.rules.specs.History.{History, Said, newest, opening, count_from}
 use Rattle.rules.specs.Times.{received_of, latest_time, age_of}
@@ -33,17 +32,14 @@ use Rattle.watch_ticks.proofs.Marked.{same_frames}
 
 -- ---- by times as received
 
-abbrev plain_dated : Option Said → Dated
-plain_dated none = dated.Nothing
-plain_dated (some m) = dated_at m.time 0 m.kind m.raw
-
-abbrev plain_latest : Option Said → Latest
-plain_latest o = record { message = plain_dated o }
+abbrev plain_latest : Option Said → std.Option Dated
+plain_latest none = std.None
+plain_latest (some m) = std.Some (dated_at m.time 0 m.kind m.raw)
 
 abbrev plain_part : Option Said → SessionPart
-plain_part none = part.Closed
+plain_part none = None
 plain_part (some o) =
-    part.Opened
+    Some
     (record {
       since = o.time;
       age = 0;
@@ -51,7 +47,7 @@ plain_part (some o) =
       plug = (opening_by o.kind o.raw).plug;
     })
 
-abbrev plain_kept : Option Said → List (Option Said) → List Latest
+abbrev plain_kept : Option Said → List (Option Said) → List (std.Option Dated)
 plain_kept none ks = map (λ (o : Option Said). plain_latest none) ks
 plain_kept (some o) ks = map plain_latest ks
 
@@ -67,9 +63,9 @@ ageless_at t age k raw = go (is_on Newer k)
     go true = refl
     go false = refl
 
-dated_plain : (now : ℕ) (o : Option Said) → ageless (dated_of now o) ≡ plain_dated (received o)
+dated_plain : (now : ℕ) (o : Option Said) → ageless_latest (dated_of now o) ≡ plain_latest (received o)
 dated_plain now none = refl
-dated_plain now (some m) = ageless_at (received_of m.time) (age_of now m.time) m.kind m.raw
+dated_plain now (some m) = ap std.Some (ageless_at (received_of m.time) (age_of now m.time) m.kind m.raw)
 
 part_plain : (now : ℕ) (o : Option Said) → ageless_part (part_of now o) ≡ plain_part (received o)
 part_plain now none = refl
@@ -81,7 +77,7 @@ kept_plain now none s d m = refl
 kept_plain now (some o) s d m = rw (dated_plain now s, dated_plain now d, dated_plain now m)
 
 latests_plain : (now : ℕ) (h : History) (ks : List ℕ)
-    → map ageless_latest (map (λ j. record { message = dated_of now (newest (at_place j) h) }) ks) ≡ map (λ j. plain_latest (received (newest (at_place j) h))) ks
+    → map ageless_latest (map (λ j. dated_of now (newest (at_place j) h)) ks) ≡ map (λ j. plain_latest (received (newest (at_place j) h))) ks
 latests_plain now h [] = refl
 latests_plain now h (j ∷ ks) = rw (dated_plain now (newest (at_place j) h), latests_plain now h ks)
 
@@ -90,7 +86,7 @@ plain_record c lim h =
     record {
       channel = c;
       limits = limits_of lim;
-      last = last.Never;
+      last = None;
       latest = map (λ j. plain_latest (received (newest (at_place j) h))) (count_from 0 place_count);
       session = plain_part (received (opening h));
       kept = plain_kept (received (opening h)) (received (session_status h) ∷ received (session_control h) ∷ received (session_stop h) ∷ []);

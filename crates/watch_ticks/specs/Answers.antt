@@ -1,8 +1,7 @@
 -- The answers that the operations gave to a post's accepted events since its latest set-up, newest first, read off a run of requests.
-use Rattle.std.specs.Prelude.{ℕ, ◌%◌, ◌≡◌, List, [], ◌∷◌, cond, not, ◌&&◌}
+use Rattle.std.specs.Prelude.{ℕ, ◌%◌, ◌≡◌, List, [], ◌∷◌, cond, not, ◌&&◌, Ok, Err}
 use Rattle.rules.specs.History.{Event, History}
-use Rattle.watch_rules.specs.declared.Answer.{Answer}
-use Rattle.watch_rules.specs.declared.Answer.TheVariants.{Findings, Refused}
+use Rattle.watch_rules.specs.Answer.{Answer}
 use Rattle.watch_rules.specs.Run.{Request, Reply, set, fed, reply, run, accepted, is_refusal, concerns}
 
 -- an accepted set-up starts an empty list, and a release leaves none
@@ -21,5 +20,5 @@ pub data SomeAnswer (P : History → Event → Answer → Type 0) : History → 
 
 -- an answer with finding 1, "bit k - 1 of the answer"
 abbrev pub HasF1 : Answer → Type 0
-HasF1 (Findings n) = n % 2 ≡ 1
-HasF1 (Refused w) = ⊥
+HasF1 (Ok n) = n % 2 ≡ 1
+HasF1 (Err w) = ⊥

@@ -11,18 +11,18 @@ returns-then-at-lt-PLACES c =
     let a = c.args in
     slot_left a.t.now a.channel a.time (framing a.id a.extended a.payload.now) (frame_word a.t.now a.channel a.time a.id a.extended a.payload.now)
     (frame_same a.t.now a.channel a.time a.id a.extended a.payload.now)
-    c.place_named-i.result c.arrival_for-a.result c.heard_on-r.result c.place_named-i.ensures.0 c.arrival_for-a.ensures c.heard_on-r.ensures c.if-r.true c.if-at-lt-PLACES.true
+    c.indexed_place-i.result c.arrival_for-a.result c.heard_on-r.result c.indexed_place-i.ensures.0 c.arrival_for-a.ensures c.heard_on-r.ensures c.if-r.true c.if-at-lt-PLACES.true
 
 pub returns-else-at-lt-PLACES : goal.returns-else-at-lt-PLACES
 returns-else-at-lt-PLACES c =
     let a = c.args in
     head_left a.t.now a.channel a.time (framing a.id a.extended a.payload.now) (frame_word a.t.now a.channel a.time a.id a.extended a.payload.now)
     (frame_same a.t.now a.channel a.time a.id a.extended a.payload.now)
-    c.place_named-i.result c.arrival_for-a.result c.heard_on-r.result c.place_named-i.ensures.0 c.arrival_for-a.ensures c.heard_on-r.ensures c.if-r.true c.if-at-lt-PLACES.false
+    c.indexed_place-i.result c.arrival_for-a.result c.heard_on-r.result c.indexed_place-i.ensures.0 c.arrival_for-a.ensures c.heard_on-r.ensures c.if-r.true c.if-at-lt-PLACES.false
 
 pub returns-else-r : goal.returns-else-r
 returns-else-r c =
     let a = c.args in
     count_left a.t.now a.channel a.time (framing a.id a.extended a.payload.now) (frame_word a.t.now a.channel a.time a.id a.extended a.payload.now)
     (frame_same a.t.now a.channel a.time a.id a.extended a.payload.now)
-    c.place_named-i.result c.arrival_for-a.result c.heard_on-r.result c.place_named-i.ensures.0 c.arrival_for-a.ensures c.heard_on-r.ensures c.if-r.false
+    c.indexed_place-i.result c.arrival_for-a.result c.heard_on-r.result c.indexed_place-i.ensures.0 c.arrival_for-a.ensures c.heard_on-r.ensures c.if-r.false

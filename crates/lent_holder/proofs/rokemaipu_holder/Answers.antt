@@ -13,4 +13,4 @@ unfolding some_place
 named t c i e = ap (λ (j : ℕ). holder_at (post_in t j).head j c) e ∙ holder_same t c
 
 pub returns : goal.returns
-returns c = c.holder_at.ensures ∙ named c.args.t.now c.args.channel c.place_named-i.result c.place_named-i.ensures.0
+returns c = c.answer_word.ensures ∙ c.holder_at.ensures ∙ named c.args.t.now c.args.channel c.indexed_place-i.result c.indexed_place-i.ensures.0

@@ -1,5 +1,0 @@
--- `desk::run`: one turn less is left at each.
-use Rattle.desk.proofs.run.Given as goal
-
-abbrev pub decreases-loop-turns : goal.decreases-loop-turns
-decreases-loop-turns l = l.turns

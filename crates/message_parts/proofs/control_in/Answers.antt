@@ -1,0 +1,21 @@
+-- Each number of the list is the kind's at its place.
+use Rattle.page_write.specs.Raws.{pad}
+use Rattle.page_write.proofs.AtRow.{answer}
+use Rattle.message_parts.specs.Parts.{control_in}
+use Rattle.message_parts.proofs.control_in.Goals as goal
+
+pub returns : goal.returns
+unfolding control_in pad
+returns c =
+    rw (
+      c.control.ensures,
+      c.padded.ensures,
+      answer c.raw_of.type_inv c.raw_of.ensures,
+      answer c.raw_of-2.type_inv c.raw_of-2.ensures,
+      answer c.raw_of-3.type_inv c.raw_of-3.ensures,
+      answer c.raw_of-4.type_inv c.raw_of-4.ensures,
+      answer c.raw_of-5.type_inv c.raw_of-5.ensures,
+      answer c.raw_of-6.type_inv c.raw_of-6.ensures,
+      answer c.raw_of-7.type_inv c.raw_of-7.ensures,
+      answer c.raw_of-8.type_inv c.raw_of-8.ensures,
+    )

@@ -1,7 +1,0 @@
--- `message_types::labels::enable_of` meets its contract: a key decides the tests of `enableOf`, and the last arm fails them all. Assumes nothing.
-use Rattle.message_types.proofs.Choices.{past}
-use Rattle.message_types.proofs.labels.enable_of.Statement.{statement}
-use Rattle.message_types.proofs.labels.enable_of.Tie as tie
-
-pub enable_of_spec : {M : Type 1} → statement M
-enable_of_spec = tie.close (tie.spec (λ c. rw c.in-0.is) (λ c. search past))
