@@ -19,6 +19,7 @@ fn next_on(log: &Parts, c: u64, from: usize) -> Option<usize>
     (from..log.count).find(|i| channel_of(log.keys[*i]) == c)
 }
 
+// Kept (1): `place_on`, and the places that C is lent, have 0 for a channel that does not differ.
 fn place_of(a: &Parts, b: &Parts, c: u64) -> u32
     ensures { result ≡ place_on c (records_of a.now.bytes.now) (records_of b.now.bytes.now) }
 {

@@ -1,5 +1,4 @@
 // A log taken apart: where each record begins and ends, and its key, which is channel and time in one number.
-// Kept (2): no twins: `record` lends a slice, and `put` stores.
 ghost use Rattle.std.specs.Prelude.{◌≡◌, ℕ, ◌+◌, ◌*◌, ◌/◌, ◌≤◌, ◌<◌, length, set, MatchOption, MatchResult};
 ghost use Rattle.std.proofs.Math.Option.{none, some};
 ghost use Rattle.log_records.specs.Record.{record_bytes};

@@ -1,7 +1,8 @@
 // The operations of `watch` that set posts up and release them, by value and with their answers as words:
 // what `lent_settings` hands the whole of a lent table to.
 // Whoever calls from Rattle and wants words may use them too.
-// Kept (2): alike are the two fields of `Lent`: the answer is of another type in each `From`, and 0 of a start, which `watch` answers with nothing.
+// Kept (2): alike are the two fields of `Lent`: the answer is of another type in `fed_word` and `set_word`, and 0 of a start, which `watch` answers with
+// nothing.
 #![tactic(auto)]
 
 ghost use Rattle.std.specs.Prelude.{◌≡◌};

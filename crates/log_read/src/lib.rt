@@ -60,11 +60,10 @@ pub fn ending_at(s: &[u8], at: usize) -> Ending
 pub fn payload(s: &[u8], start: usize, length: usize) -> &[u8]
     ensures { result.now ≡ payload_of s.now start length }
 {
-    if s.len() <= start || s.len() - start < length {
-        return &[];
-    }
-    let end = start + length;
-    &s[start..end]
+    start
+        .checked_add(length)
+        .and_then(|end| s.get(start..end))
+        .unwrap_or(&[])
 }
 
 // A whole log, of any length, record by record.

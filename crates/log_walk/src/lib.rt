@@ -12,7 +12,7 @@ use refusals::Refusal;
 
 // Where a walk stands: behind a record, in its piece; where the next piece begins, which is still to be read; at the log's end; at a piece of a record,
 // with which the log ends; at a malformed record; or in a piece that neither holds a whole record nor reaches the log's end.
-// Kept (1): six places, of which three go on and three end the walk: none of them is the answer alone.
+// Kept (1): six places, of which two go on, three end the walk and one is an error: none of them is the answer alone.
 #[derive(Clone, Copy)]
 pub enum Stand {
     Within,

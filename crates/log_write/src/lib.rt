@@ -12,6 +12,8 @@ use log_records::{LAST_CHANNEL, above, identifiers};
 use refusals::Refusal;
 use store::{head_size, part_of, store_bytes, store_head};
 
+// Kept (5): C hands the five in one by one (plain_log), and docs/PROMISES.md has this clause of them.
+// Kept (2): the test of the identifier is log_read's too, which tells it of a record and not of a call, with another error: one line each.
 // The number of the record's bytes. 02: "in the writer 9 payload bytes count as above 9, and a short buffer gives 8, last".
 pub fn write_frame(
     time: u32,

@@ -10,6 +10,7 @@ pub fn number_size(n: u32) -> usize
     let mut rest = n;
     let mut size: usize = 1;
     // Kept (3): a turn goes on by what is left of the number. The library states no end of `iter::successors`, so that `count` is not proved of it.
+    // By `ilog2` and a division the groups of seven bits would be told by no line.
     while 128 <= rest {
         rest /= 128;
         size += 1;

@@ -34,7 +34,9 @@ pub fn store_head(out: &mut [u8], time: u32, channel: u32, p: u32, n: u32) -> us
 }
 
 // The bytes from `at` on; the rest of `out` stays.
-// Kept (3): tried as `copy_from_slice`; at most eight bytes are stored, and by its call a record is written a tenth slower.
+// Kept (3): tried as `copy_from_slice`: at most eight bytes are stored, and by its call a record is written a tenth slower.
+// Tried over `iter_mut` zipped with the bytes: the invariant that the check asks for is over the borrows that were handed out (`yielded`), and what `out` is
+// behind the loop would follow from it alone.
 pub fn store_bytes(out: &mut [u8], at: usize, bytes: &[u8])
     requires { at + length bytes.now ≤ length out.old }
     ensures { out.new ≡ sets out.old at bytes.now }

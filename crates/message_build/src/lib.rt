@@ -46,7 +46,7 @@ pub fn built(kind: usize, f: Raws) -> Message
 }
 
 // The message that a payload number of a kind reads as.
-// Kept (2): no plainer as one function with older_build's: a trait over both enums would serve this line alone.
+// Kept (2): older_build's is this line too; a trait that both share would ask `built` of the two enums with its definition, and stand in a crate below both.
 #[tactic(auto, unfolding(crate::specs::Built::message_of))]
 pub fn message_of(kind: usize, number: u64) -> Message
     ensures { result ≡ message_of kind number }

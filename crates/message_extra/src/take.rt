@@ -1,4 +1,5 @@
 // The raw numbers of each message's signals, in the table's order.
+// Kept (2): a trait of both functions is longer (message_safety/build.rt says by how much), and its impls would stand in the crate of the types.
 ghost use Rattle.std.specs.Prelude.{◌≡◌};
 ghost use Rattle.page_write.specs.Raws.{pad};
 ghost use Rattle.page_write.specs.page_table.specs.Table.{signal_count};

@@ -33,6 +33,7 @@ pub fn short(z: i64) -> i16
 }
 
 // 02, Req 04: "A duty above 100.0 % keeps its raw number".
+// Kept (2): as `word`, under the definition that 02's sentence has.
 pub fn duty(z: i64) -> u16
     ensures { result ≡ duty_of z }
 {

@@ -16,6 +16,7 @@ use message_types::{
 use page_write::{Raws, raw_of};
 
 // ---- of the raw numbers, in the table's order
+// Kept (2): a trait of both functions is longer (message_safety/build.rt says by how much), and its impls would stand in the crate of the types.
 
 pub fn status(f: Raws) -> PowerModulesStatus
     ensures { result ≡ status_of (at f) }
@@ -67,6 +68,7 @@ pub fn control(f: Raws) -> DcPowerControl
 
 // ---- of a payload number: its signals' numbers alone are read, and past them stands 0. Each place is written out, so that it is a constant, and no row is
 // looked for when the program runs.
+// Kept (2, 3): over a loop a row would be looked for at each turn.
 
 // Kept (4): a payload number may be of any kind, so `From<u64>` would not say by which kind's rows it is read; the name does.
 pub fn status_in(number: u64) -> PowerModulesStatus

@@ -1,4 +1,5 @@
 // A message of its signals' raw numbers, in the table's order.
+// Kept (2): a trait of both functions is longer (message_safety/build.rt says by how much), and its impls would stand in the crate of the types.
 ghost use Rattle.std.specs.Prelude.{◌≡◌};
 ghost use Rattle.message_fields.specs.Fields.{at};
 ghost use Rattle.message_probes.specs.Build.{probes_of};

@@ -417,7 +417,7 @@ pub struct Pt1000State {
 }
 
 // ---- the kinds, by their names
-pub use message_laws::page_write::page_table::newer::{
+pub use message_laws::page_write::page_table::newer_kinds::{
     BATTERY, CCS, CHANGE, CHARGE_LIMITS, CONTROL, CONTROLLER, CUI, DISCHARGE_LIMITS, ENERGY,
     FINISHED, ID, MCS, OCPP, OUTPUTS, PARAMETERS, PROBES, SAFETY_CONTROL, SAFETY_STATE, SECC,
     SEQUENCE, SESSION, SPCC, STATUS, STOP, VOLTAGES,

@@ -1,5 +1,5 @@
 // Fields of a line that stand together. `at` is where the first starts; `next` is where the one behind them does.
-// Kept (5): docs/PROMISES.md names `frame_of s at`, which goes by a place in the whole line, so each field takes the line and the place.
+// Kept (5): docs/PROMISES.md names `result ≡ frame_of s at`, of a line and a place in it, so that these functions stand; `desk_buffers::Fields` goes over them.
 ghost use Rattle.std.specs.Prelude.{◌≡◌, length};
 ghost use Rattle.notation_read.specs.Fields.{last_of, stamp_of, head_of, rest_of, rest_in};
 

@@ -1,5 +1,5 @@
 // A post's set-up as a line tells it, by the fields behind the line's word.
-// Kept (5): docs/PROMISES.md names `setup_of s at`, which goes by a place in the whole line, so each field takes the line and the place.
+// Kept (5): docs/PROMISES.md names `result ≡ setup_of s at`, of a line and a place in it, so that these functions stand; `desk_buffers::Fields` goes over them.
 ghost use Rattle.std.specs.Prelude.{◌≡◌};
 ghost use Rattle.notation_setup.specs.Setup.{interface_of, choices_of, limits_of, setup_of};
 

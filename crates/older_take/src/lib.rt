@@ -40,6 +40,7 @@ pub fn raws(m: Message) -> Raws
 }
 
 // Whether each value has a raw number: insulation and a battery's capacity are even.
+// Kept (1): as message_take's.
 pub fn has_raws(m: Message) -> bool
     ensures { result ≡ has_raws m }
 {

@@ -57,7 +57,7 @@ pub struct ChargingLoop {
 }
 
 // ---- the kinds, by their names
-pub use page_table::older::{
+pub use page_table::older_kinds::{
     CCS, CHANGE, CHARGING, CONTROLLER, CUI, FINISHED, ID, INSULATION, LIMITS, MCS, OUTPUTS,
     PRECHARGE, SECC, SEQUENCE, SESSION, SPCC, STATUS, STOP,
 };

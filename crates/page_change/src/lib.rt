@@ -18,8 +18,8 @@ use whole::store_changed;
 mod whole; // whole.rt: the bytes of a changed frame
 
 // 7, then 5 for the new label.
-// Kept (5): it answers the kind that it is handed, as its definition `changed_row` does, by which docs/PROMISES.md tells the order of 13, 7 and 5.
 // Kept (5): Row cannot carry Fine as an invariant, since row_at answers no_row past the table (its clause), which has no bit.
+// Kept (5): it answers the kind that it is handed, as its definition `changed_row` does, by which docs/PROMISES.md tells the order of 13, 7 and 5.
 fn change_row(r: Row, kind: usize, n: u64, z: i64) -> Result<(usize, u64), Refusal>
     requires { Fine r }
     ensures { result ≡ changed_row r kind n z }

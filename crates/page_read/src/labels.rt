@@ -11,7 +11,7 @@ use page_search::page_rows::{
     OLD_SYSTEM_ENABLE, OLD_VEHICLE_READY_FOR_CHARGING, OUTPUT_CONTACTORS, PLUG_AND_PINS,
     POWER_FUNCTION, SETPOINTS_MODE, STOP_ORIGIN, SYSTEM_ENABLE, VEHICLE_READY_FOR_CHARGING,
 };
-use page_search::page_table::{newer, older};
+use page_search::page_table::{newer_kinds, older_kinds};
 use refusals::Refusal;
 
 // The kinds with a bit that no signal covers: the three of 004, and of either document Sequence_Control and ADM_CS_SPCC_Inputs.
@@ -20,13 +20,13 @@ pub fn has_gaps(kind: usize) -> bool
 {
     matches!(
         kind,
-        newer::SAFETY_CONTROL
-            | newer::SAFETY_STATE
-            | newer::PROBES
-            | older::SEQUENCE
-            | older::SPCC
-            | newer::SEQUENCE
-            | newer::SPCC
+        newer_kinds::SAFETY_CONTROL
+            | newer_kinds::SAFETY_STATE
+            | newer_kinds::PROBES
+            | older_kinds::SEQUENCE
+            | older_kinds::SPCC
+            | newer_kinds::SEQUENCE
+            | newer_kinds::SPCC
     )
 }
 
@@ -37,29 +37,32 @@ fn offence(kind: usize, n: u64) -> Option<u8>
     ensures { result ≡ offence_of n (rows_of kind) }
 {
     match kind {
-        newer::STATUS => offence_at(SYSTEM_ENABLE, n),
-        newer::CONTROLLER => offence_at(CONTROLLER_STATE, n),
-        newer::SESSION => offence_at(COMMUNICATION_PROTOCOL, n).or(offence_at(PLUG_AND_PINS, n)),
-        newer::CHANGE => offence_at(VEHICLE_READY_FOR_CHARGING, n),
-        newer::CONTROL => offence_at(POWER_FUNCTION, n)
+        newer_kinds::STATUS => offence_at(SYSTEM_ENABLE, n),
+        newer_kinds::CONTROLLER => offence_at(CONTROLLER_STATE, n),
+        newer_kinds::SESSION => offence_at(COMMUNICATION_PROTOCOL, n).or(offence_at(
+            PLUG_AND_PINS,
+            n,
+        )),
+        newer_kinds::CHANGE => offence_at(VEHICLE_READY_FOR_CHARGING, n),
+        newer_kinds::CONTROL => offence_at(POWER_FUNCTION, n)
             .or(offence_at(SETPOINTS_MODE, n))
             .or(offence_at(OUTPUT_CONTACTORS, n))
             .or(offence_at(LOWER_OUTPUT_VOLTAGE, n)),
-        newer::FINISHED => offence_at(FINISHED_STATE, n),
-        newer::STOP => offence_at(STOP_ORIGIN, n),
-        older::STATUS => offence_at(OLD_SYSTEM_ENABLE, n),
-        older::SESSION => offence_at(OLD_COMMUNICATION_PROTOCOL, n).or(offence_at(
+        newer_kinds::FINISHED => offence_at(FINISHED_STATE, n),
+        newer_kinds::STOP => offence_at(STOP_ORIGIN, n),
+        older_kinds::STATUS => offence_at(OLD_SYSTEM_ENABLE, n),
+        older_kinds::SESSION => offence_at(OLD_COMMUNICATION_PROTOCOL, n).or(offence_at(
             OLD_PLUG_AND_PINS,
             n,
         )),
-        older::CHANGE => offence_at(OLD_VEHICLE_READY_FOR_CHARGING, n),
-        older::STOP => offence_at(OLD_STOP_ORIGIN, n),
-        older::FINISHED => offence_at(OLD_FINISHED_STATE, n),
-        older::CONTROLLER => offence_at(OLD_CONTROLLER_STATE, n),
-        older::CCS => offence_at(OLD_CP_STATE, n),
-        older::MCS => offence_at(OLD_CE_STATE, n).or(offence_at(OLD_ID_STATE, n)),
-        newer::CCS => offence_at(CP_STATE, n),
-        newer::MCS => offence_at(CE_STATE, n).or(offence_at(ID_STATE, n)),
+        older_kinds::CHANGE => offence_at(OLD_VEHICLE_READY_FOR_CHARGING, n),
+        older_kinds::STOP => offence_at(OLD_STOP_ORIGIN, n),
+        older_kinds::FINISHED => offence_at(OLD_FINISHED_STATE, n),
+        older_kinds::CONTROLLER => offence_at(OLD_CONTROLLER_STATE, n),
+        older_kinds::CCS => offence_at(OLD_CP_STATE, n),
+        older_kinds::MCS => offence_at(OLD_CE_STATE, n).or(offence_at(OLD_ID_STATE, n)),
+        newer_kinds::CCS => offence_at(CP_STATE, n),
+        newer_kinds::MCS => offence_at(CE_STATE, n).or(offence_at(ID_STATE, n)),
         _ => None,
     }
 }

@@ -35,7 +35,7 @@ pub fn offence_at(l: Line, n: u64) -> Option<u8>
     Some(start_bit(r))
 }
 
-// Kept (5): first row and kind are two parts of `with_id`'s answer, whose clause docs/PROMISES.md names as a tuple.
+// Kept (5): first row and kind are two parts of `with_id`'s answer, whose clause (`with_message`) is a tuple.
 // Kept (3): tried with `map(row_at)` and `take_while`: the check refuses it ("no text names a library so").
 // One walk over the message's rows: the start of the first signal that holds a number without a label, or n with every signal cleared. What is left of it
 // stands where no signal is.

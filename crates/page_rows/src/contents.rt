@@ -149,7 +149,8 @@ pub const REST: [Message; 13] = [
 // No message: what a number that is no kind says.
 const NO_MESSAGE: Message = Message(0, false, 0, false, 0);
 
-// The compiler makes look-up tables of the arms; of an array at an index that is not known it builds the whole on the stack at each call.
+// The compiler makes look-up tables of the arms (docs/DECISIONS.md, "Shape"); of an array at an index that is not known it builds the whole on the stack at
+// each call.
 // Kept (6): the arrays are for the search alone, which goes through them one by one.
 // Kept (4): no conversion, but the message of a kind (`messages`), which the theorems have as any number.
 #[inline(always)]

@@ -12,7 +12,7 @@ pub const CE_STATE: Line = Line(41, 0, 8, 0, false, 0b1111111111);
 
 pub const ID_STATE: Line = Line(41, 8, 8, 8, false, 0b1111);
 
-// 01: "layouts are one constant table". A row stands at its place in it: the compiler makes look-up tables of the arms.
+// 01: "layouts are one constant table". A row stands at its place in it: the compiler makes look-up tables of the arms (docs/DECISIONS.md, "Shape").
 // Kept (4): no conversion, but the row at a place of the table (`rows`).
 #[tactic(auto, using(crate::proofs::Arms::row_of_key))]
 #[inline(always)]

@@ -33,7 +33,7 @@ pub use page_charger::{
 pub use table::{ROW_COUNT, row_at};
 
 // No signal: what stands past the end of the table.
-// Kept (4): the clause of a derived `Default` tells of each field apart, and `row_at` answers for the row whole (`no_row`).
+// Kept (4): the clause of a derived `Default` tells of each field apart (tried on `Line`), and `row_at` answers for the row whole (`no_row`).
 const NO_ROW: Row = Row {
     kind: 0,
     id: 0,
@@ -69,7 +69,7 @@ pub fn row_of(l: Line) -> Row
 }
 
 // The identifier of a kind's frames and its form, their length in bytes and their byte order; 0 and false for a number that is no kind.
-// Kept (2): four parts of two types, each by its name in docs/PROMISES.md, and of one line: there is nothing to say once.
+// Kept (2): four parts of three types, each with a definition of its own, and of one line: there is nothing to say once.
 pub fn identifier_of(kind: usize) -> u32
     ensures { result ≡ identifier_of kind }
 {

@@ -29,7 +29,7 @@ pub const OLD_ID_STATE: Line = Line(29, 8, 8, 8, false, 0b1111);
 
 pub const END: usize = 139;
 
-// 01: "layouts are one constant table". A row stands at its place in it: the compiler makes look-up tables of the arms.
+// 01: "layouts are one constant table". A row stands at its place in it: the compiler makes look-up tables of the arms (docs/DECISIONS.md, "Shape").
 // Kept (4): no conversion, but the row at a place of the table (`rows`).
 #[tactic(auto, using(crate::proofs::Arms::row_of_key))]
 pub fn line_at(i: usize) -> Line

@@ -73,7 +73,7 @@ pub const PT4_CHARGING_STOPPED: Line = Line(11, 56, 1, 0, false, 0);
 
 pub const PT4_SELFTEST_FAILED: Line = Line(11, 57, 1, 1, false, 0);
 
-// 01: "layouts are one constant table". A row stands at its place in it: the compiler makes look-up tables of the arms.
+// 01: "layouts are one constant table". A row stands at its place in it: the compiler makes look-up tables of the arms (docs/DECISIONS.md, "Shape").
 // Kept (4): no conversion, but the row at a place of the table (`rows`).
 #[tactic(auto, using(crate::proofs::Arms::row_of_key))]
 pub fn line_at(i: usize) -> Line

@@ -8,7 +8,7 @@ use page_charger::page_table::Line;
 
 pub const END: usize = 169;
 
-// 01: "layouts are one constant table". A row stands at its place in it: the compiler makes look-up tables of the arms.
+// 01: "layouts are one constant table". A row stands at its place in it: the compiler makes look-up tables of the arms (docs/DECISIONS.md, "Shape").
 // Kept (4): no conversion, but the row at a place of the table (`rows`).
 #[tactic(auto, using(crate::proofs::Arms::row_of_key))]
 #[inline(always)]

@@ -4,8 +4,8 @@
 ghost use Rattle.std.specs.Prelude.{◌≡◌};
 ghost use Rattle.page_table.specs.Interfaces.{interface_number, interface_of};
 
-pub mod newer; // newer.rt: the kinds of 000 and of 004 by their names
-pub mod older; // older.rt: the kinds of 001
+pub mod newer_kinds; // newer_kinds.rt: the kinds of 000 and of 004 by their names
+pub mod older_kinds; // older_kinds.rt: the kinds of 001
 
 // 01: "a row holds message, start, width, signedness and labels or none". The message is its kind, its identifier and that identifier's form, its length
 // in bytes and its byte order (`big`: byte 0 is highest, and a start names the highest bit). `low` is the signal's lowest bit in the payload

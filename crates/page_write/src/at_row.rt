@@ -1,5 +1,6 @@
 // What packing does at one row of a message. No branch hangs on the row's sign or on its having labels, so that range and bits of a number are worked out
-// once, and rows are looked up in tables: of a yes or no that is branched on the compiler makes a jump for each row instead.
+// once, and rows are looked up in tables: of a yes or no that is branched on the compiler makes a jump for each row instead (1.03 to 1.12 times as long, as
+// docs/PERFORMANCE.md tells).
 // Kept (2): `has_label`, `row_takes` and `put_raw` say for a row of the table, which is fine, what `label_holds`, `signal::fits` and `signal::put` say of any
 // numbers; those test their range first and give 0 or the number back, which are the branches that are left out here.
 ghost use Rattle.std.specs.Prelude.{◌≡◌, ◌-◌, ◌^◌, ◌<◌, ◌≤◌, true, if◌then◌else◌, nat_eq};

@@ -62,7 +62,8 @@ impl Line {
     }
 
     // A number, by the fewest digits.
-    // Kept (3): a turn goes on by what is left of n, and `i` only says where the digits behind stand.
+    // Kept (3): a turn goes on by what is left of n, and `i` only says where the digits behind stand. The library states no end of
+    // `iter::successors`.
     fn put_digits(&mut self, n: u64)
         requires { length self.old + 20 ≤ 86 }
         ensures text { self.new ≡ numeral 10 n ++ self.old }

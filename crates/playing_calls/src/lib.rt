@@ -17,6 +17,7 @@ use watch_places::watch_rules::{Fed, Table};
 // 02: "a line buffer under 40 bytes gets 8 first".
 pub const LINE: usize = 40;
 
+// Kept (5): the entry goes on field by field, as `watch::frame` takes it (docs/LIBRARY.md).
 fn fed(t: Table, log: &[u8], e: Entry) -> Fed
     requires { Within log.now e }
     ensures { result ≡ fed_with t (rec_of log.now e) }

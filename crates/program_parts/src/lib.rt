@@ -18,6 +18,7 @@ use text_pen::Sheet;
 use text_written::{put_decimal, put_hex, put_hexadecimal};
 
 // What the pen wrote.
+// Kept (5): no method of `Sheet`, whose crate stands below console, where `front` is.
 pub fn text<'a>(sheet: &'a Sheet) -> &'a [u8]
     ensures { result.now ≡ take sheet.now.pen.at sheet.now.out.now }
 {

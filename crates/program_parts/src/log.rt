@@ -1,5 +1,6 @@
 // A log in a file of any length, read in pieces to the length that the file had when it was opened: whoever records may append to it meanwhile.
-ghost use Rattle.std.specs.Prelude.{◌-◌, ◌≤◌, length, IfOk};
+ghost use Rattle.std.specs.Prelude.{◌≡◌, ◌-◌, ◌≤◌, false, length, IfOk};
+ghost use Rattle.log_walk.specs.Walk.{is_short};
 
 use crate::voice::{Said, Voice};
 use console::{files, front};
@@ -37,7 +38,9 @@ impl Log {
         listener: &mut L,
         buf: &mut [u8],
         voice: &mut Voice,
-    ) -> Result<Walk, Said> {
+    ) -> Result<Walk, Said>
+        ensures { IfOk result (λ walk. is_short walk.stand ≡ false) }
+    {
         let mut walk = Walk::start(self.size);
         for _ in 0..u64::MAX {
             let piece = voice.done(b": reading", self.piece(walk.from, buf))?;

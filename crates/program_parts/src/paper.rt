@@ -62,6 +62,7 @@ impl<'a> Paper<'a> {
     // A line may be put: no more than the most waits.
     pub fn make_room(&mut self)
         ensures waiting { self.new.sheet.pen.at ≤ self.old.most }
+        ensures kept { self.old.sheet.pen.at ≤ self.old.most → self.new ≡ self.old }
         ensures most { self.new.most ≡ self.old.most }
     {
         if self.sheet.pen.at > self.most {

@@ -109,7 +109,9 @@ impl<'a> Voice<'a> {
     }
 
     // The file, opened for reading, and the length that it has.
-    pub fn opened(&mut self) -> Result<Log, Said> {
+    pub fn opened(&mut self) -> Result<Log, Said>
+        ensures silent { IfOk result (λ _. self.new ≡ self.old) }
+    {
         let file = self.done(b"", files::open_read(self.rt, self.name))?;
         let size = self.done(b": finding its length", files::length(&file))?;
         Ok(Log { file, size })

@@ -145,7 +145,7 @@ pub fn command_by(kind: usize, number: u64) -> DcPowerControl
 // ---- where the latest frame of its kind is kept
 
 // A number that is no kind has no place: PLACES or more.
-// Kept (1): a number and no `Option`: docs/PROMISES.md names it with its clause, `stored` of the specs and the theorems on each place (`latest_shown_lem`)
+// Kept (1): a number and no `Option`: docs/PROMISES.md names its definition, `stored` of the specs and the theorems on each place (`latest_shown_lem`)
 // have it so, and who stores a frame tests the number alone.
 #[tactic(auto, unfolding(crate::specs::Places::place_by))]
 pub fn place_by(kind: usize) -> usize

@@ -22,7 +22,8 @@ fn glyph(d: u8) -> u8
 const PLACES: usize = 20;
 
 // The fewest digits that spell n in base.
-// Kept (3): a turn goes on by what is left of n, and `at` only says where the digits before stand.
+// Kept (3): a turn goes on by what is left of n, and `at` only says where the digits before stand. The library states no end of
+// `iter::successors`.
 // Kept (6): the digits come last first, and are gathered before they are put; there is no heap.
 fn put_number(sheet: &mut Sheet, n: u64, base: u64)
     requires { (10 ≤ base) × (base ≤ 16) }

@@ -38,6 +38,7 @@ pub struct Stepped<A> {
 pub type Fed = Stepped<Result<u32, Refusal>>;
 
 // After a set-up or a release.
+// Kept (1): no `Result<Table, Refusal>`: `set_up_of` and `release_of`, of which the theorems speak, have the table of a refusal too.
 pub type Settled = Stepped<Result<(), Refusal>>;
 
 // The record of a refused look-up is an empty one.
@@ -59,6 +60,8 @@ pub enum Arrival {
 }
 
 // A post's head after an arrival, the slot that the arrival fills and its place (PLACES where it fills none), and the answer.
+// Kept (2): `AfterEvent`'s fields but for the answer, of a crate below, whose definitions name its findings so: made one, they would be copied here all the
+// same.
 // Kept (1): no `Result<AfterEvent, Refusal>`: who steps a table goes on with head, slot and place whatever the answer is, by value, over one head and through a
 // batch, and each would make those of a refusal anew; `heard_of`, of which the theorems on every step speak, has them of a refusal too.
 #[derive(Clone, Copy)]
