@@ -63,6 +63,19 @@ def laws(root):
     return found
 
 
+def types(root):
+    """(crate, name) of each public struct, enum and named type of the libraries with its text"""
+    found = {}
+    for path in sorted(pathlib.Path(root).glob("crates/*/src/**/*.rt")):
+        raw = path.read_text()
+        code = contracts.blank(raw)
+        for m in re.finditer(r"((?:#\[[^\]]*\]\s*)*)pub (?:struct|enum|type)\s+(\w+)", code):
+            brace, stop = code.find("{", m.end()), code.find(";", m.end())
+            end = stop + 1 if brace < 0 or 0 <= stop < brace else contracts.closing(code, brace)
+            found[path.parts[path.parts.index("crates") + 1], m.group(2)] = squeezed(re.sub(r"//[^\n]*", "", raw[m.start():end]))
+    return {key: text for key, text in found.items() if key[0] not in PROGRAMS}
+
+
 # functions that are another crate's now, with other clauses: (crate, type or trait, name) of before and of now
 MOVED = {
     ("lent_words", "", "answer_word"): ("plain_words", "", "answer_word"),
@@ -232,6 +245,15 @@ def main():
             print(place(a), wrapped("-", x["sign"]), sep="\n")
             print_clauses("-", x)
             print(wrapped("=", went.of("function", a[0], a[1], a[3])))
+    print("```")
+
+    before, after = types(old), types(new)
+    section("Public types of the libraries", "Those that changed, and those that went with what stands in their place.")
+    print("```")
+    for key in sorted(before):
+        if after.get(key) != before[key]:
+            print(" ".join(key), wrapped("-", before[key]), sep="\n")
+            print(wrapped("+", after[key]) if key in after else wrapped("=", went.of("type", key[0], "", key[1])))
     print("```")
 
     section("Type invariants, ghost fields, trait clauses and the laws of impls")
