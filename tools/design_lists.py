@@ -247,6 +247,18 @@ def main():
             print(wrapped("=", went.of("function", a[0], a[1], a[3])))
     print("```")
 
+    section("Functions that take another type in place of a clause or of a wider type",
+            "No public function that another crate can call is among them; behind `=` stand the type, who builds it and who calls the function.")
+    print("```")
+    for a, x, b, y in pairs:
+        if ("takes", a[0], a[1], a[3]) in went.said:
+            print(place(a) + ("" if (a[0], a[2]) == (b[0], b[2]) else f", now {place(b)}"), wrapped("-", x["sign"]), sep="\n")
+            for _, _, clause in x["requires"]:
+                print(wrapped("-", f"requires {{ {clause} }}"))
+            print(wrapped("+", y["sign"]))
+            print(wrapped("=", went.of("takes", a[0], a[1], a[3])))
+    print("```")
+
     before, after = types(old), types(new)
     section("Public types of the libraries", "Those that changed, and those that went with what stands in their place.")
     print("```")
