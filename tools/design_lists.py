@@ -1,7 +1,9 @@
 """design_lists.py OLD NEW [LOG]: docs/DESIGN-CHANGES.md on standard output, from two checkouts and the log of an `rt ci` of the new one.
 
-What changed by text: public signatures, clauses, ghost items of types, traits and impls, definitions, theorems, must-fail edits; and what went. The kit's
-contracts.py reads src/ and specs/; which function is which of before is told here, since a name may stand in many crates.
+What changed by text: public signatures, clauses, ghost items of types, traits and impls, definitions, theorems, must-fail edits; and what went, each with
+what states its promise now, which design_went.txt beside this tells. It ends with 1, and says why on standard error, where something that went has no line
+there, or a line names what does not stand.
+The kit's contracts.py reads src/ and specs/; which function is which of before is told here, since a name may stand in many crates.
 """
 import collections
 import pathlib
@@ -59,6 +61,19 @@ def laws(root):
             found[crate, path.name, m.group(3)] = (squeezed(" ".join([*(h for _, h in heads), ":" if heads else "", text])), mark)
             at = end
     return found
+
+
+def types(root):
+    """(crate, name) of each public struct, enum and named type of the libraries with its text"""
+    found = {}
+    for path in sorted(pathlib.Path(root).glob("crates/*/src/**/*.rt")):
+        raw = path.read_text()
+        code = contracts.blank(raw)
+        for m in re.finditer(r"((?:#\[[^\]]*\]\s*)*)pub (?:struct|enum|type)\s+(\w+)", code):
+            brace, stop = code.find("{", m.end()), code.find(";", m.end())
+            end = stop + 1 if brace < 0 or 0 <= stop < brace else contracts.closing(code, brace)
+            found[path.parts[path.parts.index("crates") + 1], m.group(2)] = squeezed(re.sub(r"//[^\n]*", "", raw[m.start():end]))
+    return {key: text for key, text in found.items() if key[0] not in PROGRAMS}
 
 
 # functions that are another crate's now, with other clauses: (crate, type or trait, name) of before and of now
@@ -129,6 +144,60 @@ def edits(root):
     return {f"{p.parts[-3]}/{p.stem}": p.read_text().strip() for p in sorted(pathlib.Path(root).glob("crates/*/must-fail/*.edit"))}
 
 
+class Went:
+    """design_went.txt: what states now what went said, by kind, crate, place and name"""
+
+    def __init__(self, root):
+        self.root, self.said, self.asked, self.without = pathlib.Path(root), {}, set(), []
+        for line in (pathlib.Path(__file__).parent / "design_went.txt").read_text().split("\n"):
+            if line.startswith("  "):
+                for key in keys:
+                    self.said[key] = (self.said.get(key, "") + " " + line.strip()).strip()
+            elif line and not line.startswith("#"):
+                head, names = line.split(": ")
+                kind, crate, *place = head.split()
+                keys = [(kind, crate, " ".join(place), name) for name in names.split(", ")]
+
+    def of(self, kind, crate, place, name, whole_place=False):
+        """what states it now; whole_place where the place's `*` does for it"""
+        key = (kind, crate, place, name)
+        if key not in self.said and whole_place:
+            key = (kind, crate, place, "*")
+        if key not in self.said:
+            self.without.append(f"{kind} {crate} {place}: {name}")
+            return "?"
+        self.asked.add(key)
+        return self.said[key].replace("{name}", name)
+
+    def check(self):
+        """whether each that was asked for is told, by what stands in the tree"""
+        crates = {p.name for p in self.root.glob("crates/*")}
+        words = {}
+        for key in self.asked:
+            for crate, name in re.findall(r"`(\w+)::(?:\w+::)*([\w{}]+)`", self.said[key].replace("{name}", key[3])):
+                if crate[:1].islower() and not re.fullmatch(r"[iu](8|16|32|64|size)", crate):
+                    if crate not in words:
+                        files = [p for of in ("src", "specs", "proofs") for p in self.root.glob(f"crates/{crate}/{of}/**/*") if p.suffix in (".rt", ".antt")]
+                        words[crate] = set(re.findall(r"[\w']+", "\n".join(p.read_text() for p in files)))
+                    if crate not in crates or name not in words[crate]:
+                        self.without.append(f"{' '.join(key)}: there is no {crate}::{name}")
+        for one in self.without:
+            print("tools/design_went.txt: " + one, file=sys.stderr)
+        for key in sorted(set(self.said) - self.asked):
+            print("tools/design_went.txt, and did not go: " + " ".join(key), file=sys.stderr)
+        return not self.without
+
+
+def print_went(rows):
+    """rows of crate, place, name and what states it now: one block for those of a place of which the same is told"""
+    blocks = collections.defaultdict(list)
+    for crate, where, name, text in rows:
+        blocks[crate, where, text].append(name)
+    for (crate, where, text), names in sorted(blocks.items()):
+        print(textwrap.fill(f"{crate} {where}: {', '.join(names)}", 156, subsequent_indent="  "))
+        print(wrapped("=", text))
+
+
 def section(title, said=""):
     print(f"\n## {title}\n")
     if said:
@@ -139,6 +208,9 @@ def main():
     old, new, log = sys.argv[1], sys.argv[2], sys.argv[3] if len(sys.argv) > 3 else None
     (_, of, og, os_, _, _), (_, nf, ng, ns, _, _) = contracts.read(old), contracts.read(new)
     pairs, alone = found_again(of, nf)
+    went = Went(new)
+    traits = {(k[0], k[2]) for k, v in nf.items() for x in v if not x["body"]}
+    private = [(a, x) for a, x, b, y in pairs if x["pub"] and not y["pub"] and " for " not in b[2] and (b[0], b[2]) not in traits]
     begun = (pathlib.Path(new) / "docs/DESIGN-PASS.md").read_text().split("\n", 1)[0]
     fewer = [p for p in pairs if len(p[3]["ensures"]) < len(p[1]["ensures"])]
     more = [p for p in pairs if len(p[3]["requires"]) > len(p[1]["requires"])]
@@ -165,12 +237,35 @@ def main():
             print_clauses("+", y)
     print("```")
 
-    section("Public functions of the libraries that went, with what they said", "docs/DESIGN-PASS.md names for each what states it now.")
+    section("Public functions of the libraries that went, with what they said and what states it now",
+            "Behind `=` stands what states it now: a function, with its clause where it has other words, or what the library says.")
     print("```")
-    for a, x in sorted(alone, key=lambda f: f[0]):
+    for a, x in sorted(alone + private, key=lambda f: f[0]):
         if x["pub"] and a[0] not in PROGRAMS and x["ensures"]:
             print(place(a), wrapped("-", x["sign"]), sep="\n")
             print_clauses("-", x)
+            print(wrapped("=", went.of("function", a[0], a[1], a[3])))
+    print("```")
+
+    section("Functions that take another type in place of a clause or of a wider type",
+            "No public function that another crate can call is among them; behind `=` stand the type, who builds it and who calls the function.")
+    print("```")
+    for a, x, b, y in pairs:
+        if ("takes", a[0], a[1], a[3]) in went.said:
+            print(place(a) + ("" if (a[0], a[2]) == (b[0], b[2]) else f", now {place(b)}"), wrapped("-", x["sign"]), sep="\n")
+            for _, _, clause in x["requires"]:
+                print(wrapped("-", f"requires {{ {clause} }}"))
+            print(wrapped("+", y["sign"]))
+            print(wrapped("=", went.of("takes", a[0], a[1], a[3])))
+    print("```")
+
+    before, after = types(old), types(new)
+    section("Public types of the libraries", "Those that changed, and those that went with what stands in their place.")
+    print("```")
+    for key in sorted(before):
+        if after.get(key) != before[key]:
+            print(" ".join(key), wrapped("-", before[key]), sep="\n")
+            print(wrapped("+", after[key]) if key in after else wrapped("=", went.of("type", key[0], "", key[1])))
     print("```")
 
     section("Type invariants, ghost fields, trait clauses and the laws of impls")
@@ -195,7 +290,10 @@ def main():
     print("```")
     # one that has the name of another of its crate, or stands in another crate word for word, is found above
     if gone:
-        print("\n" + textwrap.fill("Definitions that went (docs/DESIGN-PASS.md names what states their promise): " + ", ".join(f"`{n}` of {c}" for c, n in sorted(map(tuple, gone))) + ".", 156))
+        section("Definitions that went, and what states their promise")
+        print("```")
+        print_went([(c, "specs", n, went.of("definition", c, "", n)) for c, n in sorted(map(tuple, gone))])
+        print("```")
 
     before, after, words = laws(old), laws(new), named(old) | named(new)
     wanted = {k for k, (_, mark) in before.items() if mark or k[2] in words}
@@ -217,7 +315,7 @@ def main():
     section("Theorems of proofs/, those marked THEOREM and those that README or docs/ name",
             f"{len(wanted)} stood; {len(changed)} are written anew, {len(missing)} have no law of their name, the others are word for word as they were.")
     if missing:
-        print(textwrap.fill("Of no law of their name now, each a lemma that has the name of something else that README or docs/ name (docs/DESIGN-PASS.md): " + ", ".join(f"{c} {f} `{n}`" for c, f, n in missing) + ".", 156) + "\n")
+        print(textwrap.fill("Of no law of their name now, each a lemma that has the name of something else that README or docs/ name (\"Lemmas that went\", below): " + ", ".join(f"{c} {f} `{n}`" for c, f, n in missing) + ".", 156) + "\n")
     print("```")
     for what, a, b in changed:
         print(what, wrapped("-", a), wrapped("+", b), sep="\n")
@@ -228,12 +326,15 @@ def main():
     of = {name.split("/")[1]: name for name in b}
     a = {of.get(name.split("/")[1], name) if name not in b else name: text for name, text in a.items()}
     lost = sorted(set(a) - set(b))
+    shown = [name for name in sorted(b) if a.get(name) != b[name]]
+    refused = sum(name in said for name in shown)
+    told = "; all are refused (`rt ci`)" if all(name in said for name in b) else ""
+    if said:
+        told += f"; beside {'each' if refused == len(shown) else refused} of the {len(shown)} below stands the beginning of what refuses it"
     section("Must-fail edits whose text changed, and those that are new",
-            f"{len(b)} stand, {len(lost)} of before are missing{': ' + ', '.join(lost) if lost else ''}{'; all are refused (`rt ci`), and beside each stands the beginning of what refuses it' if said else ''}.")
+            f"{len(b)} stand, {len(lost)} of before are missing{': ' + ', '.join(lost) if lost else ''}{told}.")
     print("```")
-    for name in sorted(b):
-        if a.get(name) == b[name]:
-            continue
+    for name in shown:
         print(name + ("" if name in a else " (new)"))
         for mark, text in (("-", a.get(name, "")), ("+", b[name])):
             for line in text.split("\n") if text else []:
@@ -243,28 +344,28 @@ def main():
     print("```")
 
     section("Other functions that went, and what states their promise",
-            "A private function with a clause served its callers alone: the clauses of these stand and are proved, so that they state what it did.\n"
+            "A private function with a clause (`*`) served its callers alone: the clauses of these stand and are proved, so that they state what it did.\n"
             "A function of a program, and one without a clause, promised that it takes any input: whoever does its work now is proved to.")
-    went = collections.defaultdict(list)
-    for key, x in alone:
-        if not (x["pub"] and key[0] not in PROGRAMS and x["ensures"]):
-            went[key[0]].append(key[3] + ("*" if x["ensures"] else ""))
+    rows = []
+    for a, x in sorted(alone, key=lambda f: f[0]):
+        if not (x["pub"] and a[0] not in PROGRAMS and x["ensures"]):
+            rows.append((a[0], a[1], a[3] + ("*" if x["ensures"] else ""), went.of("function", a[0], a[1], a[3], not x["ensures"])))
     print("```")
-    for crate in sorted(went):
-        print(textwrap.fill(f"{crate}: {', '.join(went[crate])}", 156, subsequent_indent="  "))
-    print("```\n\nA star marks a function that had an `ensures`.")
+    print_went(rows)
+    print("```")
 
-    section("Lemmas that went", "Each said a step of a function's proof by hand that the check takes itself now, or stands under another name (above); no theorem is among them.")
-    lemmas = collections.defaultdict(list)
+    section("Lemmas that went, and what states what they said",
+            "Each said a step of a function's proof by hand that the check takes itself now, or stands under another name; no theorem is among them.")
     # one that moved stands word for word elsewhere
     stated = {(name, text) for (_, _, name), (text, _) in after.items()}
-    for crate, file, name in sorted(before):
-        if (crate, name) not in by_name and (name, before[crate, file, name][0]) not in stated and (crate, file, name) not in wanted and "-" not in name[:1]:
-            lemmas[crate].append(f"{name} ({file[:-5]})")
+    lemmas = missing + [
+        (crate, file, name) for crate, file, name in sorted(before)
+        if (crate, name) not in by_name and (name, before[crate, file, name][0]) not in stated and (crate, file, name) not in wanted and "-" not in name[:1]
+    ]
     print("```")
-    for crate in sorted(lemmas):
-        print(textwrap.fill(f"{crate}: {', '.join(lemmas[crate])}", 156, subsequent_indent="  "))
+    print_went([(c, f, n, went.of("lemma", c, f, n)) for c, f, n in sorted(lemmas)])
     print("```")
+    return 0 if went.check() else 1
 
 
 if __name__ == "__main__":
