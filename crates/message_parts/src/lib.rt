@@ -68,9 +68,10 @@ pub fn control(f: Raws) -> DcPowerControl
 
 // ---- of a payload number: its signals' numbers alone are read, and past them stands 0. Each place is written out, so that it is a constant, and no row is
 // looked for when the program runs.
-// Kept (2, 3): over a loop a row would be looked for at each turn.
+// Kept (2, 3): with `from_fn` over the places a frame took 1.54 times as long, and with `raws_of`, as the definitions have it, 1.86 times.
 
 // Kept (4): a payload number may be of any kind, so `From<u64>` would not say by which kind's rows it is read; the name does.
+#[tactic(auto, using(page_write::proofs::AtRow::answer), unfolding(crate::specs::Parts::status_in, page_write::specs::Raws::pad))]
 pub fn status_in(number: u64) -> PowerModulesStatus
     ensures { result ≡ status_in number }
 {
@@ -85,6 +86,7 @@ pub fn status_in(number: u64) -> PowerModulesStatus
 }
 
 // Kept (4): as for status_in, the name says by which kind's rows the payload number is read.
+#[tactic(auto, using(page_write::proofs::AtRow::answer), unfolding(crate::specs::Parts::parameters_in, page_write::specs::Raws::pad))]
 pub fn parameters_in(number: u64) -> DcPowerParameters
     ensures { result ≡ parameters_in number }
 {
@@ -97,6 +99,7 @@ pub fn parameters_in(number: u64) -> DcPowerParameters
 }
 
 // Kept (4): as for status_in, the name says by which kind's rows the payload number is read.
+#[tactic(auto, using(page_write::proofs::AtRow::answer), unfolding(crate::specs::Parts::session_in, page_write::specs::Raws::pad))]
 pub fn session_in(number: u64) -> NewChargeSession
     ensures { result ≡ session_in number }
 {

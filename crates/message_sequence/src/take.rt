@@ -23,6 +23,7 @@ pub fn sequence_raws(m: SequenceControl) -> Raws
     ])
 }
 
+#[tactic(auto, using(message_fields::proofs::Flags::flag_is))]
 pub fn outputs_raws(m: SeccOutputs) -> Raws
     ensures { result ≡ pad signal_count (outputs_raws m) }
 {

@@ -35,7 +35,8 @@ fn change_row(r: Row, kind: usize, n: u64, z: i64) -> Result<(usize, u64), Refus
 }
 
 // 01: "first the frame's own 3 to 6, then 13, then 7, then 5 for the new label". An accepted change answers kind and payload number of
-// the changed frame. By the pages of an interface. The let-else is the form that 01 asks for here.
+// the changed frame. By the pages of an interface.
+// Kept (1): no `?`, since a let-else that hands the reader's refusal straight on is asked for (docs/DECISIONS.md, "Forms of paper 01 that are used").
 // Kept (5): docs/LIBRARY.md shows the calls with identifier, form, bytes, start and raw number one by one, and the C interface hands them in so.
 pub fn change_on(
     iface: Interface,

@@ -1,3 +1,4 @@
 pub mod ChargerRows
 pub mod Labels
 pub mod Arms
+pub mod Said

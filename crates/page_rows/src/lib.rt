@@ -70,6 +70,7 @@ pub fn row_of(l: Line) -> Row
 
 // The identifier of a kind's frames and its form, their length in bytes and their byte order; 0 and false for a number that is no kind.
 // Kept (2): four parts of three types, each with a definition of its own, and of one line: there is nothing to say once.
+#[tactic(auto, using(crate::proofs::Said::id_said))]
 pub fn identifier_of(kind: usize) -> u32
     ensures { result ≡ identifier_of kind }
 {
@@ -77,6 +78,7 @@ pub fn identifier_of(kind: usize) -> u32
     id
 }
 
+#[tactic(auto, using(crate::proofs::Said::form_said))]
 pub fn is_extended(kind: usize) -> bool
     ensures { result ≡ extended_of kind }
 {
@@ -84,6 +86,7 @@ pub fn is_extended(kind: usize) -> bool
     extended
 }
 
+#[tactic(auto, using(crate::proofs::Said::length_said))]
 pub fn length_of(kind: usize) -> usize
     ensures { result ≡ length_of kind }
 {
@@ -91,6 +94,7 @@ pub fn length_of(kind: usize) -> usize
     bytes
 }
 
+#[tactic(auto, using(crate::proofs::Said::order_said))]
 pub fn is_big(kind: usize) -> bool
     ensures { result ≡ big_of kind }
 {

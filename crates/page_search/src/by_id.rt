@@ -18,7 +18,7 @@ fn key(id: u32, extended: bool) -> u64
 
 // The place in a stretch of messages of the first that has an identifier of this form. Of a stretch that is known beforehand the compiler unrolls the search to
 // a jump, but not of thirty messages: so that the base messages with 004's, those of 001 and the rest of 000's are searched one behind the other.
-// Kept (3): a labelled loop is the form that 01 asks for here.
+// Kept (3): no `position`, since a labelled loop that finds the identifier by break is asked for (docs/DECISIONS.md, "Forms of paper 01 that are used").
 #[inline(always)]
 fn place_in(messages: &[Message], id: u32, extended: bool) -> Option<usize>
     ensures { result ≡ position (λ m. key_of m.0 m.1 == key_of id extended) messages.now }

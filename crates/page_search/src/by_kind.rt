@@ -18,7 +18,7 @@ pub fn first_of_kind(kind: usize) -> Option<usize>
 }
 
 // The row of the signal of a kind that starts at a bit: only an exact start counts. The kind's rows stand together.
-// Kept (3): a labelled loop is the form that 01 asks for here.
+// Kept (3): no `for`, since a labelled loop that finds the signal by break is asked for (docs/DECISIONS.md, "Forms of paper 01 that are used").
 pub fn signal_at(kind: usize, start: u32) -> Option<usize>
     ensures { result ≡ first_at (is_signal kind start) 0 rows }
 {

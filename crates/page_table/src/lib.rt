@@ -13,7 +13,7 @@ pub mod older_kinds; // older_kinds.rt: the kinds of 001
 // number n has a label, and 0 that the signal has none. That a row is `Fine` is no invariant: `row_at` answers `no_row`, which has no bit, past the end.
 #[derive(Clone, Copy)]
 pub struct Row {
-    // A number: the theorems speak of every number as a kind, and the C interface hands it out.
+    // Kept (1): a number, as newer_kinds.rt says.
     pub kind: usize,
     pub id: u32,
     pub extended: bool,

@@ -1,5 +1,6 @@
 // The kinds of the newer interface, numbered in the table's order: document 000's and the safety controller's; from 12 to 29 stand the kinds of document 001.
-// Numbers: the C interface hands them out.
+// Kept (1): numbers and no enum. `judge_of` answers a kind as a number, the laws of each refusal (`gives_4`, docs/PROMISES.md) go over every number as a kind,
+// and the C interface hands kinds out and takes any number for one.
 
 pub const STATUS: usize = 0;
 

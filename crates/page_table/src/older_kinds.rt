@@ -1,4 +1,5 @@
-// The kinds of document 001, numbered in the table's order. Numbers: the C interface hands them out.
+// The kinds of document 001, numbered in the table's order.
+// Kept (1): numbers, as newer_kinds.rt says.
 
 pub const STATUS: usize = 12;
 

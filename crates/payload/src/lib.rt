@@ -62,8 +62,9 @@ fn le_store(buf: &mut [u8], n: u64)
     }
 }
 
-// The low bytes of n, the highest first, from index 0 on. By index: a loop over `iter_mut().rev()` has no name in its invariant for the slice that it writes.
+// The low bytes of n, the highest first, from index 0 on.
 // Kept (2, 4): as `le_store`.
+// Kept (3): by index, since a loop over `iter_mut().rev()` has no name in its invariant for the slice that it writes.
 fn be_store(buf: &mut [u8], n: u64)
     ensures { buf.new ≡ be_bytes (length buf.old) n }
 {

@@ -1,9 +1,0 @@
--- Each number is its field's.
-use Rattle.std.proofs.Common.{rules}
-use Rattle.page_write.specs.Raws.{pad}
-use Rattle.message_fields.proofs.Flags.{flag_is}
-use Rattle.message_sequence.proofs.take.outputs_raws.Goals as goal
-
-pub returns : goal.returns
-unfolding pad
-returns c = search (rules, flag_is)

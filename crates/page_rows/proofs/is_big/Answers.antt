@@ -1,8 +1,0 @@
--- `page_rows::is_big` meets its contract: the message says of a kind what its first row says.
-use Rattle.std.proofs.Common.{ap, ◌∙◌}
-use Rattle.page_charger.specs.page_table.specs.declared.Message.{Message}
-use Rattle.page_charger.specs.page_table.proofs.Heads.{says}
-use Rattle.page_rows.proofs.is_big.Goals as goal
-
-pub returns : goal.returns
-returns c = ap (λ (m : Message). m.3) c.message_at-big.ensures ∙ (says c.args.kind).3
