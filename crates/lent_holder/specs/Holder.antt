@@ -11,7 +11,7 @@ use Rattle.plain_words.specs.Words.{refusal_word}
 unfoldable pub holder_word : Table → ℕ → ℕ
 holder_word t c = cond (is_channel c && ltb (place_in t c) post_count) (place_in t c) (refusal_word ChannelFree)
 
--- the same of one head: place i is the one that the index names, and p the head there (`holder-same`, proofs/HolderLaws.antt)
+-- the same of one head: place i is the one that the index names, and p the head there (`holder_same`, proofs/HolderLaws.antt)
 unfoldable pub holder_at : Head → ℕ → ℕ → ℕ
 holder_at p i c = cond (is_channel c && holds p c) i (refusal_word ChannelFree)
 

@@ -1,5 +1,5 @@
--- Over a post's history: what is handed out of a kind is its newest frame, since a post hears the messages of its own interface alone (`own-pages` and
--- `latest-of-kind`, watch_rules). A kind that the interface has not was never accepted, whatever stands in its place.
+-- Over a post's history: what is handed out of a kind is its newest frame, since a post hears the messages of its own interface alone (`own_pages` and
+-- `latest_of_kind`, watch_rules). A kind that the interface has not was never accepted, whatever stands in its place.
 use Prim.Native.Nat.{ℕ, ◌<◌}
 use native.Mathlib.Omega.{arith}
 use mathlib.Core.Path.{◌≡◌, refl, ap, ◌∙◌, subst}

@@ -1,5 +1,5 @@
--- How large a reply can be, whatever the table holds: the findings of any step are at most 4,095 (`found-small`), and the start that a refusal
--- carries is one of a payload's 64 bits (`reply-within`).
+-- How large a reply can be, whatever the table holds: the findings of any step are at most 4,095 (`found_small`), and the start that a refusal
+-- carries is one of a payload's 64 bits (`reply_within`).
 use Rattle.std.specs.Prelude.{Ok, Err}
 use Prim.Native.Nat.{ℕ, ◌+◌, ◌≤◌}
 use native.Mathlib.Omega.{arith}

@@ -1,8 +1,8 @@
 // The operations of `watch` that set posts up and release them, by value and with their answers as words:
 // what `lent_settings` hands the whole of a lent table to.
 // Whoever calls from Rattle and wants words may use them too.
-// Kept (2): alike are the two fields of `Lent`: the answer is of another type in `fed_word` and `set_word`, and 0 of a start, which `watch` answers with
-// nothing.
+// Kept (2): `fed_word` and `set_word` differ in the function that makes the answer a word. As one generic function over it, which has the function's `pre` and
+// `post` in its clauses, and two calls of it, they are longer; a start has no answer to make one of.
 #![tactic(auto)]
 
 ghost use Rattle.std.specs.Prelude.{◌≡◌};

@@ -1,4 +1,4 @@
--- The groups of a number from the low one up: what `number_at` answers of none and one, what each turn of `groups_at` keeps, and what it answers.
+-- The groups of a number from the low one up: what `number_at` answers of none and one, what each turn of `several_groups` keeps, and what it answers.
 use mathlib.Core.Path.{◌≡◌, refl, sym, ap, ap₂, ◌∙◌}
 use mathlib.Core.Bool.{Bool, true, false, cond}
 use mathlib.Core.List.{List, [], ◌∷◌}

@@ -21,17 +21,17 @@ fn last_group(n: u32, weight: u32, i: usize, b: u8) -> Result<(u32, usize), Numb
     if b == 0 {
         return Err(NumberError::Ill);
     }
-    Ok((n + (b as u32) * weight, i + 1))
+    Ok((n + u32::from(b) * weight, i + 1))
 }
 
 // A number of several groups, from the low one up: the first i hold n, and the next weighs 128 to the i.
-// Kept (1): here and in `number_at` tried with `get(..)` and let-else: it proves, and a batch is fed a twentieth more slowly.
+// Kept (1, 3): here and in `number_at` tried with `get(..)` and let-else: it proves, and a batch is fed a twentieth more slowly.
 #[inline(always)]
 fn several_groups(s: &[u8]) -> Result<(u32, usize), NumberError>
     requires { (0 < length s.now) × (128 ≤ get_or s.now 0 0) }
     ensures { result ≡ read_number s.now }
 {
-    let mut n = (s[0] - 128) as u32;
+    let mut n = u32::from(s[0] - 128);
     let mut weight: u32 = 128;
     for i in 1..4 {
         if s.len() <= i {
@@ -41,7 +41,7 @@ fn several_groups(s: &[u8]) -> Result<(u32, usize), NumberError>
         if b < 128 {
             return last_group(n, weight, i, b);
         }
-        n += ((b - 128) as u32) * weight;
+        n += u32::from(b - 128) * weight;
         weight *= 128;
     }
     if s.len() <= 4 {
@@ -65,7 +65,7 @@ pub fn number_at(s: &[u8], at: usize) -> Result<(u32, usize), NumberError>
     }
     let b = s[at];
     if b < 128 {
-        return Ok((b as u32, 1));
+        return Ok((u32::from(b), 1));
     }
     several_groups(&s[at..])
 }

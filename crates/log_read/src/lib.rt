@@ -70,7 +70,8 @@ pub fn payload(s: &[u8], start: usize, length: usize) -> &[u8]
 pub fn scan_log(s: &[u8]) -> Scan
     ensures { result ≡ scan_of 0 (log_of s.now) }
 {
-    // The byte behind the last record is kept here, since of a reader that is lent to a loop nothing is proved behind the loop.
+    // Kept (3): byte and count are kept here: of a reader that is lent to a loop nothing is proved behind the loop, so that neither `count` nor its own place
+    // can be asked; and by `fold` the closure would have to say a bound of its sum.
     let mut at = 0;
     let mut records: usize = 0;
     for e in Records::new(s) {

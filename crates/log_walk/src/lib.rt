@@ -50,14 +50,16 @@ pub struct Step {
     pub found: Found,
 }
 
-fn seen_as(found: Found) -> Seen
-    ensures { result ≡ seen_of found }
-{
-    match found {
-        Found::Record(e) => Seen::Record(e.next),
-        Found::End => Seen::End,
-        Found::Cut(_) => Seen::Cut,
-        Found::Refused(why, _) => Seen::Bad(why),
+impl From<Found> for Seen {
+    ghost from_gives = { λ found seen. seen ≡ seen_of found };
+
+    fn from(found: Found) -> Seen {
+        match found {
+            Found::Record(e) => Seen::Record(e.next),
+            Found::End => Seen::End,
+            Found::Cut(_) => Seen::Cut,
+            Found::Refused(why, _) => Seen::Bad(why),
+        }
     }
 }
 
@@ -159,7 +161,7 @@ impl Walk {
         ensures { result ≡ step_of self piece.now }
     {
         let found = log_read::record_at(piece, self.place());
-        let walk = self.passed(piece.len(), seen_as(found));
+        let walk = self.passed(piece.len(), Seen::from(found));
         Step { walk, found }
     }
 }

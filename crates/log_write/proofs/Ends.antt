@@ -1,4 +1,4 @@
--- The ends of the writers: at each `return` the tests that led there say what `written_of` answers and `bufferAfter` holds.
+-- The ends of the writers: at each `return` the tests that led there say what `written_of` answers and `buffer_after` holds.
 use Rattle.std.specs.Prelude.{Ok, Err}
 use mathlib.Core.Path.{◌≡◌, sym, ap, ◌∙◌}
 use mathlib.Core.Bool.{Bool}

@@ -16,6 +16,7 @@ pub fn part_of(id: u32, extended: bool) -> u32
 
 // How many bytes stand before the payload.
 // Kept (5): tried as one struct of the four numbers, here and in `store_head`; a record is written a tenth slower, since it goes through memory.
+#[tactic(auto, using(crate::proofs::Stores::head_le))]
 pub fn head_size(time: u32, channel: u32, p: u32, n: u32) -> usize
     ensures { result ≡ size_of time + size_of channel + size_of p + size_of n }
 {
@@ -41,7 +42,7 @@ pub fn store_bytes(out: &mut [u8], at: usize, bytes: &[u8])
     requires { at + length bytes.now ≤ length out.old }
     ensures { out.new ≡ sets out.old at bytes.now }
 {
-    for i in 0..bytes.len() {
-        out[at + i] = bytes[i];
+    for (i, &b) in bytes.iter().enumerate() {
+        out[at + i] = b;
     }
 }

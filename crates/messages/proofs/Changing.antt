@@ -1,4 +1,4 @@
--- 01: "Changing one signal touches no bit outside it and gives the bytes of the changed message" (`change-message`), by the law of any type of messages.
+-- 01: "Changing one signal touches no bit outside it and gives the bytes of the changed message" (`change_message`), by the law of any type of messages.
 -- Assumes nothing.
 use Rattle.std.specs.Prelude.{Ok}
 use mathlib.Core.Path.{◌≡◌, sym, ◌∙◌, subst}

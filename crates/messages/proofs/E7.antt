@@ -1,4 +1,4 @@
--- `change-message` on E7, "changing E1's current to -1": each premise holds there, and the bytes are those of E1's message with -1 as its second raw number.
+-- `change_message` on E7, "changing E1's current to -1": each premise holds there, and the bytes are those of E1's message with -1 as its second raw number.
 use Rattle.std.specs.Prelude.{Ok}
 use mathlib.Core.Path.{◌≡◌, refl, subst}
 use mathlib.Core.Bool.{true, false}

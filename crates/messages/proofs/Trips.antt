@@ -1,6 +1,6 @@
 -- 01: "Every allowed frame is read to its one message; writing it gives the same bytes, and what is written reads back as itself"
 -- (`read-write`, `write_read`, `one-message`), of every kind at once, each in its form and byte order. A refused message leaves the buffer whole
--- (`write-refused`). By the laws of any type of messages (message_laws/proofs/Typed.antt). Assumes nothing.
+-- (`write_refused`). By the laws of any type of messages (message_laws/proofs/Typed.antt). Assumes nothing.
 use Rattle.std.specs.Prelude.{Ok, Err}
 use mathlib.Core.Path.{◌≡◌, refl, sym, ap, ◌∙◌}
 use mathlib.Core.Bool.{Bool}

@@ -1,4 +1,4 @@
--- Reading a message refuses as reading the frame does (`read-gives`), and writing one gives 7 and 8 each exactly in its case (`write-7`, `write-8`).
+-- Reading a message refuses as reading the frame does (`read_gives`), and writing one gives 7 and 8 each exactly in its case (`write_7`, `write_8`).
 -- Assumes nothing.
 use Rattle.std.specs.Prelude.{Ok, Err}
 use mathlib.Core.Path.{◌≡◌, refl, ap, ap₂, ◌∙◌, subst}

@@ -4,7 +4,8 @@
 ghost use Rattle.std.specs.Prelude.{◌≡◌};
 ghost use Rattle.older_fields.specs.Forms.{capacity_of, capacity_raw};
 
-// Document 001, Battery_Capacity: twice the raw number in kWh. A name of its own for the insulation's rule, since the unit is another one.
+// Document 001, Battery_Capacity: twice the raw number in kWh.
+// Kept (2): a name of its own for the insulation's rule, here and in `capacity_raw`: the unit is another one, and the definitions have these names.
 pub fn capacity(z: i64) -> u16
     ensures { result ≡ capacity_of z }
 {

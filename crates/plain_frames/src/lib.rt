@@ -62,6 +62,7 @@ pub fn change_on(
     Ok(0)
 }
 
+#[tactic(auto, unfolding(crate::specs::Plain::read_word, crate::specs::Plain::raws_after, page_read::specs::Judge::judge_on, page_read::specs::Judge::judge_of))]
 #[unsafe(no_mangle)]
 pub extern "C" fn rokemaipu_read(id: u32, extended: bool, payload: &[u8], raws: &mut [i64]) -> u32
     ensures { (result ≡ read_word id extended payload.now raws.old)
@@ -70,6 +71,7 @@ pub extern "C" fn rokemaipu_read(id: u32, extended: bool, payload: &[u8], raws: 
     answer_word(read_on(Interface::Newer, id, extended, payload, raws))
 }
 
+#[tactic(auto, unfolding(crate::specs::Plain::write_word, crate::specs::Plain::buffer_left))]
 #[unsafe(no_mangle)]
 pub extern "C" fn rokemaipu_write(kind: u32, raws: &[i64], buf: &mut [u8]) -> u32
     ensures { (result ≡ write_word kind raws.now buf.old)
@@ -78,6 +80,7 @@ pub extern "C" fn rokemaipu_write(kind: u32, raws: &[i64], buf: &mut [u8]) -> u3
     answer_word(write_on(Interface::Newer, kind, raws, buf))
 }
 
+#[tactic(auto, unfolding(crate::specs::Plain::change_word, page_change::specs::Change::change_on, page_change::specs::Change::change_of, page_read::specs::Judge::judge_on, page_read::specs::Judge::judge_of))]
 #[unsafe(no_mangle)]
 pub extern "C" fn rokemaipu_change(
     id: u32,

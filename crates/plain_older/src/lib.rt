@@ -14,6 +14,7 @@ use plain_frames::{change_on, read_on, write_on};
 use plain_words::answer_word;
 
 // The kind of a frame, 9 to 29, and its signals' raw numbers in the first 16 places of raws, zeros behind them.
+#[tactic(auto, unfolding(crate::specs::Older::read_word_older, crate::specs::Older::raws_after_older))]
 #[unsafe(no_mangle)]
 pub extern "C" fn rokemaipu_read_older(
     id: u32,
@@ -28,6 +29,7 @@ pub extern "C" fn rokemaipu_read_older(
 }
 
 // The frame of a kind from its signals' raw numbers, from index 0 of buf on; answers its number of bytes.
+#[tactic(auto, unfolding(crate::specs::Older::write_word_older, crate::specs::Older::buffer_left_older))]
 #[unsafe(no_mangle)]
 pub extern "C" fn rokemaipu_write_older(kind: u32, raws: &[i64], buf: &mut [u8]) -> u32
     ensures { (result ≡ write_word_older kind raws.now buf.old)
@@ -37,6 +39,7 @@ pub extern "C" fn rokemaipu_write_older(kind: u32, raws: &[i64], buf: &mut [u8])
 }
 
 // One signal of a frame changed in the lent bytes.
+#[tactic(auto, unfolding(crate::specs::Older::change_word_older))]
 #[unsafe(no_mangle)]
 pub extern "C" fn rokemaipu_change_older(
     id: u32,

@@ -21,7 +21,7 @@ pub const PLACES: usize = 25;
 
 // ---- what a frame is asked for
 
-// `Other` is a role as the rest are: as an `Option<Role>` no plainer, since every match on what a frame is would name a case within a case.
+// Kept (1): `Other` is a role as the rest are: as an `Option<Role>` no plainer, since every match on what a frame is would name a case within a case.
 #[derive(Clone, Copy)]
 pub enum Role {
     Other,
@@ -91,7 +91,7 @@ fn told(m: PowerModulesLimits) -> DcPowerParameters
 }
 
 // Kept (4): a payload number says no kind, so that no `From` of it could know whose message it is.
-// Kept (3): each place is written out, so that it is a constant, as in `message_parts`.
+// Kept (3): each place is written out, so that it is a constant, as in `message_parts`: by `raws_of` or a loop a row would be looked for when the program runs.
 #[tactic(auto, unfolding(crate::specs::Said::limits_in, page_write::specs::Raws::pad))]
 fn limits_in(number: u64) -> PowerModulesLimits
     ensures { result ≡ limits_in number }

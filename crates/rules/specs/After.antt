@@ -1,6 +1,6 @@
 -- Inner step: a post's head after one event more, and the event's findings, as the code takes them.
 -- The first promise of an operation, by_record, is in these words; the second, by_history, is in those of looking back:
--- `frame-look` and `tick-look` make the two one.
+-- `frame_look` and `tick_look` make the two one.
 use Rattle.std.specs.Prelude.{Option, Some, None, ℕ, suc, ◌+◌, ◌*◌, ◌/◌, ◌%◌, max, List, [], ◌∷◌, map, Bool, true, cond, not, ◌&&◌, ltb, leb, eqb, get_or, set, replicate}
 use Rattle.older_types.specs.message_types.specs.declared.DcPowerParameters.{DcPowerParameters}
 use Rattle.older_types.specs.message_types.specs.declared.DcPowerControl.{DcPowerControl}

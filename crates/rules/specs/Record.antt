@@ -43,7 +43,7 @@ abbrev pub dated_of : ℕ → Option Said → std.Option Dated
 dated_of now none = std.None
 dated_of now (some m) = std.Some (dated_at (received_of m.time) (age_of now m.time) m.kind m.raw)
 
--- a frame of a kind that has the place j: on a post, whose frames are of one interface, the kind itself (`own-latest`, watch_rules)
+-- a frame of a kind that has the place j: on a post, whose frames are of one interface, the kind itself (`own_latest`, watch_rules)
 abbrev pub at_place : ℕ → Event → Option Said
 at_place j (frame t k raw) = cond (eqb (place_by k) j) (some (said_at t k raw)) none
 at_place j (tick t) = none

@@ -1,4 +1,4 @@
--- 02: "rounded once". `degreesOf` is the f32 nearest to the raw number divided by ten, and every other f32 lies farther (`nearest`). Assumes nothing.
+-- 02: "rounded once". `degrees_of` is the f32 nearest to the raw number divided by ten, and every other f32 lies farther (`nearest`). Assumes nothing.
 use mathlib.Core.Path.{◌≡◌, sym, ap, ◌∙◌, subst}
 use mathlib.Core.Logic.{◌⊎◌, ⊎_elim}
 use mathlib.Core.Bool.{Bool, true, false, not, ◌&&◌, ◌||◌, beq, true≢false, false≢true}

@@ -1,4 +1,4 @@
--- "not used, which is raw 0x1FFF": that reading of a probe and no other (`unused`, `only-unused`, `used`). Assumes nothing.
+-- "not used, which is raw 0x1FFF": that reading of a probe and no other (`unused`, `only_unused`, `used`). Assumes nothing.
 use mathlib.Core.Path.{◌≡◌, refl, sym, ap}
 use mathlib.Core.Bool.{Bool, true, false, cond}
 use Prim.Native.Nat.{ℕ, ◌^◌, ◌<◌}

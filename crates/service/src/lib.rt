@@ -20,7 +20,7 @@ pub enum Probe {
 fn degrees(raw: i16) -> f32
     ensures { result ≡ degrees_of raw }
 {
-    raw as f32 / 10.0
+    f32::from(raw) / 10.0
 }
 
 #[tactic(auto, using(crate::proofs::Unused::sixteen), unfolding(crate::specs::Probes::probe_of))]

@@ -88,7 +88,7 @@ module _ (d : ℕ) where
   pub record_moved : (c : ℕ) (lim : PlainLimits) (h : History) → Unrolled h → still (record_of c lim (moved d h)) ≡ still (record_of c lim h)
   record_moved c lim h un = record_by_differences c lim (moved d h) h (unrolled_moved h un) un (moved_in_step h)
 
-  -- where an event stands that is received at t by the one clock and at `onClock d t` by the other
+  -- where an event stands that is received at t by the one clock and at `on_clock d t` by the other
   pub stamp_moved : (h : History) (t : ℕ) → stamp_of (moved d h) (on_clock d (stamp_of h t)) ≡ stamp_of (moved d h) (on_clock d t)
   stamp_moved h t =
       let z : on_clock d (stamp_of h t) ≡ on_clock d t = ap (λ (n : ℕ). received_of (n + d)) (received_stamp h t) in

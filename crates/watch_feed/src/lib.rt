@@ -2,8 +2,8 @@
 // Each has two promises: what its answer and its table are for every table, and, for whatever accepted steps the table stands for,
 // that the answer is what 01's rules give when read afresh over those steps, and that the table then stands for the extended steps.
 // For users of the library, through `watch`.
-// Kept (2): `frame` and `tick` differ in what comes, which goes by the limits of the post that was found: a closure for it would ask by a `requires` that it
-// may be called, and no public function here has one.
+// Kept (2): `frame` and `tick` have two lines in common, the place and its head; what comes goes by the limits of that head. A function over a closure for it,
+// with the closure's `pre` and `post` in its clauses, is longer than the two lines.
 // Kept (5): channel, time and frame go on one by one: docs/LIBRARY.md has `watch::frame` and `watch::tick` so.
 #![tactic(auto)]
 

@@ -86,7 +86,7 @@ module _ (rs : List Request) (i c : ℕ) (lim : PlainLimits) (h : History) (low 
       → reply (run rs) (frame c t m x bs) ≡ fed (cond (earlier_in h t) (Err Earlier) (Err w))
   own_unread t m x bs w e = every_answer rs (frame c t m x bs) ∙ ap fed (feed_own t (framing m x bs) ∙ rw e)
 
-  -- 02, Req 08: in time and readable, it gets 25 where its post's count is the largest, and the history does not grow (`refused-nothing`)
+  -- 02, Req 08: in time and readable, it gets 25 where its post's count is the largest, and the history does not grow (`refused_nothing`)
   pub full_tick : (t : ℕ) → earlier_in h t ≡ false → is_full h ≡ true → reply (run rs) (tick c t) ≡ fed (Err CountFull)
   full_tick t late full = own_tick t ∙ rw (late, full)
 
@@ -146,7 +146,7 @@ holder_own : (rs : List Request) (i c : ℕ) (lim : PlainLimits) (h : History) �
 holder_own rs i c lim h own =
     holder_is (accepted rs) (run_kept rs).apart i c (subst (InTable i) own (in_table rs i)) (ap (λ (x : Standing). holds_in x c) own ∙ eq-eqb c c refl)
 
--- ---- a post's standing, request by request: a refused one adds nothing, one about another post neither (`others-standing`),
+-- ---- a post's standing, request by request: a refused one adds nothing, one about another post neither (`others_standing`),
 -- and an accepted one of its own this
 
 -- 01: "The table starts with no post set up."

@@ -1,6 +1,6 @@
--- 02, Req 11: a post hears the messages of its own interface alone, whatever was asked of the table (`own-pages`), so that the latest frame that it keeps in a
--- place is the latest of a kind (`latest-of-kind`), and so does its record show it (`latest-shown`); an identifier that only the other interface has is
--- refused with 29 (`own-foreign`).
+-- 02, Req 11: a post hears the messages of its own interface alone, whatever was asked of the table (`own_pages`), so that the latest frame that it keeps in a
+-- place is the latest of a kind (`latest_of_kind`), and so does its record show it (`latest_shown`); an identifier that only the other interface has is
+-- refused with 29 (`own_foreign`).
 use Rattle.std.specs.Prelude.{Ok, Err}
 use Rattle.std.specs.Prelude as std
 use Prim.Native.Nat.{ℕ, ◌+◌, ◌-◌, ◌≤◌, ◌<◌}

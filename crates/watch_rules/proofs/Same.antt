@@ -1,4 +1,4 @@
--- What comes to `somePlace` is the table's step: the post that the index names hears it where it holds the channel, and else turns it away
+-- What comes to `some_place` is the table's step: the post that the index names hears it where it holds the channel, and else turns it away
 -- and is stored as it was.
 use Rattle.std.specs.Prelude.{Err}
 use Prim.Native.Nat.{ℕ, ◌%◌, ◌<◌}

@@ -148,7 +148,7 @@ with_post t i p w = record { posts = set t.posts i p; index = t.index; refused =
 abbrev pub fed_by : Table → ℕ → Heard → Fed
 fed_by t i r = record { table = with_post t i (stored (post_in t i) r.head r.at r.slot) r.answer; answer = r.answer }
 
--- what comes to the post at i; what comes to `somePlace` is `feedOf` (`feed-same`, proofs/Same.antt)
+-- what comes to the post at i; what comes to `some_place` is `feed_of` (`feed_same`, proofs/Same.antt)
 unfoldable pub feed_at : Table → ℕ → ℕ → ℕ → Arriving → Fed
 feed_at t i c time a = fed_by t i (heard_of (post_in t i).head c time (a (post_in t i).head.limits))
 

@@ -1,4 +1,4 @@
--- The counts of the post are those that its record shows (`counts-are`).
+-- The counts of the post are those that its record shows (`counts_are`).
 use Rattle.std.proofs.Common.{rules, ◌≡◌, length}
 use Rattle.rules.specs.After.{count_count}
 use Rattle.lent_counts.specs.Counts.{counts_after}

@@ -7,4 +7,4 @@ pub returns-then-s-at : goal.returns-then-s-at
 returns-then-s-at c = at_end c.args.s.now c.args.at 4 c.if-s-at.true
 
 pub returns-then-b-lt128 : goal.returns-then-b-lt128
-returns-then-b-lt128 c = at_one c.args.s.now c.args.at (omega arith) c.if-b-lt128.true
+returns-then-b-lt128 c = rw c.from.ensures (at_one c.args.s.now c.args.at (omega arith) c.if-b-lt128.true)

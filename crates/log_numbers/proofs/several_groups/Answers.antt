@@ -4,7 +4,7 @@ use Rattle.log_numbers.proofs.Groups.{Turn, turn_start, turn_cut, turn_fits, tur
 use Rattle.log_numbers.proofs.several_groups.Goals as goal
 
 pub loop-i-init : goal.loop-i-init
-loop-i-init c = turn_start c.args.s.now (omega (arith, c.type_inv.s 0)) c.requires.0 c.requires.1
+loop-i-init c = rw c.from-n.ensures (turn_start c.args.s.now (omega (arith, c.type_inv.s 0)) c.requires.0 c.requires.1)
 
 pub returns-then-s-i : goal.returns-then-s-i
 returns-then-s-i c = turn_cut c.loop-i.invariant c.if-s-i.true
@@ -33,7 +33,7 @@ overflow_mul-weight c =
 pub loop-i-preserved : goal.loop-i-preserved
 loop-i-preserved c =
     let h = turn_high c.loop-i.invariant (omega arith) (omega (arith, c.type_inv.s c.loop-i.i)) c.if-b-lt128.false in
-    turn_more c.loop-i.invariant h (omega arith) (omega arith)
+    rw c.from.ensures (turn_more c.loop-i.invariant h (omega arith) (omega arith))
 
 -- the turn of the fifth group
 pub returns-then-s-le4 : goal.returns-then-s-le4

@@ -1,4 +1,4 @@
--- What the writer answers is short (`log-within`).
+-- What the writer answers is short (`log_within`).
 use Rattle.std.proofs.Common.{arith}
 use Rattle.log_records.specs.Record.{tick}
 use Rattle.plain_log.proofs.LogWords.{log_within}
