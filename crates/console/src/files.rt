@@ -17,23 +17,17 @@ fn opened(rt: HostRuntime, how: &OpenOptions, name: &[u8]) -> io::Result<File> {
 
 // For reading: a file or a folder.
 pub fn open_read(rt: HostRuntime, name: &[u8]) -> io::Result<File> {
-    let mut how = OpenOptions::new();
-    how.read(true);
-    opened(rt, &how, name)
+    opened(rt, OpenOptions::new().read(true), name)
 }
 
 // For writing at its end, wherever that is at each write; an error where there is none.
 pub fn open_append(rt: HostRuntime, name: &[u8]) -> io::Result<File> {
-    let mut how = OpenOptions::new();
-    how.append(true);
-    opened(rt, &how, name)
+    opened(rt, OpenOptions::new().append(true), name)
 }
 
 // A new file; an error where the name is taken.
 pub fn create(rt: HostRuntime, name: &[u8]) -> io::Result<File> {
-    let mut how = OpenOptions::new();
-    how.write(true).create_new(true);
-    opened(rt, &how, name)
+    opened(rt, OpenOptions::new().write(true).create_new(true), name)
 }
 
 // How many bytes the file has now.

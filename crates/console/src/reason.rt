@@ -24,5 +24,5 @@ pub fn say(rt: HostRuntime, why: io::Error) {
     let _ = write!(room, "{why}");
     let n = room.position() as usize;
     let told = room.into_inner();
-    crate::say(rt, text_in(why, told.get(..n).unwrap_or(&told)));
+    crate::say(rt, text_in(why, crate::front(&told, n)));
 }

@@ -54,6 +54,7 @@ fn refused_end(sheet: &mut Sheet, w: Refused)
 }
 
 // The answer word of a frame or a tick: `A<findings>`, or the refusal.
+// Kept (1): `findings_words` and `setting_words` (docs/PROMISES.md) are of an answer's word, as the entries of the C interface give it.
 pub fn findings(sheet: &mut Sheet, word: u32)
     ensures { Wrote sheet.old (findings_words word) sheet.new }
 {

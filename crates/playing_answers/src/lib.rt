@@ -1,8 +1,8 @@
 // A record's line of a replay (02, Req 05) from its answer word. It is made from its end to its front in a room of its own, so that each byte is stored
 // once, and goes to the output as one text. For `playing_batches` alone. The public function takes any input.
 // Kept (1, 4): a batch leaves its answers as words of 32 bits in the lent array, and the line is made of such a word.
-// Kept (2): the methods of a line are no twins: each puts other bytes. Nor are its digits `text_written`'s, which go to a table that is then put on a sheet:
-// here each byte is stored once, in its place.
+// Kept (2): the methods of a line are no twins: each puts other bytes. Its digits are not `text_written`'s: one function over both rooms would be public, with
+// the premise that they have room, and no public function here has one; over a table of its own a digit would be stored twice (docs/PERFORMANCE.md).
 #![tactic(auto, unfolding(crate::specs::Texts::start_text, crate::specs::Texts::answer_text, crate::specs::Texts::post_text))]
 
 ghost use Rattle.std.specs.Prelude.{◌≡◌, [], ◌∷◌, ◌++◌, ◌+◌, ◌<◌, ◌≤◌, eqb, length};

@@ -20,7 +20,7 @@ pub fn start() -> Replay
     }
 }
 
-// Kept (5): a set-up is asked of a post and a channel, which are no limits, and C hands all of them in one by one (02, Req 05).
+// Kept (5): `set_up_in r post channel limits` of `set_up` (docs/PROMISES.md) has the post and the channel apart from the limits, as `watch::set_up_plain` has.
 fn settle(r: Replay, post: u32, channel: u32, limits: PlainLimits) -> Prepared
     ensures { result ≡ prepared_by r.count (set_up_of r.table post channel limits) }
 {

@@ -43,7 +43,7 @@ fn refusal_at(n: u64) -> Refusal
     }
 }
 
-// Kept (4): the replay's memory is C's, and Rattle takes no impl of `From` for another crate's type here.
+// Kept (4): `u64` and `Course` are both other crates' types, so that no impl of `From` between them may stand here; the number stands in C's memory.
 fn course_of(n: u64) -> Course
     ensures { result ≡ course_of n }
 {

@@ -17,12 +17,11 @@ use notation_endings::ending;
 use text_pen::Sheet;
 use text_written::{put_decimal, put_hex, put_hexadecimal};
 
-// What the pen wrote.
-// Kept (5): no method of `Sheet`, whose crate stands below console, where `front` is.
+// What the pen wrote: the sheet's own method, by the name that the programs call.
 pub fn text<'a>(sheet: &'a Sheet) -> &'a [u8]
     ensures { result.now ≡ take sheet.now.pen.at sheet.now.out.now }
 {
-    console::front(sheet.out, sheet.pen.at)
+    sheet.text()
 }
 
 // Two numbers, and what stands between them.

@@ -42,6 +42,7 @@ impl Log {
         ensures { IfOk result (λ walk. is_short walk.stand ≡ false) }
     {
         let mut walk = Walk::start(self.size);
+        // Kept (3): no measure falls here, since what a `Listener` answers need not lie behind where it stood: so a count bounds the turns.
         for _ in 0..u64::MAX {
             let piece = voice.done(b": reading", self.piece(walk.from, buf))?;
             walk = listener.hear(walk, piece)?;

@@ -53,7 +53,7 @@ impl<'a> Paper<'a> {
         ensures waiting { self.new.sheet.pen.at ≡ 0 }
         ensures most { self.new.most ≡ self.old.most }
     {
-        let full = console::write(self.rt, crate::text(&self.sheet))
+        let full = console::write(self.rt, self.sheet.text())
             .inspect_err(|&why| console::unwritten(self.rt, self.writing, why))
             .is_err();
         self.sheet.pen = Pen { at: 0, full };

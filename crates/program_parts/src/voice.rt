@@ -74,7 +74,7 @@ impl<'a> Voice<'a> {
     {
         self.sheet.put(words);
         self.sheet.put(b"\n");
-        console::say(self.rt, crate::text(&self.sheet));
+        console::say(self.rt, self.sheet.text());
         Said
     }
 
@@ -82,7 +82,7 @@ impl<'a> Voice<'a> {
     pub fn end_reason(&mut self, why: io::Error) -> Said
         ensures { self.new ≡ self.old }
     {
-        console::fail(self.rt, crate::text(&self.sheet), why);
+        console::fail(self.rt, self.sheet.text(), why);
         Said
     }
 

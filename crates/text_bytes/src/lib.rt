@@ -27,15 +27,16 @@ fn is_hex(s: &[u8]) -> bool
 }
 
 // The bytes of s, which has two digits for each byte of out.
-// Kept (3): tried over `zip` and `chunks_exact`: that a byte fits stood open, since such a loop does not tell where in s a pair stands.
+// Kept (3): the digits by their index: over `zip` and `chunks_exact` that a byte fits stood open, since such a loop does not tell where in s a pair stands.
+#[tactic(auto, using(text_numbers::proofs::Values::digits_at))]
 fn store(s: &[u8], out: &mut [u8])
     requires { (length s.now ≡ length out.old * 2) × (are_digits 16 s.now ≡ true) }
     ensures { out.new ≡ bytes_of s.now }
 {
-    for i in 0..out.len() {
+    for (i, place) in out.iter_mut().enumerate() {
         let hi = text_numbers::digit(s[i * 2]);
         let lo = text_numbers::digit(s[i * 2 + 1]);
-        out[i] = (hi * 16 + lo) as u8;
+        *place = (hi * 16 + lo) as u8;
     }
 }
 

@@ -61,13 +61,11 @@ fn negate(m: u64) -> Option<i64>
 }
 
 // `-` and a number from 1 to 2^63, or a number from 0 to 2^63 - 1.
-// Kept (1): tried as a match on the slice; at four exits the proof stood open.
 pub fn signed(s: &[u8]) -> Option<i64>
     ensures { result ≡ signed_of s.now }
 {
-    let (&first, rest) = s.split_first()?;
-    if first == b'-' {
-        return negate(whole(rest, 10, 0x8000000000000000)?);
+    match s.strip_prefix(b"-") {
+        Some(rest) => negate(whole(rest, 10, 0x8000000000000000)?),
+        None => Some(whole(s, 10, 0x7fffffffffffffff)? as i64),
     }
-    Some(whole(s, 10, 0x7fffffffffffffff)? as i64)
 }

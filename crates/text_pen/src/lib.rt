@@ -2,10 +2,11 @@
 // out, and the pen is full from then on. The public functions take any input.
 #![tactic(auto)]
 
-ghost use Rattle.std.specs.Prelude.{◌≡◌, [], ◌∷◌, length};
+ghost use Rattle.std.specs.Prelude.{◌≡◌, ◌+◌, ◌≤◌, [], ◌∷◌, length, take, IsTrue};
 ghost use Rattle.text_pen.specs.Pens.{has_room, Wrote, new_pen};
 
 // Where the next byte goes; full once something did not fit. By default at the front.
+// Kept (1): a full pen keeps its place, by `moved` (docs/PROMISES.md), and what was written up to there is shown.
 #[derive(Clone, Copy, Default)]
 pub struct Pen {
     pub at: usize,
@@ -34,9 +35,18 @@ impl<'a> Sheet<'a> {
 
     #[tactic(auto, using(crate::proofs::Inks::is_full_lem, crate::proofs::Inks::too_long, crate::proofs::Inks::has_room_lem))]
     fn has_room(&self, n: usize) -> bool
-        ensures { result ≡ has_room (length self.now.out.now) self.now.pen n }
+        ensures value { result ≡ has_room (length self.now.out.now) self.now.pen n }
+        ensures there { IsTrue result → self.now.pen.at + n ≤ length self.now.out.now }
     {
-        !self.pen.full && self.pen.at <= self.out.len() && n <= self.out.len() - self.pen.at
+        let left = self.out.get(self.pen.at..);
+        !self.pen.full && left.is_some_and(|left| n <= left.len())
+    }
+
+    // What it wrote.
+    pub fn text(&self) -> &[u8]
+        ensures { result.now ≡ take self.now.pen.at self.now.out.now }
+    {
+        &self.out[..self.pen.at.min(self.out.len())]
     }
 
     // src after what the pen wrote before.

@@ -1,27 +1,8 @@
-use Rattle.std.proofs.Common.{◌<◌, ◌+◌, ◌*◌, ◌≡◌, ap, ◌∙◌, ◌++◌, take, drop, arith, get_or}
+use Rattle.std.proofs.Common.{◌+◌, ◌*◌, ◌≡◌, ap, ◌∙◌, ◌++◌, take, drop, arith}
 use lib.ListN.{set}
-use Rattle.text_numbers.specs.Numbers.{digit_of}
-use Rattle.text_numbers.proofs.Values.{digits_at}
 use Rattle.text_bytes.specs.Hex.{bytes_of}
 use Rattle.text_bytes.proofs.Pairs.{pair_at, stored_more, stored_all}
 use Rattle.text_bytes.proofs.store.Goals as goal
-
-pub overflow_mul-out : goal.overflow_mul-out
-overflow_mul-out c =
-    let h : digit_of (get_or c.args.s.now (c.loop-i.i * 2) 0) < 16 = digits_at 16 c.args.s.now (c.loop-i.i * 2) c.requires.1 (omega arith) in
-    record { fits = omega (arith, c.digit-hi.ensures) }
-
-pub overflow_add-out : goal.overflow_add-out
-overflow_add-out c =
-    let h : digit_of (get_or c.args.s.now (c.loop-i.i * 2) 0) < 16 = digits_at 16 c.args.s.now (c.loop-i.i * 2) c.requires.1 (omega arith) in
-    let l : digit_of (get_or c.args.s.now (c.loop-i.i * 2 + 1) 0) < 16 = digits_at 16 c.args.s.now (c.loop-i.i * 2 + 1) c.requires.1 (omega arith) in
-    record { fits = omega (arith, c.digit-hi.ensures, c.digit-lo.ensures) }
-
-pub overflow_cast-out : goal.overflow_cast-out
-overflow_cast-out c =
-    let h : digit_of (get_or c.args.s.now (c.loop-i.i * 2) 0) < 16 = digits_at 16 c.args.s.now (c.loop-i.i * 2) c.requires.1 (omega arith) in
-    let l : digit_of (get_or c.args.s.now (c.loop-i.i * 2 + 1) 0) < 16 = digits_at 16 c.args.s.now (c.loop-i.i * 2 + 1) c.requires.1 (omega arith) in
-    record { fits = omega (arith, c.digit-hi.ensures, c.digit-lo.ensures) }
 
 pub loop-i-preserved : goal.loop-i-preserved
 loop-i-preserved c =
