@@ -11,6 +11,7 @@ use lib.Dec.{eqb}
 use borrow.Author.Tests.{eq-eqb, ne_eqb, eqb-true, eqb-false}
 use borrow.Author.Count.{below_more}
 use Rattle.log_records.specs.Record.{Rec, tick}
+use Rattle.compare_rules.proofs.Sames.{never}
 use Rattle.compare_rules.specs.Records.{same, channel_of, at}
 use Rattle.compare_rules.specs.Places.{on_channel, differ, channels, place_on, places_from, places_of}
 use Rattle.compare_logs.specs.Held.{Ready, NextOn, Marked}
@@ -100,20 +101,20 @@ unfolding places_from
 storing_end a b places₀ places c h w = let z : channels - c ≡ 0 = omega arith in sym (ap (λ (k : ℕ). sets places c (places_from a b c k)) z) ∙ w.1
 
 -- ---- `mark_channels`
-pub mark_more : (keys seen₀ seen : List ℕ) (i d : ℕ) → d ≡ get_or keys i 0 / 4294967296 → d < channels → Marked keys seen₀ seen i → Marked keys seen₀ (set seen d 1) (i + 1)
-mark_more keys seen₀ seen i d e h w = (length-set seen d 1 ∙ w.0, each) where
-  each : (c : ℕ) → c < channels → get_or (set seen d 1) c 0 ≡ 0 → (get_or seen₀ c 0 ≡ 0) × ((j : ℕ) → j < i + 1 → get_or keys j 0 / 4294967296 ≡ c → ⊥)
+pub mark_more : (keys : List ℕ) (seen₀ seen : List Bool) (i d : ℕ) → d ≡ get_or keys i 0 / 4294967296 → d < channels → Marked keys seen₀ seen i → Marked keys seen₀ (set seen d true) (i + 1)
+mark_more keys seen₀ seen i d e h w = (length-set seen d true ∙ w.0, each) where
+  each : (c : ℕ) → c < channels → get_or (set seen d true) c false ≡ false → (get_or seen₀ c false ≡ false) × ((j : ℕ) → j < i + 1 → get_or keys j 0 / 4294967296 ≡ c → ⊥)
   each c lt z = by (eqb c d) refl where
-    by : (t : Bool) → eqb c d ≡ t → (get_or seen₀ c 0 ≡ 0) × ((j : ℕ) → j < i + 1 → get_or keys j 0 / 4294967296 ≡ c → ⊥)
+    by : (t : Bool) → eqb c d ≡ t → (get_or seen₀ c false ≡ false) × ((j : ℕ) → j < i + 1 → get_or keys j 0 / 4294967296 ≡ c → ⊥)
     by true p =
         let same-c : c ≡ d = eqb-true c d p in
-        absurd (omega (arith, sym (get_or-set_same seen d 1 0 (omega (arith, w.0))) ∙ ap (λ (x : ℕ). get_or (set seen d 1) x 0) (sym same-c) ∙ z))
+        absurd (never (ap (λ (x : ℕ). get_or (set seen d true) x false) (sym same-c) ∙ z) (get_or-set_same seen d true false (omega (arith, w.0))))
     by false p =
         let ne : c ≡ d → ⊥ = eqb-false c d p in
-        let o = w.1 c lt (sym (get_or-set_other seen d c 1 0 ne) ∙ z) in
+        let o = w.1 c lt (sym (get_or-set_other seen d c true false ne) ∙ z) in
         (o.0, below_more (λ (j : ℕ). get_or keys j 0 / 4294967296 ≡ c → ⊥) i o.1 (λ q. ne (sym q ∙ sym e)))
 
-pub mark_skip : (keys seen₀ seen : List ℕ) (i : ℕ) → channels ≤ get_or keys i 0 / 4294967296 → Marked keys seen₀ seen i → Marked keys seen₀ seen (i + 1)
+pub mark_skip : (keys : List ℕ) (seen₀ seen : List Bool) (i : ℕ) → channels ≤ get_or keys i 0 / 4294967296 → Marked keys seen₀ seen i → Marked keys seen₀ seen (i + 1)
 mark_skip keys seen₀ seen i h w =
     (w.0, λ c lt z. let o = w.1 c lt z in (o.0, below_more (λ (j : ℕ). get_or keys j 0 / 4294967296 ≡ c → ⊥) i o.1 (λ q. omega arith)))
 

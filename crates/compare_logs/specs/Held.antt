@@ -1,5 +1,5 @@
 -- What the arrays beside a log hold of its records, and what the inner functions answer by them.
-use Rattle.std.specs.Prelude.{ℕ, zero, suc, ◌+◌, ◌*◌, ◌-◌, ◌/◌, ◌≤◌, ◌<◌, ◌≡◌, true, cond, List, [], ◌∷◌, length, get_or, take, drop, eqb, Result, Ok, Err}
+use Rattle.std.specs.Prelude.{ℕ, zero, suc, ◌+◌, ◌*◌, ◌-◌, ◌/◌, ◌≤◌, ◌<◌, ◌≡◌, Bool, true, false, cond, List, [], ◌∷◌, length, get_or, take, drop, eqb, Result, Ok, Err}
 use Rattle.std.proofs.Props.{props}
 use Rattle.log_records.specs.Record.{Rec, tick, frame, Loggable, record_bytes}
 use Rattle.log_records.specs.Reading.{Log, ends, then, clean, piece, refused}
@@ -64,9 +64,9 @@ NextOn keys c from n r =
     (from ≤ r) × (r ≤ n) × ((j : ℕ) → j < r → from ≤ j → get_or keys j 0 / 4294967296 ≡ c → ⊥) × (r < n → get_or keys r 0 / 4294967296 ≡ c)
 
 -- a channel that is not marked after the first n keys was not before, and none of them has it
-abbrev pub Marked : List ℕ → List ℕ → List ℕ → ℕ → Type 0
+abbrev pub Marked : List ℕ → List Bool → List Bool → ℕ → Type 0
 Marked keys seen₀ seen n =
-    (length seen ≡ channels) × ((c : ℕ) → c < channels → get_or seen c 0 ≡ 0 → (get_or seen₀ c 0 ≡ 0) × ((j : ℕ) → j < n → get_or keys j 0 / 4294967296 ≡ c → ⊥))
+    (length seen ≡ channels) × ((c : ℕ) → c < channels → get_or seen c false ≡ false → (get_or seen₀ c false ≡ false) × ((j : ℕ) → j < n → get_or keys j 0 / 4294967296 ≡ c → ⊥))
 
 -- the answer r' is r, and the lists and places hold afterwards what they should
 abbrev pub Comes : Compared → List Rec → List Rec → List ℕ → List ℕ → List ℕ → Compared → List ℕ → List ℕ → List ℕ → Type 0

@@ -1,5 +1,6 @@
 // The records of two logs, paired off: each with one that is the same, and what is left over is surplus.
-// Kept (1): Held.antt tells of each place whether it is used by 0 or 1 (`FirstFree`, `UsedBelow`, `free_from`), and of place.rt's marks too (`Marked`).
+// Kept (1): the marks `used` were tried as `bool`: two logs of 512 records that share nothing take 7 to 10 in a hundred longer, and one set beside itself
+// backwards 5 to 6, since a byte is set beside 0 where it lies and a `bool` is loaded first.
 ghost use Rattle.std.specs.Prelude.{◌≡◌, cond, ℕ, ◌≤◌, ◌<◌, length, get_or, replicate, MatchBool, MatchOption};
 ghost use Rattle.std.proofs.lemmas.List.Edits.{sets};
 ghost use Rattle.compare_rules.specs.Records.{same, same_bytes, at};
@@ -11,7 +12,7 @@ use crate::split::Parts;
 use compare_rules::MOST;
 
 // Whether two slices of one length hold the same bytes. From behind: records with one key begin alike.
-// Kept (4): tried as `==`, which begins in front: two logs all at one time are compared half as slowly again.
+// Kept (4): tried as `==`, which begins in front: comparing two logs all at one time takes half as long again.
 fn same_from_behind(a: &[u8], b: &[u8]) -> bool
     requires { length a.now ≡ length b.now }
     ensures { MatchBool result ((k : ℕ) → k < length a.now → get_or a.now k 0 ≡ get_or b.now k 0)

@@ -1,6 +1,6 @@
 // For each channel the first place where its two sequences differ.
 // Kept (6): no heap, so the channels that a log has are marked in an array of as many as 02 names.
-ghost use Rattle.std.specs.Prelude.{◌≡◌, ℕ, ◌≤◌, ◌<◌, length, get_or, MatchOption};
+ghost use Rattle.std.specs.Prelude.{◌≡◌, false, ℕ, ◌≤◌, ◌<◌, length, get_or, MatchOption};
 ghost use Rattle.std.proofs.lemmas.List.Edits.{sets};
 ghost use Rattle.compare_rules.specs.Places.{place_on, places_of, channels};
 ghost use Rattle.compare_rules.specs.Compare.{records_of};
@@ -47,28 +47,23 @@ fn place_of(a: &Parts, b: &Parts, c: u64) -> u32
 
 // The channels that a log has, marked.
 // Kept (3): over the first of the keys as a slice the proof did not close: how long an array behind a field is, is not known.
-fn mark_channels(log: &Parts, seen: &mut [u8; CHANNELS])
-    requires { length seen.old ≡ channels }
+fn mark_channels(log: &Parts, seen: &mut [bool; CHANNELS])
     ensures { Marked log.now.keys.now seen.old seen.new log.now.count }
 {
     for i in 0..log.count {
         let c = channel_of(log.keys[i]) as usize;
         if c < CHANNELS {
-            seen[c] = 1;
+            seen[c] = true;
         }
     }
 }
 
-fn store_places(a: &Parts, b: &Parts, seen: &[u8; CHANNELS], places: &mut [u32; CHANNELS])
-    requires { (c : ℕ) → c < channels → get_or seen.now c 0 ≡ 0 → place_on c (records_of a.now.bytes.now) (records_of b.now.bytes.now) ≡ 0 }
+fn store_places(a: &Parts, b: &Parts, seen: &[bool; CHANNELS], places: &mut [u32; CHANNELS])
+    requires { (c : ℕ) → c < channels → get_or seen.now c false ≡ false → place_on c (records_of a.now.bytes.now) (records_of b.now.bytes.now) ≡ 0 }
     ensures { places.new ≡ sets places.old 0 (places_of (records_of a.now.bytes.now) (records_of b.now.bytes.now)) }
 {
     for (c, place) in places.iter_mut().enumerate() {
-        *place = if seen[c] == 0 {
-            0
-        } else {
-            place_of(a, b, c as u64)
-        };
+        *place = if seen[c] { place_of(a, b, c as u64) } else { 0 };
     }
 }
 
@@ -76,7 +71,7 @@ fn store_places(a: &Parts, b: &Parts, seen: &[u8; CHANNELS], places: &mut [u32; 
 pub fn all_places(a: &Parts, b: &Parts, places: &mut [u32; CHANNELS])
     ensures { places.new ≡ sets places.old 0 (places_of (records_of a.now.bytes.now) (records_of b.now.bytes.now)) }
 {
-    let mut seen = [0u8; CHANNELS];
+    let mut seen = [false; CHANNELS];
     mark_channels(a, &mut seen);
     mark_channels(b, &mut seen);
     store_places(a, b, &seen, places);

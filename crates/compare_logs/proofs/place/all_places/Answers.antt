@@ -1,14 +1,6 @@
 -- `compare_logs::place::all_places` meets its contract: what neither log has is not marked.
-use Rattle.std.proofs.Common.{ℕ}
-use lib.ListN.{length-replicate}
 use Rattle.compare_logs.proofs.Channels.{unseen}
 use Rattle.compare_logs.proofs.place.all_places.Goals as goal
-
-pub mark_channels-requires : goal.mark_channels-requires
-mark_channels-requires c = length-replicate {A = ℕ} 32 0
-
-pub mark_channels-requires-2 : goal.mark_channels-requires-2
-mark_channels-requires-2 c = c.mark_channels.ensures.0
 
 pub store_places-requires : goal.store_places-requires
 store_places-requires c d lt z =

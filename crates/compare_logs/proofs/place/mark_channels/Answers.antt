@@ -1,11 +1,12 @@
 -- `compare_logs::place::mark_channels` meets its contract.
+use Rattle.std.proofs.Common.{rules}
 use Rattle.compare_logs.proofs.Channels.{mark_more, mark_skip}
 use native.Mathlib.Omega.{arith}
 use Rattle.compare_logs.proofs.place.mark_channels.Goals.{then-c-lt-CHANNELS, else-c-lt-CHANNELS}
 use Rattle.compare_logs.proofs.place.mark_channels.Goals as goal
 
 pub loop-i-init : goal.loop-i-init
-loop-i-init c = (c.requires, λ d lt z. (z, λ j h. absurd (omega arith)))
+loop-i-init c = (search rules, λ d lt z. (z, λ j h. absurd (omega arith)))
 
 pub loop-i-preserved : goal.loop-i-preserved
 loop-i-preserved c =
