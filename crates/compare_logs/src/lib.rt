@@ -25,6 +25,9 @@ fn unlisted(why: Refusal, side: u32, at: usize) -> Unlisted
 }
 
 // Both logs are at most 512 records.
+// It is built in, and what it calls with the parts: by calls each pair of records reads anew where the parts stand, and two logs all at one time took 1.12 to
+// 1.26 times as long.
+#[inline(always)]
 fn listing(
     a: &Parts,
     b: &Parts,

@@ -57,6 +57,7 @@ fn past_used(used: &[u8; MOST], low: usize, b: &Parts) -> usize
 
 // Each record of the first log takes the first of the second that is the same and that none took before. What finds none is surplus, and what is
 // not taken is the surplus of the other log.
+#[inline(always)]
 pub fn pair_off(a: &Parts, b: &Parts, used: &mut [u8; MOST], list: &mut [u32; MOST]) -> usize
     requires { used.old ≡ replicate most 0 }
     ensures { (result ≡ length (surplus_of (records_of a.now.bytes.now) (records_of b.now.bytes.now)))

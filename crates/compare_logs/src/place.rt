@@ -68,6 +68,7 @@ fn store_places(a: &Parts, b: &Parts, seen: &[bool; CHANNELS], places: &mut [u32
 }
 
 // Only channels that one of the logs has are gone through.
+#[inline(always)]
 pub fn all_places(a: &Parts, b: &Parts, places: &mut [u32; CHANNELS])
     ensures { places.new ≡ sets places.old 0 (places_of (records_of a.now.bytes.now) (records_of b.now.bytes.now)) }
 {
