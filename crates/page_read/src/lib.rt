@@ -62,6 +62,7 @@ pub fn judge_on(
 }
 
 // On the newer interface: by the pages of 000 and 004.
+#[tactic(auto, using(crate::proofs::Interfaces::newer))]
 pub fn judge(id: u32, extended: bool, bytes: &[u8]) -> Result<(usize, u64), Refusal>
     ensures { result ≡ judge_of id extended bytes.now }
 {

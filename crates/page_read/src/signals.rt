@@ -15,6 +15,7 @@ pub fn start_bit(r: Row) -> u8
     (r.start % 256) as u8
 }
 
+#[tactic(auto, using(signal::proofs::Totals::get_in))]
 fn signal_bits(r: Row, n: u64) -> u64
     requires { Fine r }
     ensures { result ≡ bits_at n r }

@@ -10,6 +10,7 @@ ghost use Rattle.page_write.specs.Raws.{row_takes, put_raw};
 use page_read::page_table::Row;
 
 // width ones, from bit 0 on.
+#[tactic(auto, using(signal::proofs::Masks::ones_shr))]
 fn ones(width: u32) -> u64
     requires { (1 ≤ width) × (width ≤ 63) }
     ensures { result ≡ 2 ^ width - 1 }
@@ -25,6 +26,7 @@ fn labels_or_all(labels: u64) -> u64
 }
 
 // `page_rows::label_holds` where 63 is no label, so that it may stand for every number above.
+#[tactic(auto, using(crate::proofs::Words::label_test))]
 fn has_label(labels: u64, v: u64) -> bool
     requires { labels < 2 ^ 63 }
     ensures { result ≡ takes labels v }
