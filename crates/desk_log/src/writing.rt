@@ -44,9 +44,8 @@ fn tick(mut fields: Fields, room: &mut [u8]) -> Option<Logged> {
 // Kept (6): no heap: the bytes are kept while the room takes the lent buffer's.
 fn body_of(bytes: &[u8]) -> [u8; ENOUGH] {
     let mut body = [0u8; ENOUGH];
-    for (place, &byte) in body.iter_mut().zip(bytes) {
-        *place = byte;
-    }
+    let kept = front(bytes, ENOUGH);
+    body[..kept.len()].copy_from_slice(kept);
     body
 }
 
@@ -63,7 +62,7 @@ fn frame(mut fields: Fields, room: &mut [u8]) -> Option<Logged> {
         channel,
         head.id,
         head.extended,
-        &body[..n.min(ENOUGH)],
+        front(&body, n),
         room.get_mut(..size)?,
     );
     Some(Logged { answer, size })

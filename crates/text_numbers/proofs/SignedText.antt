@@ -16,7 +16,7 @@ module _ (s : List ℕ) (c : ℕ) (rest : List ℕ) (e : s ≡ c ∷ rest) where
   unfolding signed_of
   without n = rw (e, ne_eqb c dash n)
 
--- no dash in front, nor anything else it may be
+-- whatever else stands in front, or nothing
 pub no_dash : (s : List ℕ) → ((rest : List ℕ) → s ≢ dash ∷ rest) → signed_of s ≡ unsigned (number_of 10 (2 ^ 63 - 1) s)
 unfolding signed_of number_of is_shortest
 no_dash [] n = refl
