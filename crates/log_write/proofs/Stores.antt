@@ -1,6 +1,6 @@
 -- Stores: a record's bytes, stored part after part, are stored at once, since each run of stores begins where the one before it ended.
 use mathlib.Core.Path.{◌≡◌, refl, sym, ap, ◌∙◌}
-use mathlib.Core.Bool.{Bool, true, false}
+use mathlib.Core.Bool.{Bool}
 use mathlib.Core.List.{List, [], ◌∷◌, ◌++◌, append_assoc, append-nil}
 use Prim.Native.Nat.{ℕ, suc, ◌+◌, ◌≤◌, ◌<◌}
 use native.Mathlib.Omega.{arith}
@@ -8,7 +8,7 @@ use native.Mathlib.Numerals.{add-one}
 use lib.ListN.{length, drop, get_or, set, length-append, length-set, drop_of_length-le}
 use lib.Seq.{drop-cons, sets}
 use Rattle.log_numbers.specs.Number.{number_bytes, size_of}
-use Rattle.log_records.specs.Record.{tick, frame, identifiers, part_of, parts_bytes, record_bytes}
+use Rattle.log_records.specs.Record.{tick, frame, part_of, parts_bytes, record_bytes}
 use Rattle.log_numbers.proofs.Numbers.{size_le}
 
 -- one run of stores after another
@@ -19,11 +19,6 @@ sets_append l i (x ∷ a) b =
     ap (λ (k : ℕ). sets (sets (set l i x) (suc i) a) k b) z ∙ sets_append (set l i x) (suc i) a b
 
 -- ---- a record's parts
-
--- either kind of identifier leaves room in 32 bits for "times 2 plus 1"
-pub identifiers_top : (x : Bool) → identifiers x ≤ 536870912
-identifiers_top true = omega arith
-identifiers_top false = omega arith
 
 abbrev pub head_size : ℕ → ℕ → ℕ → ℕ → ℕ
 head_size t c p l = size_of t + size_of c + size_of p + size_of l

@@ -17,7 +17,7 @@ pub fn slot_at(time: u64, kind: u32, raw: u64) -> Slot
     }
 }
 
-// A function of its own: with the default in its place the check does not find in `with_frame` that its list is the closed session's.
+// Kept (4): a function of its own: with the default in its place the check does not find in `with_frame` that its list is the closed session's.
 fn no_session() -> Session
     ensures { result ≡ closed_session }
 {
