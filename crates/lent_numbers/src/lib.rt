@@ -3,11 +3,11 @@
 // Kept (1): the C interface hands the answer out as one word, a number or a refusal (02); below the entry they are a `Result`.
 #![tactic(auto)]
 
-ghost use Rattle.std.specs.Prelude.{◌≡◌, cond, length};
-ghost use Rattle.rules.specs.After.{post_record};
+ghost use Rattle.std.specs.Prelude.{◌≡◌, length};
+ghost use Rattle.rules.specs.After.{last_in, part_in, post_record};
 ghost use Rattle.watch_rules.specs.Table.{look_up_of};
 ghost use Rattle.plain_words.specs.Words.{outcome_of};
-ghost use Rattle.lent_numbers.specs.LookUp.{number_count, numbers_of, room_outcome, room_left, handed_outcome, look_up_word, numbers_after};
+ghost use Rattle.lent_numbers.specs.LookUp.{number_count, last_numbers, session_numbers, numbers_of, room_outcome, room_left, handed_outcome, look_up_word, numbers_after};
 
 use lent_look::post_at;
 use message_types::labels::Label;
@@ -15,13 +15,35 @@ use plain_words::answer_word;
 use post_ages::{age, received};
 use refusals::Refusal;
 use rule_limits::{Interface, Sensor};
-use rules::Post;
+use rules::{Head, Post};
 use watch_rules::Table;
 
-fn where_set(b: bool, x: u32) -> u32
-    ensures { result ≡ cond b x 0 }
+// 1 and the time of the post's latest event as it was received, or twice 0.
+fn last_numbers(h: &Head) -> [u32; 2]
+    ensures { result ≡ last_numbers (last_in h.now) }
 {
-    if b { x } else { 0 }
+    if !h.is_heard() {
+        return [0; 2];
+    }
+    [1, received(h.time)]
+}
+
+// Of an open session 1, since when, the opening's protocol and plug, and its age; or five times 0.
+fn session_numbers(h: &Head) -> [u32; 5]
+    ensures { result ≡ session_numbers (part_in h.now.time h.now.session) }
+{
+    let s = h.session;
+    if !s.is_open() {
+        return [0; 5];
+    }
+    let n = message_parts::session_in(s.first);
+    [
+        1,
+        received(s.since),
+        u32::from(n.protocol.number()),
+        u32::from(n.plug.number()),
+        age(h.time, s.since),
+    ]
 }
 
 // How many they are.
@@ -32,27 +54,23 @@ fn numbers_of(p: &Post) -> [u32; NUMBERS]
 {
     let h = &p.head;
     let l = h.limits;
-    let sensor = Sensor::from(l.sensor);
-    let interface = Interface::from(l.interface);
-    let s = h.session;
-    let heard = h.is_heard();
-    let opened = s.is_open();
-    let n = message_parts::session_in(s.first);
+    let [heard, time] = last_numbers(h);
+    let [open, since, protocol, plug, ms] = session_numbers(h);
     [
         h.channel,
         l.voltage,
         l.charge,
         l.discharge,
         l.silence,
-        u32::from(sensor),
-        u32::from(heard),
-        where_set(heard, received(h.time)),
-        u32::from(opened),
-        where_set(opened, received(s.since)),
-        where_set(opened, u32::from(n.protocol.number())),
-        where_set(opened, u32::from(n.plug.number())),
-        where_set(opened, age(h.time, s.since)),
-        u32::from(interface),
+        u32::from(Sensor::from(l.sensor)),
+        heard,
+        time,
+        open,
+        since,
+        protocol,
+        plug,
+        ms,
+        u32::from(Interface::from(l.interface)),
     ]
 }
 
