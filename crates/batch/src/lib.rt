@@ -33,7 +33,8 @@ fn heads_of(t: Table) -> [Head; POSTS]
 }
 
 // Kept (3): by `from_fn` the proof did not close: `search` finds nothing of what the closure hands out where that is an array of structs. By `map` the
-// table would be copied once more, since an array's `map` takes it whole. Over a zip of both the invariant is over the borrows that were handed out.
+// table would be copied once more, since an array's `map` takes it whole. By `latest.iter_mut().zip(&t.posts)` it is as fast where posts are set up (0.98 to
+// 1.02 times), and a proof is not written: its invariant is over the borrows that were handed out (`yielded`).
 fn latest_of(t: Table) -> [[Slot; PLACES]; POSTS]
     ensures { result ≡ map (λ p. p.latest) t.posts }
 {

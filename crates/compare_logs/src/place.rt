@@ -26,7 +26,8 @@ fn place_of(a: &Parts, b: &Parts, c: u64) -> u32
     let mut x: usize = 0;
     let mut y: usize = 0;
     let mut k: u32 = 1;
-    // Kept (3): no plainer as an iterator, since an index into each log runs, and the steps of both differ.
+    // Kept (3): tried over two `filter`s over `0..count`, each asked by `next`: the check takes that form, and its proof is not closed: open stands
+    // `next-requires-in-loop-i` (both closures can be called at each turn), and the goals that `NextOn` answers here have `filter_steps` in its place.
     loop {
         let i = next_on(a, c, x);
         let j = next_on(b, c, y);

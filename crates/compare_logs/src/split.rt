@@ -68,6 +68,7 @@ pub fn channel_of(key: u64) -> u64
 }
 
 // A store past the end changes nothing.
+// Kept (6): by `if let Some(place) = xs.get_mut(i)` the proof did not close (`returns-in-Some`): std says nothing of what a slice ends as that `get_mut` lent.
 fn put<T: Copy>(xs: &mut [T], i: usize, v: T)
     ensures { xs.new ≡ set xs.old i v }
 {
