@@ -55,7 +55,7 @@ impl<'a> Kept<'a> {
 
     // The log that the kept records are.
     pub fn log(&self) -> &[u8] {
-        program_parts::text(&self.bytes)
+        self.bytes.text()
     }
 
     // The number in the file of the record that is kept at place i, from 0.

@@ -14,11 +14,15 @@ const UNTOUCHED: u32 = 3735928559;
 // A larger ROOM is too large for its place. A batch has at most 1,024 records.
 const MOST: usize = 2048;
 
-// How many bytes at the front of the room are the records', and how many places their answers have.
-fn taken(mut fields: Fields, room: &mut [u8]) -> Option<(usize, usize)> {
+// How many bytes at the front of the room are the records', and the places that are lent for their answers.
+fn taken<'a>(
+    mut fields: Fields,
+    room: &mut [u8],
+    places: &'a mut [u32],
+) -> Option<(usize, &'a mut [u32])> {
     let length = fields.bytes(room)?;
-    let places = fields.last()? as usize;
-    (places <= MOST).then_some((length, places))
+    let lent = fields.last()? as usize;
+    Some((length, places.get_mut(..lent)?))
 }
 
 // `A` or `R<n>`
@@ -47,16 +51,10 @@ fn feed<W: Way>(posts: &mut Posts<W>, records: &[u8], answers: &mut [u32], outpu
 // `batch HEX ROOM`
 pub fn batch<W: Way>(posts: &mut Posts<W>, fields: Fields, bench: Bench) {
     let Bench { room, output } = bench;
-    let Some((length, places)) = taken(fields, room) else {
-        answer::unknown(&mut output.sheet);
-        return;
-    };
     // Kept (6): no heap: of so many places ROOM are lent.
-    let mut answers = [UNTOUCHED; MOST];
-    feed(
-        posts,
-        front(room, length),
-        &mut answers[..places.min(MOST)],
-        output,
-    );
+    let mut places = [UNTOUCHED; MOST];
+    match taken(fields, room, &mut places) {
+        None => answer::unknown(&mut output.sheet),
+        Some((length, answers)) => feed(posts, front(room, length), answers, output),
+    }
 }

@@ -26,7 +26,7 @@ fn taken(mut fields: Fields, room: &mut [u8]) -> Option<Logs> {
     let second = fields.bytes(room.get_mut(first..)?)?;
     let room1 = fields.number()? as usize;
     let room2 = fields.last()? as usize;
-    (room1 <= MOST && room2 <= MOST).then_some(Logs {
+    Some(Logs {
         first,
         second,
         room1,
@@ -50,7 +50,7 @@ fn put_numbers(sheet: &mut Sheet, numbers: &[u32]) {
     }
     for (i, &n) in numbers.iter().enumerate() {
         put_joint(sheet, i > 0);
-        answer::named(sheet, b"", n);
+        text_written::put_decimal(sheet, u64::from(n));
     }
 }
 
@@ -105,15 +105,14 @@ fn put_comparison(sheet: &mut Sheet, logs: Logs, room: &[u8]) {
     let b = front(&room[a.len()..], logs.second);
     let mut first = [0u32; MOST];
     let mut second = [0u32; MOST];
+    let (Some(first), Some(second)) = (first.get_mut(..logs.room1), second.get_mut(..logs.room2))
+    else {
+        answer::unknown(sheet);
+        return;
+    };
     let mut places = [0u32; CHANNELS];
-    let c = compare_logs::compare(
-        a,
-        b,
-        &mut first[..logs.room1.min(MOST)],
-        &mut second[..logs.room2.min(MOST)],
-        &mut places,
-    );
-    put_compared(sheet, c, &first, &second, &places);
+    let c = compare_logs::compare(a, b, first, second, &mut places);
+    put_compared(sheet, c, first, second, &places);
 }
 
 // `compare HEX HEX ROOM1 ROOM2`

@@ -38,7 +38,7 @@ pub extern "C" fn rokemaipu_compare(
             0
         }
         Err(unlisted) => {
-            *told = [unlisted.side as u64, unlisted.at as u64];
+            *told = [u64::from(unlisted.side), unlisted.at as u64];
             refusal_word(unlisted.why)
         }
     }

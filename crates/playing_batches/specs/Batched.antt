@@ -24,6 +24,10 @@ use Rattle.playing_batches.specs.declared.Lines.{Lines}
 abbrev pub Batched : Type 0
 Batched = Replayed (Result Lines Unwritten)
 
+-- an answer where nothing was fed
+abbrev pub unfed : Replay → Result Lines Unwritten → Batched
+unfed r x = record { replay = r; answer = x }
+
 -- ---- records fed singly
 
 -- the replay after a record, as a call for it leaves it (`lineCall` of playing_nights)

@@ -7,20 +7,20 @@ ghost use Rattle.log_records.specs.Reading.{log_of, records_in};
 ghost use Rattle.watch_rules.specs.Table.{post_count};
 ghost use Rattle.text_pen.specs.Pens.{Wrote};
 ghost use Rattle.batch.specs.batch_rules.specs.Batch.{why_batch};
-ghost use Rattle.playing_batches.specs.Batched.{room_for, why_of, batched_by, answers_by, lines_by, batched_of, answers_of, lines_of};
+ghost use Rattle.playing_batches.specs.Batched.{unfed, room_for, why_of, batched_by, answers_by, lines_by, batched_of, answers_of, lines_of};
 ghost use Rattle.playing_batches.specs.Words.{word_lines};
 
 use batch::feed_batch;
 use log_read::Records;
 use playing_answers::put_line;
 use playing_nights::{Course, Replay, Replayed};
-use refusals::Refusal;
+use refusals::{Refusal, refusal_number};
 use text_pen::Sheet;
 use watch_places::place;
 use watch_rules::Table;
 
 // So many records, whose lines have so many bytes.
-#[derive(Clone, Copy)]
+#[derive(Clone, Copy, Default)]
 pub struct Lines {
     pub records: u32,
     pub bytes: usize,
@@ -50,6 +50,13 @@ fn put_lines(t: Table, count: u64, log: &[u8], words: &[u32], sheet: &mut Sheet)
     }
 }
 
+// An answer where nothing was fed, which leaves the replay as it was.
+fn unfed(r: Replay, answer: Result<Lines, Unwritten>) -> Batched
+    ensures { result ≡ unfed r answer }
+{
+    Replayed { replay: r, answer }
+}
+
 // Kept (1): `feed_batch` answers by a word, the number of records or the refusal's.
 fn fed(r: Replay, records: &[u8], answers: &mut [u32], out: &mut [u8]) -> Batched
     requires { room_for records.now ≤ length out.old }
@@ -58,37 +65,24 @@ fn fed(r: Replay, records: &[u8], answers: &mut [u32], out: &mut [u8]) -> Batche
         × (out.new ≡ lines_by (why_of (why_batch records.now (length answers.old))) r (records_in (log_of records.now)) out.old) }
 {
     let f = feed_batch(r.table, records, answers);
-    let taken = match plain_words::answer_in(f.answer) {
-        Ok(n) => n,
-        Err(w) => {
-            return Replayed {
-                replay: r,
-                answer: Err(Unwritten::Refused(w.number)),
-            };
+    match plain_words::answer_in(f.answer) {
+        Err(w) => unfed(r, Err(Unwritten::Refused(w.number))),
+        Ok(0) => unfed(r, Ok(Lines::default())),
+        Ok(taken) => {
+            let mut sheet = Sheet::new(out);
+            put_lines(r.table, r.count, records, answers, &mut sheet);
+            Replayed {
+                replay: Replay {
+                    table: f.table,
+                    count: r.count.wrapping_add(u64::from(taken)),
+                    course: Course::Records,
+                },
+                answer: Ok(Lines {
+                    records: taken,
+                    bytes: sheet.pen.at,
+                }),
+            }
         }
-    };
-    if taken == 0 {
-        return Replayed {
-            replay: r,
-            answer: Ok(Lines {
-                records: 0,
-                bytes: 0,
-            }),
-        };
-    }
-    let count = r.count;
-    let mut sheet = Sheet::new(out);
-    put_lines(r.table, count, records, answers, &mut sheet);
-    Replayed {
-        replay: Replay {
-            table: f.table,
-            count: count.wrapping_add(u64::from(taken)),
-            course: Course::Records,
-        },
-        answer: Ok(Lines {
-            records: taken,
-            bytes: sheet.pen.at,
-        }),
     }
 }
 
@@ -99,16 +93,13 @@ pub fn write_batch(r: Replay, records: &[u8], answers: &mut [u32], out: &mut [u8
         × (out.new ≡ lines_of r records.now (length answers.old) out.old) }
 {
     if out.len() / 10 < records.len() {
-        return Replayed {
-            replay: r,
-            answer: Err(Unwritten::Refused(8)),
-        };
+        return unfed(
+            r,
+            Err(Unwritten::Refused(refusal_number(Refusal::ShortBuffer))),
+        );
     }
     match r.course {
         Course::SetUps | Course::Records => fed(r, records, answers, out),
-        Course::Refused(w) => Replayed {
-            replay: r,
-            answer: Err(Unwritten::SetUp(w)),
-        },
+        Course::Refused(w) => unfed(r, Err(Unwritten::SetUp(w))),
     }
 }

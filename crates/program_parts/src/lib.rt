@@ -2,7 +2,6 @@
 // buffer; and what is said of a file on standard error. For these programs; every function takes any input.
 #![tactic(auto, using(text_pen::proofs::Turns::sheets), unfolding(crate::specs::Words::record_words))]
 
-ghost use Rattle.std.specs.Prelude.{◌≡◌, take};
 ghost use Rattle.text_pen.specs.Pens.{Wrote};
 ghost use Rattle.program_parts.specs.Words.{two_words, ending_words, stamp_words, record_words};
 
@@ -16,13 +15,6 @@ use notation_answers::answer;
 use notation_endings::ending;
 use text_pen::Sheet;
 use text_written::{put_decimal, put_hex, put_hexadecimal};
-
-// What the pen wrote: the sheet's own method, by the name that the programs call.
-pub fn text<'a>(sheet: &'a Sheet) -> &'a [u8]
-    ensures { result.now ≡ take sheet.now.pen.at sheet.now.out.now }
-{
-    sheet.text()
-}
 
 // Two numbers, and what stands between them.
 pub fn put_two(sheet: &mut Sheet, n: u64, between: &[u8], m: u64)

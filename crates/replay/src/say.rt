@@ -53,7 +53,7 @@ pub fn progress(rt: HostRuntime, records: u64, at: u64) {
     let mut said = Sheet::new(&mut room);
     said.put(b"\rreplay: ");
     put_two(&mut said, records, b" records, byte ", at);
-    console::say(rt, program_parts::text(&said));
+    console::say(rt, said.text());
 }
 
 pub fn wipe(rt: HostRuntime) {

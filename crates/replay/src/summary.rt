@@ -36,5 +36,5 @@ pub fn say(rt: HostRuntime, play: &Play) {
     put_counted(&mut said, play.replay.table.refused, b" refused\n");
     put_numbers(&mut said, b"R", &play.refusals.counts);
     put_numbers(&mut said, b"F", &own);
-    console::say(rt, program_parts::text(&said));
+    console::say(rt, said.text());
 }

@@ -1,20 +1,14 @@
 -- `lent_compare::rokemaipu_compare` meets its contract: 8 where there are no two places, and else what `compare` answers, as a word.
-use Rattle.std.proofs.Common.{refl, sym, length, ◌<◌, [], ◌∷◌, ◌≡◌, Option, Some, None}
-use Rattle.std.specs.Prelude.{MatchOption}
+use Rattle.std.proofs.Common.{refl, sym, length, ◌<◌, [], ◌∷◌, rules}
 use lib.Seq.{sets-eq}
 use borrow.Author.Tests.{lt-ltb}
 use Rattle.lent_compare.proofs.Answers.{told_word}
 use Rattle.lent_compare.proofs.rokemaipu_compare.Goals as goal
 
--- nothing was lent: there was too little
-too_few : {A D : Type 0} (P : A → Type 0) (o : Option A) → ((x : A) → o ≡ Some x → ⊥) → MatchOption o D P → D
-too_few P None w h = h
-too_few P (Some x) w h = absurd (w x refl)
-
 pub returns-in_default : goal.returns-in_default
 returns-in_default c =
     let n = c.args.numbers.now in
-    let few : length n < 2 = too_few _ c.first_chunk_mut.result c.in_default.not-Some c.first_chunk_mut.ensures.cases in
+    let few : length n < 2 = search rules in
     rw (lt-ltb (length n) 2 few) (c.refusal_word.ensures, refl, refl, refl, refl)
 
 pub returns-in-Ok : goal.returns-in-Ok
@@ -29,4 +23,4 @@ returns-in-Err c =
     let n = c.args.numbers.now in
     let h = rw c.in-Some.is at c.first_chunk_mut.ensures.cases in
     told_word c.args.a.now c.args.b.now c.args.first.now c.args.second.now c.args.places.now n h.enough c.in-Err.ensures
-    (c.refusal_word-in-Err.ensures, sym (sets-eq (c.in-Err.unlisted.side ∷ c.in-Err.unlisted.at ∷ []) n 0 h.enough))
+    (c.refusal_word-in-Err.ensures, rw c.from.ensures (sym (sets-eq (c.in-Err.unlisted.side ∷ c.in-Err.unlisted.at ∷ []) n 0 h.enough)))
