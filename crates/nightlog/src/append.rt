@@ -31,10 +31,8 @@ fn take(line: &Line, night: &mut Night, room: &mut [u8]) -> Result<(), Said> {
     }
     let mut out = [0u8; RECORD];
     match lines::record_of(s, room, &mut out) {
-        Ok(record) => return night.store(line.number, record),
-        Err(LineError::NoRecord) => {
-            say::no_record(&mut night.ours.voice, line.number, NEITHER);
-        }
+        Ok(record) => night.store(line.number, record)?,
+        Err(LineError::NoRecord) => say::no_record(&mut night.ours.voice, line.number, NEITHER),
         Err(LineError::Refused(why)) => say::refused(&mut night.ours.voice, line.number, why),
     }
     Ok(())

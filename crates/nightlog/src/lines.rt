@@ -31,7 +31,7 @@ fn heard_in(s: &[u8], room: &mut [u8]) -> Option<Heard> {
         return None;
     }
     let at = e + 1;
-    match &s[0..e] {
+    match &s[..e] {
         b"frame" => Some(Heard::Frame(heard::frame_line(s, at, room)?)),
         b"tick" => Some(Heard::Tick(heard::tick_line(s, at)?)),
         _ => None,

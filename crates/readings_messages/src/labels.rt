@@ -1,5 +1,4 @@
 // The pages' names of labels and of kinds: 000's, and of the safety controller 004's.
-use message_types::labels::Label;
 use message_types::{
     Button, CeState, ChargeStatus, ControllerState, CpState, LowerOutput, Mating, Message,
     OutputContactors, Permission, PilotState, Plug, PowerFunction, PpState, Protocol, SessionEnd,
@@ -7,9 +6,9 @@ use message_types::{
 };
 use std::fmt;
 
-// A type of labels whose names the pages give, each beside the label's number.
-pub trait Named: Label {
-    const NAMES: &'static [(u8, &'static str)];
+// A type of labels, each beside its name in the pages.
+pub trait Named: Copy + PartialEq + 'static {
+    const NAMES: &'static [(Self, &'static str)];
 }
 
 // A label by its name.
@@ -18,167 +17,211 @@ pub struct Name<L>(pub L);
 
 impl<L: Named> fmt::Display for Name<L> {
     fn fmt<W: fmt::Write>(&self, f: &mut fmt::Formatter<W>) -> fmt::Result {
-        let label = self.0.number();
         L::NAMES
             .iter()
-            .find(|row| row.0 == label)
+            .find(|row| row.0 == self.0)
             .map_or(Ok(()), |row| f.write_str(row.1))
     }
 }
 
 impl Named for SystemEnable {
-    const NAMES: &'static [(u8, &'static str)] = &[(0, "Not_Allowed"), (1, "Allowed")];
+    const NAMES: &'static [(Self, &'static str)] = &[
+        (SystemEnable::NotAllowed, "Not_Allowed"),
+        (SystemEnable::Allowed, "Allowed"),
+    ];
 }
 
 impl Named for ControllerState {
-    const NAMES: &'static [(u8, &'static str)] = &[
-        (0, "Initialising"),
-        (1, "Waiting_For_PEV"),
-        (2, "Negotiating_Connection"),
-        (3, "Connected_With_Full_Info"),
-        (4, "Insulation_Test"),
-        (5, "Precharge"),
-        (6, "Waiting_For_Charge"),
-        (7, "Charging"),
-        (8, "Ending_Charge"),
-        (9, "Welding_Detection"),
-        (10, "Closing_Communication"),
-        (11, "CCS_Authorisation_Process"),
-        (12, "Not_Available"),
-        (13, "Charge_Pause"),
+    const NAMES: &'static [(Self, &'static str)] = &[
+        (ControllerState::Initialising, "Initialising"),
+        (ControllerState::WaitingForPev, "Waiting_For_PEV"),
+        (
+            ControllerState::NegotiatingConnection,
+            "Negotiating_Connection",
+        ),
+        (
+            ControllerState::ConnectedWithFullInfo,
+            "Connected_With_Full_Info",
+        ),
+        (ControllerState::InsulationTest, "Insulation_Test"),
+        (ControllerState::Precharge, "Precharge"),
+        (ControllerState::WaitingForCharge, "Waiting_For_Charge"),
+        (ControllerState::Charging, "Charging"),
+        (ControllerState::EndingCharge, "Ending_Charge"),
+        (ControllerState::WeldingDetection, "Welding_Detection"),
+        (
+            ControllerState::ClosingCommunication,
+            "Closing_Communication",
+        ),
+        (
+            ControllerState::CcsAuthorisationProcess,
+            "CCS_Authorisation_Process",
+        ),
+        (ControllerState::NotAvailable, "Not_Available"),
+        (ControllerState::ChargePause, "Charge_Pause"),
     ];
 }
 
 impl Named for Protocol {
-    const NAMES: &'static [(u8, &'static str)] = &[
-        (0, "CCS_DIN_70121_2012_v2"),
-        (1, "CCS_ISO_15118_2010_v1"),
-        (2, "CCS_ISO_15118_2013_v2"),
-        (3, "CHAdeMO_v0.9"),
-        (4, "CHAdeMO_v1.0-v1.1-v1.2"),
-        (5, "CHAdeMO_v2.0"),
-        (6, "CCS_PWM"),
-        (7, "CCS_ISO_15118_2022"),
+    const NAMES: &'static [(Self, &'static str)] = &[
+        (Protocol::CcsDin70121v2012, "CCS_DIN_70121_2012_v2"),
+        (Protocol::CcsIso15118v2010, "CCS_ISO_15118_2010_v1"),
+        (Protocol::CcsIso15118v2013, "CCS_ISO_15118_2013_v2"),
+        (Protocol::Chademo09, "CHAdeMO_v0.9"),
+        (Protocol::Chademo10, "CHAdeMO_v1.0-v1.1-v1.2"),
+        (Protocol::Chademo20, "CHAdeMO_v2.0"),
+        (Protocol::CcsPwm, "CCS_PWM"),
+        (Protocol::CcsIso15118v2022, "CCS_ISO_15118_2022"),
     ];
 }
 
 impl Named for Plug {
-    const NAMES: &'static [(u8, &'static str)] = &[
-        (0, "CCS_DC_Core"),
-        (1, "CCS_DC_Extended"),
-        (2, "CHAdeMO"),
-        (3, "CCS_AC"),
-        (4, "MCS"),
+    const NAMES: &'static [(Self, &'static str)] = &[
+        (Plug::CcsDcCore, "CCS_DC_Core"),
+        (Plug::CcsDcExtended, "CCS_DC_Extended"),
+        (Plug::Chademo, "CHAdeMO"),
+        (Plug::CcsAc, "CCS_AC"),
+        (Plug::Mcs, "MCS"),
     ];
 }
 
 impl Named for ChargeStatus {
-    const NAMES: &'static [(u8, &'static str)] = &[(0, "Charge_Stopped"), (1, "Charge_Started")];
+    const NAMES: &'static [(Self, &'static str)] = &[
+        (ChargeStatus::ChargeStopped, "Charge_Stopped"),
+        (ChargeStatus::ChargeStarted, "Charge_Started"),
+    ];
 }
 
 impl Named for PowerFunction {
-    const NAMES: &'static [(u8, &'static str)] = &[
-        (0, "Off"),
-        (1, "Standby"),
-        (2, "Insulation_Test"),
-        (4, "Precharge"),
-        (8, "Power_Transfer"),
+    const NAMES: &'static [(Self, &'static str)] = &[
+        (PowerFunction::Off, "Off"),
+        (PowerFunction::Standby, "Standby"),
+        (PowerFunction::InsulationTest, "Insulation_Test"),
+        (PowerFunction::Precharge, "Precharge"),
+        (PowerFunction::PowerTransfer, "Power_Transfer"),
     ];
 }
 
 impl Named for SetpointsMode {
-    const NAMES: &'static [(u8, &'static str)] = &[(0, "Target_Mode"), (1, "Range_Mode")];
+    const NAMES: &'static [(Self, &'static str)] = &[
+        (SetpointsMode::TargetMode, "Target_Mode"),
+        (SetpointsMode::RangeMode, "Range_Mode"),
+    ];
 }
 
 impl Named for OutputContactors {
-    const NAMES: &'static [(u8, &'static str)] = &[(0, "Open"), (1, "Close")];
+    const NAMES: &'static [(Self, &'static str)] = &[
+        (OutputContactors::Open, "Open"),
+        (OutputContactors::Close, "Close"),
+    ];
 }
 
 impl Named for LowerOutput {
-    const NAMES: &'static [(u8, &'static str)] = &[(0, "No_Lowering"), (1, "Lowering")];
+    const NAMES: &'static [(Self, &'static str)] = &[
+        (LowerOutput::NoLowering, "No_Lowering"),
+        (LowerOutput::Lowering, "Lowering"),
+    ];
 }
 
 impl Named for SessionEnd {
-    const NAMES: &'static [(u8, &'static str)] = &[(0, "Clean_Stop"), (1, "Rushed_Stop")];
+    const NAMES: &'static [(Self, &'static str)] = &[
+        (SessionEnd::CleanStop, "Clean_Stop"),
+        (SessionEnd::RushedStop, "Rushed_Stop"),
+    ];
 }
 
 impl Named for StopOrigin {
-    const NAMES: &'static [(u8, &'static str)] = &[(1, "EVSE"), (3, "PEV")];
+    const NAMES: &'static [(Self, &'static str)] = &[
+        (StopOrigin::Evse, "EVSE"),
+        (StopOrigin::Pev, "PEV"),
+    ];
 }
 
 impl Named for CpState {
-    const NAMES: &'static [(u8, &'static str)] = &[
-        (0, "Unknown"),
-        (1, "A"),
-        (2, "B"),
-        (3, "C"),
-        (4, "D"),
-        (5, "E"),
-        (6, "F"),
-        (7, "Invalid"),
+    const NAMES: &'static [(Self, &'static str)] = &[
+        (CpState::Unknown, "Unknown"),
+        (CpState::A, "A"),
+        (CpState::B, "B"),
+        (CpState::C, "C"),
+        (CpState::D, "D"),
+        (CpState::E, "E"),
+        (CpState::F, "F"),
+        (CpState::Invalid, "Invalid"),
     ];
 }
 
 impl Named for PpState {
-    const NAMES: &'static [(u8, &'static str)] = &[
-        (0, "NoCableDetected"),
-        (1, "13A"),
-        (2, "20A"),
-        (3, "32A"),
-        (4, "63/70A"),
-        (5, "Type1_Connected"),
-        (6, "Type1_ConnectedButtonPressed"),
-        (7, "Error"),
+    const NAMES: &'static [(Self, &'static str)] = &[
+        (PpState::NoCable, "NoCableDetected"),
+        (PpState::Amps13, "13A"),
+        (PpState::Amps20, "20A"),
+        (PpState::Amps32, "32A"),
+        (PpState::Amps63, "63/70A"),
+        (PpState::Type1, "Type1_Connected"),
+        (PpState::Type1Pressed, "Type1_ConnectedButtonPressed"),
+        (PpState::Error, "Error"),
     ];
 }
 
 impl Named for Permission {
-    const NAMES: &'static [(u8, &'static str)] = &[(0, "Not_Allowed"), (1, "Allowed")];
+    const NAMES: &'static [(Self, &'static str)] = &[
+        (Permission::NotAllowed, "Not_Allowed"),
+        (Permission::Allowed, "Allowed"),
+    ];
 }
 
 impl Named for Button {
-    const NAMES: &'static [(u8, &'static str)] = &[(0, "Not_Pressed"), (1, "Pressed")];
+    const NAMES: &'static [(Self, &'static str)] = &[
+        (Button::NotPressed, "Not_Pressed"),
+        (Button::Pressed, "Pressed"),
+    ];
 }
 
 impl Named for Step {
-    const NAMES: &'static [(u8, &'static str)] = &[(0, "Not_Done"), (1, "Done")];
+    const NAMES: &'static [(Self, &'static str)] = &[
+        (Step::NotDone, "Not_Done"),
+        (Step::Done, "Done"),
+    ];
 }
 
 impl Named for Validity {
-    const NAMES: &'static [(u8, &'static str)] = &[(0, "Invalid"), (1, "Valid")];
+    const NAMES: &'static [(Self, &'static str)] = &[
+        (Validity::Invalid, "Invalid"),
+        (Validity::Valid, "Valid"),
+    ];
 }
 
 impl Named for PilotState {
-    const NAMES: &'static [(u8, &'static str)] = &[
-        (0, "E_or_F"),
-        (3, "D"),
-        (6, "C"),
-        (9, "B"),
-        (12, "A"),
+    const NAMES: &'static [(Self, &'static str)] = &[
+        (PilotState::EOrF, "E_or_F"),
+        (PilotState::D, "D"),
+        (PilotState::C, "C"),
+        (PilotState::B, "B"),
+        (PilotState::A, "A"),
     ];
 }
 
 impl Named for CeState {
-    const NAMES: &'static [(u8, &'static str)] = &[
-        (0, "Undefined"),
-        (1, "A"),
-        (2, "B0"),
-        (3, "B0_Aux"),
-        (4, "B"),
-        (5, "B_Aux"),
-        (6, "C"),
-        (7, "C_Aux"),
-        (8, "EC"),
-        (9, "E"),
+    const NAMES: &'static [(Self, &'static str)] = &[
+        (CeState::Undefined, "Undefined"),
+        (CeState::A, "A"),
+        (CeState::B0, "B0"),
+        (CeState::B0Aux, "B0_Aux"),
+        (CeState::B, "B"),
+        (CeState::BAux, "B_Aux"),
+        (CeState::C, "C"),
+        (CeState::CAux, "C_Aux"),
+        (CeState::Ec, "EC"),
+        (CeState::E, "E"),
     ];
 }
 
 impl Named for Mating {
-    const NAMES: &'static [(u8, &'static str)] = &[
-        (0, "Unmated"),
-        (1, "Mated"),
-        (2, "Mated_EVAux"),
-        (3, "Mated_EVSEAux"),
+    const NAMES: &'static [(Self, &'static str)] = &[
+        (Mating::Unmated, "Unmated"),
+        (Mating::Mated, "Mated"),
+        (Mating::MatedEvAux, "Mated_EVAux"),
+        (Mating::MatedEvseAux, "Mated_EVSEAux"),
     ];
 }
 
