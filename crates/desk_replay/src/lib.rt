@@ -26,7 +26,7 @@ fn put_refused(sheet: &mut Sheet, why: Refusal) {
 // Kept (7): each case has numbers of its own, and of each another text is put, which is what the cases of an enum are for.
 fn put_answer(sheet: &mut Sheet, a: Played, line: &[u8]) -> Option<usize> {
     match a {
-        Played::Line { bytes: _, next } => {
+        Played::Line { next, .. } => {
             put_line(sheet, line);
             return Some(next);
         }
@@ -41,10 +41,9 @@ fn put_answer(sheet: &mut Sheet, a: Played, line: &[u8]) -> Option<usize> {
 
 // `LINE|LINE|..|ENDING`: there are no more records than bytes, and one call more ends the replay. The answer may be longer than its line, so that
 // what is written goes out between two records.
-fn put_night(output: &mut Output, set_up: Replay, log: &[u8]) {
+fn put_night(output: &mut Output, mut replay: Replay, log: &[u8]) {
     // Kept (6): no heap.
     let mut line = console::buffer();
-    let mut replay = set_up;
     let mut at = 0;
     for _ in 0..=log.len() {
         output.flush_half();

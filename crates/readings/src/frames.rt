@@ -11,7 +11,7 @@ fn frames(rt: HostRuntime) {
     );
     read(rt, 0x63000, true, &e1);
     say(rt, "E2 its first 7 bytes; and 9 bytes, 15 by Req 02\n");
-    read(rt, 0x63000, true, &e1[0..7]);
+    read(rt, 0x63000, true, &e1[..7]);
     read(
         rt,
         0x63000,
@@ -47,7 +47,7 @@ fn frames(rt: HostRuntime) {
     read(rt, 0x6b001, true, &[8u8, 4]);
     read(rt, 0x6b001, true, &[7u8, 5]);
     say(rt, "E16 an empty payload\n");
-    read(rt, 0x6b001, true, &e1[0..0]);
+    read(rt, 0x6b001, true, &[]);
 }
 
 // 02, Req 02: the lowest start of the signals that offend, and 15 in 4's place.

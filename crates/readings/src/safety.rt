@@ -25,7 +25,7 @@ fn safety(rt: HostRuntime) {
     read(rt, 7, false, &[0x82u8, 0x15, 0x03, 0x03, 0x03, 0, 0, 0x01]);
     read(rt, 7, true, &state);
     read(rt, 9, false, &state);
-    read(rt, 7, false, &state[0..7]);
+    read(rt, 7, false, &state[..7]);
     read(rt, 7, false, &[0x82u8, 0x15, 0x03, 0x03, 0x03, 0, 0, 0, 0]);
     say(
         rt,

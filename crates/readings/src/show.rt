@@ -8,9 +8,6 @@ use readings_messages::show::{Answer, Hex, say};
 use refusals::Refusal;
 use std::fmt;
 
-// The places that a message's raw numbers have, as in `page_write::raws_of`.
-const SIGNALS: usize = 16;
-
 // One signal of a frame changed by the pages of either interface.
 fn change_by<F: FnOnce(u32, bool, &mut [u8], u32, i64) -> Result<(usize, u64), Refusal>>(
     rt: HostRuntime,
@@ -42,7 +39,7 @@ fn change_by<F: FnOnce(u32, bool, &mut [u8], u32, i64) -> Result<(usize, u64), R
 #[derive(Clone, Copy)]
 struct Raws {
     kind: usize,
-    raws: [i64; SIGNALS],
+    raws: page_write::Raws,
 }
 
 impl fmt::Display for Raws {

@@ -5,7 +5,7 @@ use readings_messages::show::{Answer, Hex, Refused, say};
 use rule_limits::{Interface, Limits, Sensor};
 use rules::{CONTROL_PLACE, Dated, Record, STATUS_PLACE, STOP_PLACE};
 use std::fmt;
-use watch_rules::Table;
+use watch_rules::{Stepped, Table};
 
 // Default voltage 500.0 V, charge 100.0 A, discharge 50.0 A, W 500 ms.
 pub fn limits() -> Limits {
@@ -104,10 +104,15 @@ impl Scene {
         }
     }
 
+    // The table after a step is kept, and what the step answers handed on.
+    fn keep<A>(&mut self, stepped: Stepped<A>) -> A {
+        self.table = stepped.table;
+        stepped.answer
+    }
+
     pub fn set_up(&mut self, post: u32, channel: u32, limits: Limits) {
-        let r = watch::set_up(self.table, post, channel, limits);
-        self.table = r.table;
-        let answer = Answer(r.answer.map(|()| "A"));
+        let done = self.keep(watch::set_up(self.table, post, channel, limits));
+        let answer = Answer(done.map(|()| "A"));
         say(
             self.rt,
             format_args!("  set up post {post} on {channel} -> {answer}\n"),
@@ -115,17 +120,15 @@ impl Scene {
     }
 
     pub fn release(&mut self, post: u32) {
-        let r = watch::release(self.table, post);
-        self.table = r.table;
-        let answer = Answer(r.answer.map(|()| "A"));
+        let done = self.keep(watch::release(self.table, post));
+        let answer = Answer(done.map(|()| "A"));
         say(self.rt, format_args!("  release post {post} -> {answer}\n"));
     }
 
     fn hear(&mut self, channel: u32, time: u32, id: u32, extended: bool, payload: &[u8]) {
-        let r = watch::frame(self.table, channel, time, id, extended, payload);
-        self.table = r.table;
+        let found = self.keep(watch::frame(self.table, channel, time, id, extended, payload));
         let what = if extended { "frame" } else { "standard frame" };
-        let answer = Answer(r.answer.map(Accepted));
+        let answer = Answer(found.map(Accepted));
         say(
             self.rt,
             format_args!(
@@ -144,9 +147,8 @@ impl Scene {
     }
 
     pub fn tick(&mut self, channel: u32, time: u32) {
-        let r = watch::tick(self.table, channel, time);
-        self.table = r.table;
-        let answer = Answer(r.answer.map(Accepted));
+        let found = self.keep(watch::tick(self.table, channel, time));
+        let answer = Answer(found.map(Accepted));
         say(
             self.rt,
             format_args!("  tick on {channel} at {time} -> {answer}\n"),

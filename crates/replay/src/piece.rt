@@ -1,6 +1,7 @@
 // A piece of the log, batch by batch: log_walk says where its records end, and the replay, the lines and the counts go along.
 use crate::say;
 use crate::tally::Tally;
+use console::front;
 use log_walk::{Step, Walk};
 use playing_nights::Replay;
 use program_parts::log::Listener;
@@ -78,7 +79,7 @@ impl<'a> Play<'a> {
         self.replay = b.replay;
         let lines = b.answer.map_err(|_| Said)?;
         self.refusals
-            .add_words(words.get(..lines.records as usize).unwrap_or(&[]));
+            .add_words(front(words, lines.records as usize));
         advance(&mut self.paper.sheet, lines.bytes);
         self.walk = end;
         self.paper.open()

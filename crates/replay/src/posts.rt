@@ -22,11 +22,7 @@ pub enum PostsError {
 
 // What a line asks for, if it is a set-up.
 fn asked_in(s: &[u8]) -> Option<Setup> {
-    if s.starts_with(SETUP) {
-        setup::setup_line(s, SETUP.len())
-    } else {
-        None
-    }
+    setup::setup_line(s.strip_prefix(SETUP)?, 0)
 }
 
 // The replay after a line.

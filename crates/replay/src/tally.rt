@@ -9,10 +9,9 @@ pub struct Tally {
 impl Tally {
     // Kept (1): `playing_batches::write_batch` puts a batch's answers as words, and promises that of them (`answers_of`).
     fn add_word(&mut self, word: u32) {
-        let Err(w) = plain_words::answer_in(word) else {
-            return;
-        };
-        if let Some(count) = self.counts.get_mut(w.number as usize) {
+        if let Err(w) = plain_words::answer_in(word)
+            && let Some(count) = self.counts.get_mut(w.number as usize)
+        {
             *count = count.wrapping_add(1);
         }
     }
