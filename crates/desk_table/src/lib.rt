@@ -8,7 +8,9 @@ ghost use Rattle.std.specs.Prelude.{◌≡◌};
 
 mod way; // way.rt: a step on the table, by value or lent
 
+// The calls on a lent table are passed on to the crates above, which name them through this one.
 use desk_buffers::{Bench, Fields, front};
+pub use gateway;
 use lent_step::lent_words::Lent;
 use notation_answers::answer;
 use notation_read::heard;

@@ -7,7 +7,8 @@ ghost use Rattle.std.specs.Prelude.{[], ◌≡◌, ◌<◌, MatchResult};
 ghost use Rattle.rule_limits.specs.Sensor.{plain_of};
 ghost use Rattle.post.specs.rules.specs.After.{fresh_post};
 ghost use Rattle.watch_places.specs.watch_rules.specs.Steps.{Steps, Kept, SetUpRight, ReleaseRight};
-ghost use Rattle.watch_places.specs.watch_rules.specs.Table.{post_count, empty_table, is_other, unnamed, seat, settled, unsettled, set_up_of, release_of};
+ghost use Rattle.watch_places.specs.watch_rules.specs.Table.{post_count, empty_table, is_other, unnamed, seat, settled, unsettled, set_up_of, release_of, place_of};
+ghost use Rattle.watch_places.specs.watch_rules.specs.declared.Table.{Table};
 
 use post::rules::Head;
 use refusals::Refusal;
@@ -58,11 +59,12 @@ fn seated(t: Table, post: u32, channel: u32, limits: PlainLimits) -> Table
     put_entry(v, channel, post + 1)
 }
 
-// Whether a post may be set up so: "Set-up gives 9 to 12", which are told in that order.
-fn may_set_up(t: &Table, post: u32, channel: u32, limits: PlainLimits) -> Result<(), Refusal>
-    ensures { MatchResult result
-        (λ _. (set_up_of t.now post channel limits ≡ settled (seat t.now post channel (fresh_post channel limits))) × (post < post_count))
-        (λ w. set_up_of t.now post channel limits ≡ unsettled t.now w) }
+// Whether a post may be set up so, where the post at a place, if it is one, holds the channel: "Set-up gives 9 to 12", which are told in that order.
+// Not of a table behind a reference: `place` takes it by value, and so a set-up would copy it once more.
+fn may_set_up(held: usize, post: u32, channel: u32, limits: PlainLimits) -> Result<(), Refusal>
+    ensures { (t : Table) → held ≡ place_of t.posts channel → MatchResult result
+        (λ _. (set_up_of t post channel limits ≡ settled (seat t post channel (fresh_post channel limits))) × (post < post_count))
+        (λ w. set_up_of t post channel limits ≡ unsettled t w) }
 {
     if !is_post(post) {
         return Err(Refusal::NoSuchPost);
@@ -70,7 +72,7 @@ fn may_set_up(t: &Table, post: u32, channel: u32, limits: PlainLimits) -> Result
     if !is_channel(channel) {
         return Err(Refusal::NoSuchChannel);
     }
-    if other(place(*t, channel), post) {
+    if other(held, post) {
         return Err(Refusal::ChannelTaken);
     }
     if !limits_fit(limits) {
@@ -84,7 +86,7 @@ pub fn set_up_plain(t: Table, post: u32, channel: u32, limits: PlainLimits) -> S
     ensures by_record { result ≡ set_up_of t post channel limits }
     ensures by_history { (s : Steps) → Kept t s → SetUpRight s post channel limits result }
 {
-    match may_set_up(&t, post, channel, limits) {
+    match may_set_up(place(t, channel), post, channel, limits) {
         Ok(()) => Stepped {
             table: seated(t, post, channel, limits),
             answer: Ok(()),

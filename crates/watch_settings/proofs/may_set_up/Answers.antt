@@ -6,20 +6,20 @@ use Rattle.watch_settings.proofs.may_set_up.Goals as goal
 
 pub returns-then-not-is_post : goal.returns-then-not-is_post
 unfolding set_up_of
-returns-then-not-is_post c = grind (arith, common_steps)
+returns-then-not-is_post c = λ t e. grind (arith, common_steps)
 
 pub returns-then-not-is_channel : goal.returns-then-not-is_channel
 unfolding set_up_of
-returns-then-not-is_channel c = grind (arith, common_steps)
+returns-then-not-is_channel c = λ t e. grind (arith, common_steps)
 
 pub returns-then-other : goal.returns-then-other
 unfolding set_up_of
-returns-then-other c = grind (arith, common_steps)
+returns-then-other c = λ t e. grind (arith, common_steps)
 
 pub returns-then-not-limits_fit : goal.returns-then-not-limits_fit
 unfolding set_up_of
-returns-then-not-limits_fit c = grind (arith, common_steps)
+returns-then-not-limits_fit c = λ t e. grind (arith, common_steps)
 
 pub returns : goal.returns
 unfolding set_up_of
-returns c = grind (arith, common_steps)
+returns c = λ t e. grind (arith, common_steps)
