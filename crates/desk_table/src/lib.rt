@@ -8,7 +8,7 @@ ghost use Rattle.std.specs.Prelude.{◌≡◌};
 
 mod way; // way.rt: a step on the table, by value or lent
 
-// The calls on a lent table are passed on to the crates above, which name them through this one.
+// `gateway`, the calls on a lent table, is passed on.
 use desk_buffers::{Bench, Fields, front};
 pub use gateway;
 use lent_step::lent_words::Lent;
