@@ -25,7 +25,7 @@ returns-in_err-checked_mul-clause-value c =
     let l = c.loop-c in
     let m = c.in_err-checked_mul.ensures in
     c.from_residual.ensures
-    ∙ past c.args.base c.args.most l.v c.digit-d.result c.args.s.now l.c-index c.loop-c-test.true c.digit-d.ensures c.if-d-base.false l.invariant.value (omega arith)
+    ∙ past c.args.base c.args.most l.v c.digit-d.result c.args.s.now l.c-index c.loop-c-test.true c.digit-d.ensures c.if-d-base.false l.invariant.value (grind arith)
 
 pub returns-in_err-v-clause-value : goal.returns-in_err-v-clause-value
 returns-in_err-v-clause-value c =
@@ -33,21 +33,21 @@ returns-in_err-v-clause-value c =
     let m = c.in_err-v.ensures in
     let n = c.in_ok-checked_mul.ensures in
     c.from_residual-in_err-v.ensures
-    ∙ past c.args.base c.args.most l.v c.digit-d.result c.args.s.now l.c-index c.loop-c-test.true c.digit-d.ensures c.if-d-base.false l.invariant.value (omega arith)
+    ∙ past c.args.base c.args.most l.v c.digit-d.result c.args.s.now l.c-index c.loop-c-test.true c.digit-d.ensures c.if-d-base.false l.invariant.value (grind arith)
 
 pub returns-then-v-most-clause-value : goal.returns-then-v-most-clause-value
 returns-then-v-most-clause-value c =
     let l = c.loop-c in
     let m = c.in_ok-v.ensures in
     let n = c.in_ok-checked_mul.ensures in
-    past c.args.base c.args.most l.v c.digit-d.result c.args.s.now l.c-index c.loop-c-test.true c.digit-d.ensures c.if-d-base.false l.invariant.value (omega arith)
+    past c.args.base c.args.most l.v c.digit-d.result c.args.s.now l.c-index c.loop-c-test.true c.digit-d.ensures c.if-d-base.false l.invariant.value (grind arith)
 
 pub loop-c-preserved : goal.loop-c-preserved
 loop-c-preserved c =
     let l = c.loop-c in
     let a = c.args in
     let d = c.digit-d.result in
-    let v : l.v * a.base + d ≡ c.in_ok-v.v = sym (c.in_ok-v.ensures.1 ∙ ap (λ (x : ℕ). x + d) c.in_ok-checked_mul.ensures.1) in
+    let v : l.v * a.base + d ≡ c.in_ok-v.v = sym (c.in_ok-v.ensures.1 ∙ ap (λ (x : ℕ). x + d) (c.in_ok-checked_mul.ensures.1 ∙ grind arith)) in
     record {
       within = omega arith;
       value = l.invariant.value ∙ next a.base a.most a.s.now l.v l.c-index d c.loop-c-test.true c.digit-d.ensures c.if-d-base.false
