@@ -17,4 +17,4 @@ filled big len n k buf part room same h =
     ∙ sym (stored_in_lem big len n buf room)
 
 pub returns : goal.returns
-returns c = let a = c.args in filled a.big a.len a.n _ a.buf.now _ c.if-buf-len.false (omega arith) c.fill.ensures
+returns c = let a = c.args in filled a.big a.len a.n _ a.buf.now _ c.if-buf-len.false (grind arith) c.fill.ensures

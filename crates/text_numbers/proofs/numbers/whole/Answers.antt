@@ -47,7 +47,9 @@ loop-c-preserved c =
     let l = c.loop-c in
     let a = c.args in
     let d = c.digit-d.result in
-    let v : l.v * a.base + d ≡ c.in_ok-v.v = sym (c.in_ok-v.ensures.1 ∙ ap (λ (x : ℕ). x + d) (c.in_ok-checked_mul.ensures.1 ∙ grind arith)) in
+    let m = c.in_ok-v.ensures in
+    let n = c.in_ok-checked_mul.ensures in
+    let v : l.v * a.base + d ≡ c.in_ok-v.v = grind arith in
     record {
       within = omega arith;
       value = l.invariant.value ∙ next a.base a.most a.s.now l.v l.c-index d c.loop-c-test.true c.digit-d.ensures c.if-d-base.false
